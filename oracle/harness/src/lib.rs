@@ -9,10 +9,13 @@ pub mod case;
 pub mod cldr;
 pub mod encode;
 mod expected;
+pub mod ftl;
 mod generator;
 pub mod model;
+pub mod points;
 pub mod random;
 pub mod rust;
+pub mod sentences;
 pub mod vectors;
 
 pub use expected::{expected, Expected};

@@ -18,12 +18,22 @@ fn main() {
         }
     }
     let root = root.unwrap_or_else(|| usage());
-    let root = Path::new(&root);
-    write(
-        root,
-        "replay_numbers/data/numbers.vec",
-        vectors::numbers::make(seed, cases),
-    );
+    harness::large_stack(move || {
+        let root = Path::new(&root);
+        let write = |name: &str, file: File| write(root, name, file);
+        write(
+            "replay_numbers/data/numbers.vec",
+            vectors::numbers::make(seed, cases),
+        );
+        write(
+            "replay_formats/data/sentences.vec",
+            vectors::formats::sentences_file(),
+        );
+        write(
+            "replay_formats/data/formats.vec",
+            vectors::formats::make(seed, cases),
+        );
+    });
 }
 
 fn write(root: &Path, name: &str, file: File) {

@@ -1,5 +1,6 @@
 //! The vector files; oracle/README.md gives their format.
 
+pub mod formats;
 pub mod numbers;
 
 use crate::bytes::Write;
