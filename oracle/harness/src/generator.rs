@@ -109,7 +109,8 @@ impl Maker {
         }
         let arguments = self.arguments();
         let (mut message, mut attribute) = ("a".to_string(), None);
-        if !messages.is_empty() && !(self.many && self.r.one_in(2)) {
+        let around = self.many && self.r.one_in(2);
+        if !messages.is_empty() && !around {
             let (name, valued, attributes) = self.r.pick(&messages).clone();
             message = name;
             let some = self.r.one_in(5);

@@ -4,6 +4,7 @@
 //! its answers: text, errors, counts and refusals, for any buffer lengths.
 #![forbid(unsafe_code)]
 
+pub mod boundaries;
 pub mod bytes;
 pub mod case;
 pub mod cldr;

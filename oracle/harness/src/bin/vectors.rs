@@ -33,16 +33,25 @@ fn main() {
             "replay_formats/data/formats.vec",
             vectors::formats::make(seed, cases),
         );
+        write(
+            "replay_records/data/images.vec",
+            vectors::images::make(seed, cases),
+        );
+        write(
+            "replay_bundle/data/additions.vec",
+            vectors::additions::make(seed, cases),
+        );
     });
 }
 
 fn write(root: &Path, name: &str, file: File) {
     let path = root.join("crates").join(name);
-    let count = file.count();
+    let (count, longest) = (file.count(), file.longest());
     let bytes = file.bytes();
     std::fs::create_dir_all(path.parent().expect("a folder")).expect("make the folder");
     std::fs::write(&path, &bytes).expect("write the file");
-    println!("crates/{name}: {count} cases, {} bytes", bytes.len());
+    let length = bytes.len();
+    println!("crates/{name}: {count} cases, {length} bytes, longest case {longest}");
 }
 
 fn usage() -> ! {

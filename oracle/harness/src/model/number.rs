@@ -13,7 +13,7 @@ impl Decimal {
     /// The same value with the fewest fraction digits.
     pub fn shortest(self) -> Self {
         let mut d = self;
-        while d.scale > 0 && d.digits % 10 == 0 {
+        while d.scale > 0 && d.digits.is_multiple_of(10) {
             d.digits /= 10;
             d.scale -= 1;
         }

@@ -18,6 +18,9 @@ enum Value {
     Error,
 }
 
+/// Named arguments, in stored order.
+type Named<'s> = Vec<(&'s Id, Value)>;
+
 pub struct Resolution {
     pub effects: Vec<Effect>,
     /// `???` was written: the Rust panics there.
@@ -58,7 +61,7 @@ struct Resolver<'s> {
     /// The 101st placeable was begun.
     cut: bool,
     /// The named arguments of the term that was entered last, until it ends.
-    term: Option<Vec<(&'s Id, Value)>>,
+    term: Option<Named<'s>>,
     /// The patterns being written: the first one and those of references.
     path: Vec<&'s [u8]>,
 }
@@ -295,7 +298,7 @@ impl<'s> Resolver<'s> {
         }
     }
 
-    fn arguments(&mut self, arguments: &'s Arguments) -> Step<(Vec<Value>, Vec<(&'s Id, Value)>)> {
+    fn arguments(&mut self, arguments: &'s Arguments) -> Step<(Vec<Value>, Named<'s>)> {
         let mut positional = Vec::new();
         for inline in &arguments.positional {
             positional.push(self.value(inline)?);

@@ -10,6 +10,9 @@ use crate::random::Random;
 use crate::sentences::sentences;
 use crate::{expected, generator, Expected};
 
+/// What a replaying program may lend for operation 40.
+const LENT: usize = 4096;
+
 /// One formatting over bytes.
 #[derive(Clone)]
 struct Format {
@@ -41,6 +44,12 @@ impl Format {
         match answer {
             Err(refusal) => case.u8(refusal),
             Ok(done) => {
+                if [done.text.len(), done.list.len(), done.highest]
+                    .iter()
+                    .any(|used| *used > LENT)
+                {
+                    return false;
+                }
                 case.u8(0);
                 case.blob(&done.text);
                 case.blob(&done.list);
@@ -164,9 +173,9 @@ fn worth(r: &mut Random, length: usize, answer: &Result<Finished, u8>, cut: bool
 /// A formatting with lent lengths, near what it needs.
 fn lent(file: &mut File, r: &mut Random, format: &Format, e: &Expected) -> bool {
     let mut lengths = Lengths {
-        text: 4096,
-        list: 4096,
-        workspace: 4096,
+        text: LENT,
+        list: LENT,
+        workspace: LENT,
     };
     if let Ok(done) = &e.answer {
         lengths = Lengths {
@@ -231,7 +240,7 @@ pub fn hurt(r: &mut Random, bytes: &mut Vec<u8>) {
         1 => bytes.push(r.below(4) as u8),
         2 => {
             let at = r.below(bytes.len());
-            bytes[at] = r.next() as u8;
+            bytes[at] = r.draw() as u8;
         }
         _ => {
             let at = r.below(bytes.len());

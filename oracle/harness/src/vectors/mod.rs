@@ -1,6 +1,8 @@
 //! The vector files; oracle/README.md gives their format.
 
+pub mod additions;
 pub mod formats;
+pub mod images;
 pub mod numbers;
 
 use crate::bytes::Write;
@@ -14,6 +16,7 @@ pub const CASES: usize = 2400;
 pub struct File {
     count: usize,
     body: Vec<u8>,
+    longest: usize,
     seen: HashSet<Vec<u8>>,
 }
 
@@ -25,6 +28,7 @@ impl File {
         if !self.seen.insert(case.clone()) {
             return false;
         }
+        self.longest = self.longest.max(case.len());
         self.body.blob(case);
         self.count += 1;
         true
@@ -34,12 +38,9 @@ impl File {
         self.count
     }
 
-    pub fn len(&self) -> usize {
-        self.body.len() + 9
-    }
-
-    pub fn is_empty(&self) -> bool {
-        self.count == 0
+    /// The length of the longest case, its operation included.
+    pub fn longest(&self) -> usize {
+        self.longest
     }
 
     pub fn bytes(self) -> Vec<u8> {

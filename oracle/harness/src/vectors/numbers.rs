@@ -198,7 +198,7 @@ pub fn decimal(r: &mut Random) -> Decimal {
     let digits = match r.below(6) {
         0 => r.below(130) as u64,
         1 => r.below(10) as u64 * 10u64.pow(r.below(15) as u32),
-        2 => r.next() % 10u64.pow(1 + r.below(15) as u32),
+        2 => r.draw() % 10u64.pow(1 + r.below(15) as u32),
         3 => 10u64.pow(1 + r.below(15) as u32) - 1,
         4 => (10u64.pow(r.below(15) as u32) + r.below(30) as u64) % 1_000_000_000_000_000,
         _ => (r.below(130) as u64) * 10u64.pow(r.below(4) as u32),
