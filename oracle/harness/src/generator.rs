@@ -137,6 +137,7 @@ impl Maker {
             0 => 3,
             1 => 6,
             2 => 10,
+            _ if self.r.one_in(8) => 60,
             _ => 20,
         };
         self.many = self.r.one_in(3);

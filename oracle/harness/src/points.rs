@@ -15,7 +15,7 @@ const FAN: &str = r#"
 
 /// Sources of `a` and what it needs. `n` is 2, `m` is none, `s` is `one`, and
 /// `q` is missing.
-const POINTS: [&str; 62] = [
+const POINTS: [&str; 67] = [
     // Cut short: names, `???`, marks, arguments that still resolve.
     "a = x { g }",
     "a = x { g }{ p }",
@@ -53,6 +53,12 @@ const POINTS: [&str; 62] = [
     "a = { -t.x(p, n: \"\\\\\") } { -t.y(p) }\n-t = v\n.x = { $n }",
     "a = { -zz(p, \"\\u0041\", n: \"\\u0042\") }",
     "a = { NUMBER(-t(p, n: \"\\\\\"), p) }\n-t = { NUMBER(p, p) -> *[o] { $n } }",
+    // Several workspace texts alive at once.
+    "a = { -t(NUMBER(p, { \"x\" }, \"\\u0041\"), n: \"\\u0042\") -> [pB] y *[o] z }\n-t = { p }{ $n }",
+    "a = { -t(F(p, p, { p }), p, n: \"\\u0042\") -> *[o] z }\n-t = { NUMBER(p, { p }, x: \"\\u0043\") }{ $n }",
+    "a = { F(-t(p, n: \"\\u0041\"), { p }, \"\\\\\") -> *[o] { p } }\n-t = t{ -u(p, { p }) }\n-u = { p }{ p }",
+    "a = { { { p -> [p] { p } *[o] x } } -> [p] { { p } } *[o] y }",
+    "a = { NUMBER(NUMBER(NUMBER(1, p), { p }), -t(p, n: \"\\u0041\")) }\n-t = { NUMBER(2, { $n }, p) }",
     // Selection: kinds, order, defaults.
     "a = { $n -> [2] x [two] y *[other] z }",
     "a = { $n -> [other] x [2] y *[two] z }",

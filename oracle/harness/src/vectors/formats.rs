@@ -102,13 +102,17 @@ pub fn make(seed: u64, cases: usize) -> File {
         at += 1;
         let case = generator(at);
         let e = expected(&case).unwrap_or_else(|d| panic!("case {at}: {d}"));
-        let format = format_of(&case, &e);
-        let cut = matches!(&e.answer, Ok(done) if done.begun == 101);
-        if !worth(&mut r, format.store.len(), &e.answer, cut) {
+        let mut format = format_of(&case, &e);
+        if r.one_in(12) {
+            // The slice may be longer than what is used.
+            format.store.resize(e.store.len() + 1 + r.below(9), 0xAA);
+        }
+        if !worth(&mut r, &e) {
             continue;
         }
         match r.below(20) {
             0 => damaged(&mut file, &mut r, &format),
+            _ if e.answer == Err(17) => lent(&mut file, &mut r, &format, &e),
             1..=7 => lent(&mut file, &mut r, &format, &e),
             _ => format.write(&mut file, None, e.answer, e.from_rust),
         };
@@ -157,16 +161,21 @@ fn point(file: &mut File, case: &Case) {
 }
 
 /// Keeps the file small and its cases telling.
-fn worth(r: &mut Random, length: usize, answer: &Result<Finished, u8>, cut: bool) -> bool {
-    let Ok(done) = answer else {
-        return length < 120 && (*answer != Err(11) || r.one_in(4)) || *answer == Err(17);
+fn worth(r: &mut Random, e: &Expected) -> bool {
+    let length = e.store.len();
+    let done = match &e.answer {
+        Ok(done) => done,
+        Err(17) => return length < 330,
+        Err(refusal) => return length < 120 && (*refusal != 11 || r.one_in(4)),
     };
+    let cut = done.begun == 101;
     let dull = done.begun < 2 && done.errors == 0 && done.highest == 0;
     match length {
-        _ if cut => length < 380 || r.one_in(20),
+        _ if !e.from_rust => length < 500,
+        _ if cut => length < 360 || r.one_in(25),
         0..=140 => !dull || r.one_in(4),
         141..=240 => !dull && r.one_in(3),
-        _ => r.one_in(60),
+        _ => r.one_in(80),
     }
 }
 
@@ -204,6 +213,11 @@ fn lent(file: &mut File, r: &mut Random, format: &Format, e: &Expected) -> bool 
         }
     } else if r.one_in(3) {
         lengths.list = r.below(7);
+    } else if r.one_in(2) {
+        // Something else may be met before 17.
+        lengths.text = r.below(12);
+        lengths.list = 5 + r.below(12);
+        lengths.workspace = r.below(12);
     }
     format.write(file, Some(lengths), e.with(lengths), e.from_rust)
 }
