@@ -1,0 +1,35 @@
+//! A formatting case as the generator makes it, over the Rust's own tree.
+
+use crate::model::number::Decimal;
+use fluent_syntax::ast::Resource;
+
+#[derive(Clone, Debug)]
+pub struct Bundle {
+    /// 0 en, 1 da, 2 ru, 3 cy.
+    pub locale: u8,
+    pub isolating: bool,
+    pub items: Vec<Item>,
+}
+
+#[derive(Clone, Debug)]
+pub enum Item {
+    Plain(Resource<String>),
+    Overriding(Resource<String>),
+    /// NUMBER under this id.
+    Function(String),
+}
+
+#[derive(Clone, Debug)]
+pub enum Value {
+    Text(String),
+    Number(Decimal),
+    None,
+}
+
+#[derive(Clone, Debug)]
+pub struct Case {
+    pub bundle: Bundle,
+    pub message: String,
+    pub attribute: Option<String>,
+    pub arguments: Vec<(String, Value)>,
+}

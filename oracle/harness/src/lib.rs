@@ -1,0 +1,34 @@
+//! The oracle's workings: cases, the real Rust, the model, and vectors.
+//!
+//! `generator(seed)` gives a formatting case, `expected(&case)` its bytes and
+//! its answers: text, errors, counts and refusals, for any buffer lengths.
+#![forbid(unsafe_code)]
+
+pub mod boundaries;
+pub mod bytes;
+pub mod case;
+pub mod cldr;
+pub mod encode;
+mod expected;
+pub mod ftl;
+mod generator;
+pub mod model;
+pub mod points;
+pub mod random;
+pub mod rust;
+pub mod sentences;
+pub mod vectors;
+
+pub use expected::{expected, Expected};
+pub use generator::{generator, Maker};
+
+/// Runs something on a thread whose stack is large enough for 100 references
+/// inside each other, each nested to depth 32.
+pub fn large_stack<T: Send + 'static>(f: impl FnOnce() -> T + Send + 'static) -> T {
+    std::thread::Builder::new()
+        .stack_size(256 << 20)
+        .spawn(f)
+        .expect("a thread")
+        .join()
+        .expect("it ends well")
+}

@@ -1,0 +1,52 @@
+//! The vector files; oracle/README.md gives their format.
+
+pub mod additions;
+pub mod formats;
+pub mod images;
+pub mod numbers;
+
+use crate::bytes::Write;
+use std::collections::HashSet;
+
+/// The default size of a run, in formatting cases; the other files grow with it.
+pub const CASES: usize = 2400;
+
+/// A file being made: cases one after the other.
+#[derive(Default)]
+pub struct File {
+    count: usize,
+    body: Vec<u8>,
+    longest: usize,
+    seen: HashSet<Vec<u8>>,
+}
+
+impl File {
+    /// Adds a case unless the same one is there already.
+    pub fn case(&mut self, operation: u8, fields: Vec<u8>) -> bool {
+        let mut case = vec![operation];
+        case.raw(&fields);
+        if !self.seen.insert(case.clone()) {
+            return false;
+        }
+        self.longest = self.longest.max(case.len());
+        self.body.blob(case);
+        self.count += 1;
+        true
+    }
+
+    pub fn count(&self) -> usize {
+        self.count
+    }
+
+    /// The length of the longest case, its operation included.
+    pub fn longest(&self) -> usize {
+        self.longest
+    }
+
+    pub fn bytes(self) -> Vec<u8> {
+        let mut out = b"WVEC\x01".to_vec();
+        out.u32(self.count);
+        out.raw(&self.body);
+        out
+    }
+}

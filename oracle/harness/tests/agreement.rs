@@ -1,0 +1,68 @@
+//! The model and the Rust agree on generated cases, and the comparison can
+//! fail: a stand-in that is changed on purpose is noticed.
+#![forbid(unsafe_code)]
+
+use harness::{expected, generator, large_stack};
+
+/// How many of the seeds' cases differ between the model and the Rust.
+fn differences(seeds: std::ops::Range<u64>) -> usize {
+    seeds.filter(|s| expected(&generator(*s)).is_err()).count()
+}
+
+#[test]
+fn model_and_rust_agree() {
+    large_stack(|| {
+        for seed in 500_000..520_000 {
+            if let Err(difference) = expected(&generator(seed)) {
+                panic!("seed {seed}: {difference}");
+            }
+        }
+    });
+}
+
+#[test]
+fn a_wrong_plural_rule_is_noticed() {
+    large_stack(|| {
+        let seeds = 600_000..602_000;
+        assert_eq!(differences(seeds.clone()), 0);
+        intl_pluralrules::plant_wrong_rule(true);
+        assert!(differences(seeds) > 0);
+    });
+}
+
+#[test]
+fn a_wrong_escape_is_noticed() {
+    large_stack(|| {
+        let seeds = 610_000..612_000;
+        assert_eq!(differences(seeds.clone()), 0);
+        fluent_syntax::unicode::plant_wrong_escape(true);
+        assert!(differences(seeds) > 0);
+    });
+}
+
+#[test]
+fn exact_buffers_are_enough_and_one_byte_less_is_not() {
+    use harness::model::effects::Lengths;
+    large_stack(|| {
+        for seed in 700_000..705_000 {
+            let e = expected(&generator(seed)).expect("they agree");
+            let Ok(done) = &e.answer else { continue };
+            let exact = Lengths {
+                text: done.text.len(),
+                list: done.list.len(),
+                workspace: done.highest,
+            };
+            assert_eq!(e.with(exact).as_ref(), Ok(done));
+            if exact.text > 0 {
+                let text = exact.text - 1;
+                assert_eq!(e.with(Lengths { text, ..exact }), Err(15));
+            }
+            if exact.workspace > 0 {
+                let workspace = exact.workspace - 1;
+                assert_eq!(e.with(Lengths { workspace, ..exact }), Err(16));
+            }
+            let list = exact.list - 1;
+            assert_eq!(e.with(Lengths { list, ..exact }), Err(7));
+        }
+    });
+}
