@@ -1,5 +1,5 @@
 //! Hand-made formattings for the finer points of document 01; each is run with
-//! ample buffers, with exact ones, and with each buffer one byte short.
+//! exact buffers and with each buffer one byte short.
 
 use crate::case::{Bundle, Case, Item, Value};
 use crate::ftl;

@@ -49,7 +49,8 @@ fn last_list(sources: &[&str]) -> (Vec<u8>, Vec<u8>) {
 
 #[test]
 fn overriding_errors() {
-    let cases: [(&[&str], &[(u8, &str)]); 8] = [
+    type Records<'a> = &'a [(u8, &'a str)];
+    let cases: [(&[&str], Records); 8] = [
         (&["foo = x"], &[]),
         (&["foo = x", "-foo = y"], &[(2, "foo")]),
         (&["-foo = x", "foo = y"], &[(1, "foo")]),

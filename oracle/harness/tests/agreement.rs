@@ -2,7 +2,8 @@
 //! fail: a stand-in that is changed on purpose is noticed.
 #![forbid(unsafe_code)]
 
-use harness::{expected, generator, large_stack};
+use harness::case::Item;
+use harness::{expected, generator, large_stack, Maker};
 
 /// How many of the seeds' cases differ between the model and the Rust.
 fn differences(seeds: std::ops::Range<u64>) -> usize {
@@ -64,5 +65,29 @@ fn exact_buffers_are_enough_and_one_byte_less_is_not() {
             let list = exact.list - 1;
             assert_eq!(e.with(Lengths { list, ..exact }), Err(7));
         }
+    });
+}
+
+/// Plain additions and functions leave a formatting with nothing unfound as it
+/// was, in the Rust and in the model.
+#[test]
+fn steady_under_additions() {
+    large_stack(|| {
+        let mut steady = 0;
+        for seed in 800_000..805_000 {
+            let mut case = generator(seed);
+            let before = expected(&case).expect("they agree").answer;
+            if !matches!(&before, Ok(done) if done.unfound == 0) {
+                continue;
+            }
+            let mut maker = Maker::new(seed + 1);
+            let more = maker.bundle().items;
+            let plain = |item: &Item| !matches!(item, Item::Overriding(_));
+            case.bundle.items.extend(more.into_iter().filter(plain));
+            case.bundle.items.push(Item::Function("zz".into()));
+            assert_eq!(expected(&case).expect("they agree").answer, before);
+            steady += 1;
+        }
+        assert!(steady > 1000);
     });
 }
