@@ -1,0 +1,9 @@
+pub mod Got
+pub mod Bytes
+pub mod Rules
+pub mod Tree
+pub mod Names
+pub mod Decode
+pub mod Images
+pub mod Encode
+pub mod Errors
