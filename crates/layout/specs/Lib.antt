@@ -1,0 +1,4 @@
+pub mod Stands
+pub mod Numbers
+pub mod Exact
+pub mod Patterns

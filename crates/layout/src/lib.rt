@@ -1,0 +1,1 @@
+// The decoders are exactly the inverses of the encoders: the theorems stand in specs/.
