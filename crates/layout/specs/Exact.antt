@@ -148,6 +148,23 @@ number-complete n {s} {at} {e} {x} q h = rw (bytes-complete n (length-toBe n x) 
 pub number-exact : (n : ℕ) → Exact (numberAt n) (toBe n) (Fits n)
 number-exact n = record { sound = λ oct l h. number-sound n oct h; complete = number-complete n }
 
+-- where a number or a byte was read, the position lies in the slice
+pub number-inside : (n : ℕ) {B : Type 0} (s : List ℕ) (at : ℕ) (k : ℕ → ℕ → Got B) {f : ℕ} {b : B} → after (numberAt n s at) k ≡ got b f → at ≤ length s
+unfolding numberAt
+number-inside n s at k h =
+    after-elim _ _ h (λ x e g r.
+    after-elim _ _ g (λ bs i g r.
+    let y : Stands s at i bs = bytes-sound n g .2 in
+    let o = y .on in
+    let w = y .within in
+    omega arith))
+
+pub byte-inside : {B : Type 0} (s : List ℕ) (at : ℕ) (k : ℕ → ℕ → Got B) {f : ℕ} {b : B} → after (byteAt s at) k ≡ got b f → at ≤ length s
+byte-inside s at k h = byte-took h (λ x e st r.
+    let o = st .on in
+    let w = st .within in
+    omega arith)
+
 -- a Str with a rule for its bytes
 ruled-sound : (ok : List ℕ → Bool) {s : List ℕ} {at e : ℕ} {t : List ℕ} → Octets s → at ≤ length s → ruledAt ok s at ≡ got t e → Ruled ok t × Stands s at e (encStr t)
 unfolding ruledAt spanAt encStr

@@ -5,3 +5,5 @@ pub mod Patterns
 pub mod Images
 pub mod Theorems
 pub mod Example
+pub mod Utf8
+pub mod Scalars

@@ -3,18 +3,18 @@
 use mathlib.Core.Path.{_≡_, refl, ap, sym, subst, _∙_}
 use mathlib.Core.List.{List, [], _∷_, _++_}
 use mathlib.Core.Logic.{_↔_}
-use Prim.Native.Nat.{ℕ, _+_, _-_, _≤_, _<_}
+use Prim.Native.Nat.{ℕ, zero, suc, _+_, _-_, _≤_, _<_}
 use native.Mathlib.Omega.{arith}
 use lib.ListN.{length, take}
 use Rattle.records.specs.Got.{Got, got, Parser}
 use Rattle.records.specs.Bytes.{part}
 use Rattle.records.specs.Tree.{Pattern, Expression, Inline}
-use Rattle.records.specs.Decode.{patternAt, expression, inline, entryPatternAt}
-use Rattle.records.specs.Images.{Entry, Store, Argument, entryAt, resourceAt, resourceOf, storeOf, argumentsAt, argumentsOf}
+use Rattle.records.specs.Decode.{patternAt, expression, inline, exprAt, inlineAt, entryPatternAt}
+use Rattle.records.specs.Images.{Entry, Store, Argument, kindAt, entryAt, resourceAt, resourceOf, storeOf, argumentsAt, argumentsOf}
 use Rattle.records.specs.Encode.{encPattern, encExpression, encInline, encEntry, encResource, encStore, encArgumentsImage}
 use Rattle.records.specs.Valid.{ValidPattern, ValidExpression, ValidInline, ValidEntryPattern, ValidEntry, ValidResource, ValidStore, ValidArgumentsImage}
 use Rattle.layout.specs.Stands.{Stands, Octets, stands-inside, stands-front}
-use Rattle.layout.specs.Exact.{Exact}
+use Rattle.layout.specs.Exact.{Exact, nothing, after-elim, number-inside, byte-inside}
 use Rattle.layout.specs.Patterns as patterns
 use Rattle.layout.specs.Images as images
 
@@ -57,6 +57,29 @@ entry-exact = images.entry-exact
 
 pub resource-exact : Exact resourceAt encResource ValidResource
 resource-exact = images.resource-exact
+
+-- What they say of a position, also of one that lies past the slice: there nothing is read.
+pub pattern-sound : (d : ℕ) (s : List ℕ) (at : ℕ) {e : ℕ} {a : Pattern} → Octets s → patternAt (expression d) s at ≡ got a e
+    → ValidPattern d a × (part s at (e - at) ≡ encPattern a) × (at ≤ e) × (e ≤ length s)
+unfolding patternAt
+pattern-sound d s at oct h = at-sound (pattern-exact d) oct (number-inside 4 s at _ h) h
+
+pub expression-sound : (d : ℕ) (s : List ℕ) (at : ℕ) {e : ℕ} {a : Expression} → Octets s → expression d s at ≡ got a e
+    → ValidExpression d a × (part s at (e - at) ≡ encExpression a) × (at ≤ e) × (e ≤ length s)
+unfolding expression exprAt
+expression-sound zero s at oct h = nothing h
+expression-sound (suc d) s at oct h = at-sound (expression-exact (suc d)) oct (byte-inside s at _ h) h
+
+pub inline-sound : (d : ℕ) (s : List ℕ) (at : ℕ) {e : ℕ} {a : Inline} → Octets s → inline d s at ≡ got a e
+    → ValidInline d a × (part s at (e - at) ≡ encInline a) × (at ≤ e) × (e ≤ length s)
+unfolding inline inlineAt
+inline-sound zero s at oct h = nothing h
+inline-sound (suc d) s at oct h = at-sound (inline-exact (suc d)) oct (byte-inside s at _ h) h
+
+pub entry-sound : (s : List ℕ) (at : ℕ) {e : ℕ} {a : Entry} → Octets s → entryAt s at ≡ got a e
+    → ValidEntry a × (part s at (e - at) ≡ encEntry a) × (at ≤ e) × (e ≤ length s)
+unfolding entryAt kindAt
+entry-sound s at oct h = at-sound entry-exact oct (after-elim _ _ h (λ k p g r. byte-inside s at _ g)) h
 
 -- Resource images
 pub resource-sound : {s : List ℕ} {e : ℕ} {r : List Entry} → Octets s → resourceOf s ≡ got r e → ValidResource r × (s ≡ encResource r) × (e ≡ length s)
