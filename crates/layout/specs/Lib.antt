@@ -1,9 +1,3 @@
-pub mod Stands
-pub mod Numbers
 pub mod Exact
-pub mod Patterns
-pub mod Images
-pub mod Theorems
-pub mod Example
 pub mod Utf8
-pub mod Scalars
+pub mod Example

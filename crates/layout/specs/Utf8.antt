@@ -2,8 +2,10 @@
 use Prim.Native.Nat.{ℕ, _+_, _/_, _%_, _≤_, _<_}
 use mathlib.Core.Bool.{Bool, true, false}
 use mathlib.Core.List.{List, [], _∷_}
+use mathlib.Core.Path.{_≡_}
 use lib.Dec.{ltb}
 use Rattle.records.specs.Encode.{encAll}
+use Rattle.records.specs.Valid.{All}
 
 -- a code point that is no surrogate
 pub data Scalar (c : ℕ) : Type 0 where
@@ -25,3 +27,9 @@ encScalar c =
 -- one after the other
 unfoldable pub encScalars : List ℕ → List ℕ
 encScalars cs = encAll encScalar cs
+
+-- t is the encoding of scalars
+pub record Coded (t : List ℕ) : Type 0 where
+  pub scalars : List ℕ
+  pub valid : All Scalar scalars
+  pub are : t ≡ encScalars scalars

@@ -1,1 +1,1 @@
-// The decoders are exactly the inverses of the encoders: the theorems stand in specs/.
+// The byte layouts: the decoders of `records` are exactly the inverses of its encoders. specs/ says what that means, proofs/Theorems.antt that it holds.

@@ -12,7 +12,7 @@ use Rattle.records.specs.Bytes.{run}
 use Rattle.records.specs.Rules.{choose, utf8First, utf8Low, utf8High, utf8Rest, utf8Step, isUtf8}
 use Rattle.records.specs.Encode.{encAll}
 use Rattle.records.specs.Valid.{All}
-use Rattle.layout.specs.Utf8.{Scalar, low, high, either, encScalar, encScalars}
+use Rattle.layout.specs.Utf8.{Scalar, low, high, either, encScalar, encScalars, Coded}
 
 below : {Z : Type 0} (c n : ℕ) → (c < n → Z) → (n ≤ c → Z) → Z
 below {Z} c n f g = go (ltb c n) refl
@@ -268,12 +268,6 @@ more {q = q} {lo = lo} {hi = hi} {r = r} p l (b ∷ u) h k =
 
     out-high : lo ≤ b → hi < b → ranged lo hi r b ≡ 8
     out-high x y = rw (le-ltb b lo x, lt-ltb hi b y)
-
--- t is the encoding of scalars
-pub record Coded (t : List ℕ) : Type 0 where
-  pub scalars : List ℕ
-  pub valid : All Scalar scalars
-  pub are : t ≡ encScalars scalars
 
 coded-none : Coded []
 unfolding encScalars encAll

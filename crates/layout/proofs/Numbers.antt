@@ -6,7 +6,7 @@ use native.Mathlib.Omega.{arith}
 use native.Mathlib.Nat.{mod-eq-of-lt, mod-lt, div-add-mod', mul-add-mod-self-left, mul-add-div-right, div-eq-of-lt}
 use lib.ListN.{length}
 use Rattle.records.specs.Bytes.{be, toBe}
-use Rattle.layout.specs.Stands.{Octets}
+use Rattle.layout.specs.Exact.{Octets}
 
 pub length-toBe : (n x : ℕ) → length (toBe n x) ≡ n
 unfolding toBe

@@ -16,10 +16,11 @@ use Rattle.records.specs.Decode.{as-a, many, ruledAt, flagAt, optionalAt, idAt,
 use Rattle.records.specs.Images.{Kind, Attribute, Entry, Item, Store, Argument, maxImage, maxStore, maxItems, maxLocale, maxScale, digitsLimit, oneAt, kindAt, attributeAt, attributesAt, complete, entryAt, resourceAt, functionAt, itemAt, localeAt, storeOf, wholeOf, resourceOf, argumentNumberAt, argumentValueAt, argumentAt, argumentsAt, argumentsOf}
 use Rattle.records.specs.Encode.{encStr, encFlag, encOptional, encAll, encCounted, encPattern, encKind, encAttribute, encEntry, encWhole, encResource, encFunction, encItem, encStore, encArgument, encNamedArgument, encArgumentsImage}
 use Rattle.records.specs.Valid.{Fits, Ruled, ValidId, IfAny, All, Counted, ValidEntryPattern, ValidAttribute, ValidEntry, ValidResource, ValidItem, ValidStore, ValidArgument, ValidNamedArgument, ValidArgumentsImage}
-use Rattle.layout.specs.Stands.{Stands, Octets, stands-length, stands-front, append-nil, bytes-are, join, split}
-use Rattle.layout.specs.Numbers.{length-toBe}
-use Rattle.layout.specs.Exact.{Exact, Read, Chain, after-elim, took, byte-took, test-took, tag-took, last-took, gives, tagged, ahead, at-last, as-last, byte-complete, byte-ahead, passes, ends, number-exact, ruled-exact, many-exact}
-use Rattle.layout.specs.Patterns.{flag-exact, optional-exact, id-exact, list-chain, with-id, entry-pattern-exact}
+use Rattle.layout.specs.Exact.{Stands, Octets, Exact}
+use Rattle.layout.proofs.Stands.{stands-length, stands-front, append-nil, bytes-are, join, split}
+use Rattle.layout.proofs.Numbers.{length-toBe}
+use Rattle.layout.proofs.Steps.{Read, Chain, after-elim, took, byte-took, test-took, tag-took, last-took, gives, tagged, ahead, at-last, as-last, byte-complete, byte-ahead, passes, ends, number-exact, ruled-exact, many-exact}
+use Rattle.layout.proofs.Patterns.{flag-exact, optional-exact, id-exact, list-chain, with-id, entry-pattern-exact}
 
 -- the byte 1
 one-exact : Exact oneAt (λ v. 1 ∷ []) (λ v. v ≡ 1)

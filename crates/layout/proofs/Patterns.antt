@@ -16,9 +16,10 @@ use Rattle.records.specs.Tree.{Literal, Key, Named, Pattern, pattern, Elements,
 use Rattle.records.specs.Decode.{as-a, many, ruledAt, flagAt, optionalAt, idAt, textAt, stringAt, literalNumberAt, literalAt, keyAt, namedAt, namedArgumentsAt, elementAt, elementsAt, patternAt, variantAt, inlinesAt, argumentsAt, termArgumentsAt, termAt, selectAt, inlineBody, inlineAt, exprAt, expression, inline, maxDepth, entryPatternAt}
 use Rattle.records.specs.Encode.{encStr, encFlag, encOptional, encAll, encCounted, encLiteral, encKey, encNamed, countElements, countInlines, countVariants, encSized, encPattern, encElements, encElement, encExpression, encInline, encArguments, encInlines, encVariants, encVariant}
 use Rattle.records.specs.Valid.{Fits, Ruled, ValidId, IfAny, All, Counted, ValidLiteral, ValidKey, ValidNamed, ValidNames, ValidElement, ValidElements, PatternOver, ValidVariant, ValidVariants, ValidInlines, ValidCall, ValidArguments, InlineOver, ExpressionOver, ValidExpression, ValidInline, ValidPattern, ValidEntryPattern}
-use Rattle.layout.specs.Stands.{Stands, Octets, stands-length, bytes-are, join, split}
-use Rattle.layout.specs.Numbers.{length-toBe}
-use Rattle.layout.specs.Exact.{Exact, Read, Chain, nothing, after-elim, took, byte-took, test-took, tag-took, last-took, gives, tagged, ahead, at-last, as-last, byte-complete, byte-ahead, passes, ends, number-exact, ruled-exact, many-exact}
+use Rattle.layout.specs.Exact.{Stands, Octets, Exact}
+use Rattle.layout.proofs.Stands.{stands-length, bytes-are, join, split}
+use Rattle.layout.proofs.Numbers.{length-toBe}
+use Rattle.layout.proofs.Steps.{Read, Chain, nothing, after-elim, took, byte-took, test-took, tag-took, last-took, gives, tagged, ahead, at-last, as-last, byte-complete, byte-ahead, passes, ends, number-exact, ruled-exact, many-exact}
 
 -- Flag
 flag-sound : {s : List ℕ} {at e : ℕ} {f : Bool} → flagAt s at ≡ got f e → Unit {0} × Stands s at e (encFlag f)

@@ -13,10 +13,11 @@ use Rattle.records.specs.Decode.{patternAt, expression, inline, exprAt, inlineA
 use Rattle.records.specs.Images.{Entry, Store, Argument, kindAt, entryAt, resourceAt, resourceOf, storeOf, argumentsAt, argumentsOf}
 use Rattle.records.specs.Encode.{encPattern, encExpression, encInline, encEntry, encResource, encStore, encArgumentsImage}
 use Rattle.records.specs.Valid.{ValidPattern, ValidExpression, ValidInline, ValidEntryPattern, ValidEntry, ValidResource, ValidStore, ValidArgumentsImage}
-use Rattle.layout.specs.Stands.{Stands, Octets, stands-inside, stands-front}
-use Rattle.layout.specs.Exact.{Exact, nothing, after-elim, number-inside, byte-inside}
-use Rattle.layout.specs.Patterns as patterns
-use Rattle.layout.specs.Images as images
+use Rattle.layout.specs.Exact.{Stands, Octets, Exact}
+use Rattle.layout.proofs.Stands.{stands-inside, stands-front}
+use Rattle.layout.proofs.Steps.{nothing, after-elim, number-inside, byte-inside}
+use Rattle.layout.proofs.Patterns as patterns
+use Rattle.layout.proofs.Images as images
 
 -- What one exact decoder gives, at a position.
 module _ {A : Type 0} {p : Parser A} {enc : A → List ℕ} {Ok : A → Type 0} (x : Exact p enc Ok) where

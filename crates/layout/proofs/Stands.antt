@@ -7,17 +7,7 @@ use native.Mathlib.Numerals.{add-one}
 use lib.ListN.{length, take, drop, getD, length-take, length-drop, length-append, take-append-drop}
 use lib.Seq.{drop-drop, take-append-seam, drop-append-seam, length-take-le, take-at, drop-at, drop-cons}
 use Rattle.records.specs.Bytes.{part}
-
--- from at up to e stand the bytes bs
-pub record Stands (s : List ℕ) (at e : ℕ) (bs : List ℕ) : Type 0 where
-  pub on : at ≤ e
-  pub within : e ≤ length s
-  pub bytes : part s at (e - at) ≡ bs
-
--- every element is a byte
-abbrev pub Octets : List ℕ → Type 0
-Octets [] = Unit {0}
-Octets (x ∷ s) = (x < 256) × Octets s
+use Rattle.layout.specs.Exact.{Stands, Octets}
 
 pub octets-of : (s : List ℕ) → ((i : ℕ) → i < length s → getD s i 0 < 256) → Octets s
 octets-of [] h = tt
