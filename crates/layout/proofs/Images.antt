@@ -18,6 +18,7 @@ use Rattle.records.specs.Encode.{encStr, encFlag, encOptional, encAll, encCount
 use Rattle.records.specs.Valid.{Fits, Ruled, ValidId, IfAny, All, Counted, ValidEntryPattern, ValidAttribute, ValidEntry, ValidResource, ValidItem, ValidStore, ValidArgument, ValidNamedArgument, ValidArgumentsImage}
 use Rattle.layout.specs.Exact.{Stands, Octets, Exact}
 use Rattle.layout.proofs.Stands.{stands-length, stands-front, append-nil, bytes-are, join, split}
+use Rattle.layout.proofs.Octets.{octets-append, octets-toBe, utf8-octets}
 use Rattle.layout.proofs.Numbers.{length-toBe}
 use Rattle.layout.proofs.Steps.{Read, Chain, after-elim, took, byte-took, test-took, tag-took, last-took, gives, tagged, ahead, at-last, as-last, byte-complete, byte-ahead, passes, ends, number-exact, ruled-exact, many-exact}
 use Rattle.layout.proofs.Patterns.{flag-exact, optional-exact, id-exact, list-chain, with-id, entry-pattern-exact}
@@ -27,6 +28,7 @@ one-exact : Exact oneAt (λ v. 1 ∷ []) (λ v. v ≡ 1)
 unfolding oneAt after test
 one-exact = record {
   sound = λ {s} {at} oct l h. byte-took h (λ x e b h. last-took x 1 h (λ q h. gives h (Read (λ v. 1 ∷ []) (λ v. v ≡ 1) s at) (q, bytes-are (ap (λ (j : ℕ). j ∷ []) q) b)));
+  octets = λ v ok. omega arith;
   complete = λ ok h. rw (byte-complete h, ok);
 }
 
@@ -41,8 +43,13 @@ unfolding kindAt encKind after pick test
 kind-complete Kind.message h = rw (byte-complete h)
 kind-complete Kind.term h = rw (byte-complete h)
 
+kind-octets : (k : Kind) → Octets (encKind k ∷ [])
+unfolding encKind
+kind-octets Kind.message = omega arith
+kind-octets Kind.term = omega arith
+
 kind-exact : Exact kindAt (λ k. encKind k ∷ []) (λ k. Unit {0})
-kind-exact = record { sound = λ oct l h. kind-sound h; complete = λ {a = k} ok h. kind-complete k h }
+kind-exact = record { sound = λ oct l h. kind-sound h; octets = λ k ok. kind-octets k; complete = λ {a = k} ok h. kind-complete k h }
 
 attribute-exact : Exact attributeAt encAttribute ValidAttribute
 unfolding attributeAt encAttribute ValidAttribute
@@ -57,6 +64,7 @@ module _ {A : Type 0} {p : Parser A} {enc : A → List ℕ} {Ok : A → Type 0} 
         took (number-exact 2) oct l h (λ k q okK stK h.
         let i = many-exact (list-chain enc Ok) x k .sound oct (stK .within) h in
         ((i .0 .0, subst (Fits 2) (sym (i .0 .1)) okK), rw (i .0 .1) (join stK (i .1))));
+    octets = λ l ok. octets-append (toBe 2 (length l)) _ (octets-toBe 2 (length l)) (many-exact (list-chain enc Ok) x (length l) .octets l (ok .0, refl));
     complete = λ {a = l} ok h. ahead (number-exact 2) _ (ok .1) h (λ e u r. many-exact (list-chain enc Ok) x (length l) .complete (ok .0, refl) r);
   }
 
@@ -74,6 +82,11 @@ entry-exact = record {
       took attributes-exact oct (stV .within) h (λ m e okA stA h.
       test-took (complete k v m) h (λ t h.
       gives h (Read encEntry ValidEntry s at) ((okN, okV, okA, t), join stK (join stN (join stV stA))))))));
+  octets = λ y ok. (
+    kind-octets (y .kind) .0,
+    octets-append (encStr (y .id)) _ (id-exact .octets (y .id) (ok .0))
+        (octets-append (encOptional encPattern (y .value)) _ (optional-exact entry-pattern-exact .octets (y .value) (ok .1)) (attributes-exact .octets (y .attributes) (ok .2))),
+  );
   complete = λ {a = y} ok h.
       ahead kind-exact _ {a = y .kind} tt h (λ p u r.
       ahead id-exact _ (ok .0) r (λ q u r.
@@ -85,6 +98,10 @@ entry-exact = record {
 length-whole : (b : List ℕ) → length (encWhole b) ≡ 4 + length b
 unfolding encWhole
 length-whole b = rw (length-append, length-toBe)
+
+whole-octets : (b : List ℕ) → Octets b → Octets (encWhole b)
+unfolding encWhole
+whole-octets b h = octets-append (toBe 4 (4 + length b)) b (octets-toBe 4 (4 + length b)) h
 
 whole-stands : {s : List ℕ} {at p e n : ℕ} {b : List ℕ} → Stands s at p (toBe 4 n) → Stands s p e b → e ≡ at + n → (length (encWhole b) ≡ n) × Stands s at e (encWhole b)
 unfolding encWhole
@@ -142,6 +159,7 @@ module _ {A : Type 0} {p : Parser A} {enc : A → List ℕ} {Ok : A → Type 0} 
         let i : (length (encImage enc m) ≡ n) × Stands s at e (encImage enc m) = whole-stands stN (rw c (join stV (join stK stM))) w in
         let bound : n ≤ maxImage = leb-true n maxImage t in
         gives h (Read (encImage enc) (ImageOk enc Ok) s at) (((okM .0, subst (Fits 2) (sym c) okK), rw (i .0) bound), i .1)))))));
+    octets = λ l ok. whole-octets (1 ∷ encCounted enc l) (omega arith, counted-exact x .octets l (ok .0));
     complete = λ {a = l} ok h. whole-ahead _ h (image-fits (ok .1)) (λ p r q.
         passes (leb (length (encImage enc l)) maxImage) (le-leb (length (encImage enc l)) maxImage (ok .1))
         (ahead one-exact _ {a = 1} refl r (λ i u r.
@@ -168,6 +186,7 @@ function-exact = record {
       took id-exact oct (stC .within) h (λ i e okI stI h.
       last-took e (at + n) h (λ w h.
       gives h (Read encFunction ValidId s at) (okI, whole-stands stN (join stV (join stC stI)) w .1))))));
+  octets = λ i ok. whole-octets (1 ∷ 1 ∷ encStr i) (omega arith, (omega arith, id-exact .octets i ok));
   complete = λ {a = i} ok h. whole-ahead _ h (function-fits i (ok .0)) (λ p r q.
       ahead one-exact _ {a = 1} refl r (λ j u r.
       ahead one-exact _ {a = 1} refl r (λ k u r.
@@ -188,13 +207,28 @@ item-complete (Item.plain l) ok h = byte-ahead _ h (λ p b r. as-last resource-e
 item-complete (Item.overriding l) ok h = byte-ahead _ h (λ p b r. as-last resource-exact Item.overriding ok r)
 item-complete (Item.function i) ok h = byte-ahead _ h (λ p b r. as-last function-exact Item.function ok r)
 
+item-octets : (i : Item) → ValidItem i → Octets (encItem i)
+unfolding encItem ValidItem
+item-octets (Item.plain l) ok = (omega arith, resource-exact .octets l ok)
+item-octets (Item.overriding l) ok = (omega arith, resource-exact .octets l ok)
+item-octets (Item.function i) ok = (omega arith, function-exact .octets i ok)
+
 pub item-exact : Exact itemAt encItem ValidItem
-item-exact = record { sound = λ oct l h. item-sound oct h; complete = λ {a = i} ok h. item-complete i ok h }
+item-exact = record { sound = λ oct l h. item-sound oct h; octets = item-octets; complete = λ {a = i} ok h. item-complete i ok h }
+
+locale-small : {l : ℕ} → l ≤ maxLocale → l < 256
+unfolding maxLocale
+locale-small h = omega arith
+
+scale-small : {k : ℕ} → k ≤ maxScale → k < 256
+unfolding maxScale
+scale-small h = omega arith
 
 locale-exact : Exact localeAt (λ l. l ∷ []) (λ l. l ≤ maxLocale)
 unfolding localeAt after
 locale-exact = record {
   sound = λ {s} {at} oct l h. byte-took h (λ x e b h. test-took (leb x maxLocale) h (λ t h. gives h (Read (λ l. l ∷ []) (λ l. l ≤ maxLocale) s at) (leb-true x maxLocale t, b)));
+  octets = λ x ok. (locale-small ok, tt);
   complete = λ {a = x} ok h. rw (byte-complete h) (passes (leb x maxLocale) (le-leb x maxLocale ok) refl);
 }
 
@@ -232,6 +266,13 @@ store-complete {e = e} v ok h = whole-ahead _ h (store-fits (ok .3)) (λ p r q.
     passes (leb (length (v .items)) maxItems) (le-leb (length (v .items)) maxItems (ok .2))
     (at-last (many-exact (list-chain encItem ValidItem) item-exact (length (v .items))) _ (ok .1, refl) r (ends w refl))))))))
 
+pub store-octets : (v : Store) → ValidStore v → Octets (encStore v)
+unfolding encStore ValidStore
+store-octets v ok = whole-octets _ (
+  omega arith,
+  (locale-small (ok .0), octets-append (encFlag (v .isolating)) _ (flag-exact .octets (v .isolating) tt) (counted-exact item-exact .octets (v .items) (ok .1, items-fit (ok .2)))),
+)
+
 -- arguments
 digits-fit : {d : ℕ} → d < digitsLimit → Fits 8 d
 unfolding digitsLimit
@@ -259,18 +300,25 @@ argument-sound : {s : List ℕ} {at e : ℕ} {v : Argument} → Octets s → arg
 unfolding argumentValueAt encArgument ValidArgument
 argument-sound {s} {at} oct h =
     byte-took h (λ t p b h.
-    tag-took t 1 h (λ q h. took (ruled-exact isUtf8) oct (b .within) h (λ a e ok st h. gives h (Read encArgument ValidArgument s at) (ok, tagged q b st))) (λ h.
+    tag-took t 1 h (λ q h. took (ruled-exact isUtf8 utf8-octets) oct (b .within) h (λ a e ok st h. gives h (Read encArgument ValidArgument s at) (ok, tagged q b st))) (λ h.
     tag-took t 2 h (λ q h. argument-number-sound oct (bytes-are (ap (λ (j : ℕ). j ∷ []) q) b) h) (λ h.
     last-took t 3 h (λ q h. gives h (Read encArgument ValidArgument s at) (tt, bytes-are (ap (λ (j : ℕ). j ∷ []) q) b)))))
 
 argument-complete : {s : List ℕ} {at e : ℕ} (v : Argument) → ValidArgument v → Stands s at e (encArgument v) → argumentValueAt s at ≡ got v e
 unfolding argumentValueAt encArgument ValidArgument pick test after
-argument-complete (Argument.string t) ok h = byte-ahead _ h (λ p b r. as-last (ruled-exact isUtf8) Argument.string ok r)
+argument-complete (Argument.string t) ok h = byte-ahead _ h (λ p b r. as-last (ruled-exact isUtf8 utf8-octets) Argument.string ok r)
 argument-complete (Argument.number f d k) ok h = byte-ahead _ h (λ p b r. argument-number-complete f d k (ok .0) (ok .1) r)
 argument-complete Argument.nothing ok h = rw (byte-complete h)
 
+argument-octets : (v : Argument) → ValidArgument v → Octets (encArgument v)
+unfolding encArgument ValidArgument
+argument-octets (Argument.string t) ok = (omega arith, ruled-exact isUtf8 utf8-octets .octets t ok)
+argument-octets (Argument.number f d k) ok =
+    (omega arith, octets-append (encFlag f) _ (flag-exact .octets f tt) (octets-append (toBe 8 d) _ (octets-toBe 8 d) (scale-small (ok .1), tt)))
+argument-octets Argument.nothing ok = omega arith
+
 argument-exact : Exact argumentValueAt encArgument ValidArgument
-argument-exact = record { sound = λ oct l h. argument-sound oct h; complete = λ {a = v} ok h. argument-complete v ok h }
+argument-exact = record { sound = λ oct l h. argument-sound oct h; octets = argument-octets; complete = λ {a = v} ok h. argument-complete v ok h }
 
 named-argument-exact : Exact argumentAt encNamedArgument ValidNamedArgument
 unfolding argumentAt encNamedArgument ValidNamedArgument

@@ -18,6 +18,7 @@ use Rattle.records.specs.Encode.{encStr, encFlag, encOptional, encAll, encCount
 use Rattle.records.specs.Valid.{Fits, Ruled, ValidId, IfAny, All, Counted, ValidLiteral, ValidKey, ValidNamed, ValidNames, ValidElement, ValidElements, PatternOver, ValidVariant, ValidVariants, ValidInlines, ValidCall, ValidArguments, InlineOver, ExpressionOver, ValidExpression, ValidInline, ValidPattern, ValidEntryPattern}
 use Rattle.layout.specs.Exact.{Stands, Octets, Exact}
 use Rattle.layout.proofs.Stands.{stands-length, bytes-are, join, split}
+use Rattle.layout.proofs.Octets.{octets-append, octets-toBe, id-octets, text-octets, string-octets, number-octets}
 use Rattle.layout.proofs.Numbers.{length-toBe}
 use Rattle.layout.proofs.Steps.{Read, Chain, nothing, after-elim, took, byte-took, test-took, tag-took, last-took, gives, tagged, ahead, at-last, as-last, byte-complete, byte-ahead, passes, ends, number-exact, ruled-exact, many-exact}
 
@@ -34,8 +35,13 @@ unfolding flagAt encFlag after pick test
 flag-complete true h = rw (byte-complete h)
 flag-complete false h = rw (byte-complete h)
 
+flag-octets : (f : Bool) → Octets (encFlag f)
+unfolding encFlag
+flag-octets true = omega arith
+flag-octets false = omega arith
+
 pub flag-exact : Exact flagAt encFlag (λ f. Unit {0})
-flag-exact = record { sound = λ oct l h. flag-sound h; complete = λ {a = f} ok h. flag-complete f h }
+flag-exact = record { sound = λ oct l h. flag-sound h; octets = λ f ok. flag-octets f; complete = λ {a = f} ok h. flag-complete f h }
 
 -- a Flag, and what it announces
 module _ {A : Type 0} {p : Parser A} {enc : A → List ℕ} {Ok : A → Type 0} (x : Exact p enc Ok) where
@@ -51,24 +57,29 @@ module _ {A : Type 0} {p : Parser A} {enc : A → List ℕ} {Ok : A → Type 0} 
   optional-complete none ok h = rw (byte-complete h)
   optional-complete (some a) ok h = byte-ahead _ h (λ i b r. as-last x some ok r)
 
+  optional-octets : (o : Option A) → IfAny Ok o → Octets (encOptional enc o)
+  unfolding encOptional
+  optional-octets none ok = omega arith
+  optional-octets (some a) ok = (omega arith, x .octets a ok)
+
   pub optional-exact : Exact (optionalAt p) (encOptional enc) (IfAny Ok)
-  optional-exact = record { sound = λ oct l h. optional-sound oct h; complete = λ {a = o} ok h. optional-complete o ok h }
+  optional-exact = record { sound = λ oct l h. optional-sound oct h; octets = optional-octets; complete = λ {a = o} ok h. optional-complete o ok h }
 
 pub id-exact : Exact idAt encStr ValidId
 unfolding idAt
-id-exact = ruled-exact isId
+id-exact = ruled-exact isId id-octets
 
 text-exact : Exact textAt encStr (Ruled isText)
 unfolding textAt
-text-exact = ruled-exact isText
+text-exact = ruled-exact isText text-octets
 
 string-exact : Exact stringAt encStr (Ruled isString)
 unfolding stringAt
-string-exact = ruled-exact isString
+string-exact = ruled-exact isString string-octets
 
 literal-number-exact : Exact literalNumberAt encStr (Ruled isNumber)
 unfolding literalNumberAt
-literal-number-exact = ruled-exact isNumber
+literal-number-exact = ruled-exact isNumber number-octets
 
 -- literals and keys
 literal-sound : {s : List ℕ} {at e : ℕ} {v : Literal} → Octets s → literalAt s at ≡ got v e → ValidLiteral v × Stands s at e (encLiteral v)
@@ -83,8 +94,13 @@ unfolding literalAt encLiteral pick test
 literal-complete (Literal.string t) ok h = byte-ahead _ h (λ i b r. as-last string-exact Literal.string ok r)
 literal-complete (Literal.number t) ok h = byte-ahead _ h (λ i b r. as-last literal-number-exact Literal.number ok r)
 
+literal-octets : (v : Literal) → ValidLiteral v → Octets (encLiteral v)
+unfolding encLiteral
+literal-octets (Literal.string t) ok = (omega arith, string-exact .octets t ok)
+literal-octets (Literal.number t) ok = (omega arith, literal-number-exact .octets t ok)
+
 literal-exact : Exact literalAt encLiteral ValidLiteral
-literal-exact = record { sound = λ oct l h. literal-sound oct h; complete = λ {a = v} ok h. literal-complete v ok h }
+literal-exact = record { sound = λ oct l h. literal-sound oct h; octets = literal-octets; complete = λ {a = v} ok h. literal-complete v ok h }
 
 key-sound : {s : List ℕ} {at e : ℕ} {v : Key} → Octets s → keyAt s at ≡ got v e → ValidKey v × Stands s at e (encKey v)
 unfolding keyAt encKey
@@ -98,8 +114,13 @@ unfolding keyAt encKey pick test
 key-complete (Key.name t) ok h = byte-ahead _ h (λ i b r. as-last id-exact Key.name ok r)
 key-complete (Key.number t) ok h = byte-ahead _ h (λ i b r. as-last literal-number-exact Key.number ok r)
 
+key-octets : (v : Key) → ValidKey v → Octets (encKey v)
+unfolding encKey
+key-octets (Key.name t) ok = (omega arith, id-exact .octets t ok)
+key-octets (Key.number t) ok = (omega arith, literal-number-exact .octets t ok)
+
 key-exact : Exact keyAt encKey ValidKey
-key-exact = record { sound = λ oct l h. key-sound oct h; complete = λ {a = v} ok h. key-complete v ok h }
+key-exact = record { sound = λ oct l h. key-sound oct h; octets = key-octets; complete = λ {a = v} ok h. key-complete v ok h }
 
 -- a plain list is a chain
 pub list-chain : {A : Type 0} (enc : A → List ℕ) (Ok : A → Type 0) → Chain [] _∷_ enc Ok (encAll enc) (All Ok) length
@@ -118,6 +139,7 @@ module _ {A : Type 0} {p : Parser A} {enc : A → List ℕ} {Ok : A → Type 0} 
         took id-exact oct l h (λ n i okN st h.
         took x oct (st .within) h (λ a e ok st′ h.
         gives h (Read (λ a. encStr (a .0) ++ enc (a .1)) (λ a. ValidId (a .0) × Ok (a .1)) s at) ((okN, ok), join st st′)));
+    octets = λ a ok. octets-append (encStr (a .0)) (enc (a .1)) (id-exact .octets (a .0) (ok .0)) (x .octets (a .1) (ok .1));
     complete = λ {a = a} ok h. ahead id-exact _ (ok .0) h (λ e u r. as-last x (λ v. (a .0, v)) (ok .1) r);
   }
 
@@ -133,6 +155,7 @@ named-arguments-exact m = record {
       took (many-exact (list-chain encNamed ValidNamed) named-exact m) oct l h (λ ns e ok st h.
       test-took (distinct ns) h (λ t h.
       gives h (Read (encAll encNamed) (λ ns. (All ValidNamed ns × (length ns ≡ m)) × (distinct ns ≡ true)) s at) ((ok, t), st)));
+  octets = λ ns ok. many-exact (list-chain encNamed ValidNamed) named-exact m .octets ns (ok .0);
   complete = λ {a = ns} ok h. at-last (many-exact (list-chain encNamed ValidNamed) named-exact m) _ (ok .0) h (passes (distinct ns) (ok .1) refl);
 }
 
@@ -182,8 +205,13 @@ module _ {expr : Parser Expression} {Deep : Expression → Type 0} (x : Exact ex
   element-complete (text t) ok h = byte-ahead _ h (λ i b r. as-last text-exact text ok r)
   element-complete (placeable y) ok h = byte-ahead _ h (λ i b r. as-last x placeable ok r)
 
+  element-octets : (v : Element) → ValidElement Deep v → Octets (encElement v)
+  unfolding encElement
+  element-octets (text t) ok = (omega arith, text-exact .octets t ok)
+  element-octets (placeable y) ok = (omega arith, x .octets y ok)
+
   element-exact : Exact (elementAt expr) encElement (ValidElement Deep)
-  element-exact = record { sound = λ oct l h. element-sound oct h; complete = λ {a = v} ok h. element-complete v ok h }
+  element-exact = record { sound = λ oct l h. element-sound oct h; octets = element-octets; complete = λ {a = v} ok h. element-complete v ok h }
 
   elements-exact : (k : ℕ) → Exact (elementsAt expr k) encElements (λ es. ValidElements Deep es × (countElements es ≡ k))
   unfolding elementsAt
@@ -218,8 +246,16 @@ module _ {expr : Parser Expression} {Deep : Expression → Type 0} (x : Exact ex
       ahead (number-exact 2) _ {a = k} (ok .2) r (λ q v r.
       passes (ltb 0 k) (lt-ltb 0 k (ok .1)) (at-last (elements-exact k) _ (ok .0, refl) r (ends w (ap (λ (z : List ℕ). got (pattern z es) e) (h .bytes ∙ sym (ok .4)))))))
 
+  pattern-octets : (v : Pattern) → PatternOver Deep v → Octets (encPattern v)
+  pattern-octets (pattern b es) ok =
+      let n : ℕ = 2 + length (encElements es) in
+      let k : ℕ = countElements es in
+      rw (enc-pattern b es n k refl refl)
+      (octets-append (toBe 4 n) (toBe 2 k ++ encElements es) (octets-toBe 4 n)
+      (octets-append (toBe 2 k) (encElements es) (octets-toBe 2 k) (elements-exact k .octets es (ok .0, refl))))
+
   pub pattern-exact : Exact (patternAt expr) encPattern (PatternOver Deep)
-  pattern-exact = record { sound = pattern-sound; complete = λ {a = v} ok h. pattern-complete v ok h }
+  pattern-exact = record { sound = pattern-sound; octets = pattern-octets; complete = λ {a = v} ok h. pattern-complete v ok h }
 
   variant-sound : {s : List ℕ} {at e : ℕ} {v : Variant} → Octets s → at ≤ length s → variantAt expr s at ≡ got v e → ValidVariant Deep v × Stands s at e (encVariant v)
   unfolding variantAt encVariant
@@ -235,8 +271,13 @@ module _ {expr : Parser Expression} {Deep : Expression → Type 0} (x : Exact ex
       ahead key-exact _ (ok .0) h (λ i u r.
       ahead flag-exact _ {a = d} tt r (λ j v r. as-last pattern-exact (variant k d) (ok .1) r))
 
+  variant-octets : (v : Variant) → ValidVariant Deep v → Octets (encVariant v)
+  unfolding encVariant
+  variant-octets (variant k d p) ok =
+      octets-append (encKey k) (encFlag d ++ encPattern p) (key-octets k (ok .0)) (octets-append (encFlag d) (encPattern p) (flag-octets d) (pattern-octets p (ok .1)))
+
   variant-exact : Exact (variantAt expr) encVariant (ValidVariant Deep)
-  variant-exact = record { sound = variant-sound; complete = λ {a = v} ok h. variant-complete v ok h }
+  variant-exact = record { sound = variant-sound; octets = variant-octets; complete = λ {a = v} ok h. variant-complete v ok h }
 
 -- the arguments of a call
 abbrev encCall : Inlines × Named → List ℕ
@@ -270,8 +311,17 @@ module _ {inl : Parser Inline} {DeepInline : Inline → Type 0} (x : Exact inl e
       ahead (number-exact 2) _ (ok .2 .0 .1) r (λ i w r.
       as-last (named-arguments-exact (length (c .1))) (λ ns. (c .0, ns)) ((ok .2 .0 .0, refl), ok .2 .1) r)))
 
+  call-octets : (c : Inlines × Named) → CallOk DeepInline c → Octets (encCall c)
+  unfolding encCounted
+  call-octets c ok =
+      let xs : Inlines = c .0 in
+      let ns : Named = c .1 in
+      octets-append (toBe 2 (countInlines xs)) _ (octets-toBe 2 (countInlines xs))
+      (octets-append (encInlines xs) _ (inlines-exact (countInlines xs) .octets xs (ok .0, refl))
+      (octets-append (toBe 2 (length ns)) _ (octets-toBe 2 (length ns)) (named-arguments-exact (length ns) .octets ns ((ok .2 .0 .0, refl), ok .2 .1))))
+
   call-exact : Exact (argumentsAt inl) encCall (CallOk DeepInline)
-  call-exact = record { sound = call-sound; complete = λ {a = c} ok h. call-complete c ok h }
+  call-exact = record { sound = call-sound; octets = call-octets; complete = λ {a = c} ok h. call-complete c ok h }
 
   arguments-sound : {s : List ℕ} {at e : ℕ} {v : Arguments} → Octets s → termArgumentsAt inl s at ≡ got v e → ValidArguments DeepInline v × Stands s at e (encArguments v)
   unfolding termArgumentsAt encArguments
@@ -285,8 +335,13 @@ module _ {inl : Parser Inline} {DeepInline : Inline → Type 0} (x : Exact inl e
   arguments-complete without ok h = rw (byte-complete h)
   arguments-complete (with-args xs ns) ok h = byte-ahead _ h (λ i b r. as-last call-exact (λ c. with-args (c .0) (c .1)) {a = (xs, ns)} ok r)
 
+  arguments-octets : (v : Arguments) → ValidArguments DeepInline v → Octets (encArguments v)
+  unfolding encArguments
+  arguments-octets without ok = omega arith
+  arguments-octets (with-args xs ns) ok = (omega arith, call-octets (xs, ns) ok)
+
   arguments-exact : Exact (termArgumentsAt inl) encArguments (ValidArguments DeepInline)
-  arguments-exact = record { sound = λ oct l h. arguments-sound oct h; complete = λ {a = v} ok h. arguments-complete v ok h }
+  arguments-exact = record { sound = λ oct l h. arguments-sound oct h; octets = arguments-octets; complete = λ {a = v} ok h. arguments-complete v ok h }
 
 module _ {expr : Parser Expression} {inl : Parser Inline} {Deep : Expression → Type 0} {DeepInline : Inline → Type 0}
     (x : Exact expr encExpression Deep) (y : Exact inl encInline DeepInline) where
@@ -347,10 +402,33 @@ module _ {expr : Parser Expression} {inl : Parser Inline} {Deep : Expression →
   body-complete (variable i) ok h k = split (6 ∷ []) h (λ p b r. k 6 p (byte-complete b) refl (as-last id-exact variable ok r))
   body-complete (nested z) ok h k = split (7 ∷ []) h (λ p b r. k 7 p (byte-complete b) refl (as-last x nested ok r))
 
+  inline-octets : (v : Inline) → InlineOver Deep DeepInline v → Octets (encInline v)
+  unfolding encInline
+  inline-octets (Inline.string t) ok = (omega arith, string-exact .octets t ok)
+  inline-octets (Inline.number t) ok = (omega arith, literal-number-exact .octets t ok)
+  inline-octets (Inline.function i xs ns) ok = (omega arith, octets-append (encStr i) _ (id-exact .octets i (ok .0)) (call-exact y .octets (xs, ns) (ok .1)))
+  inline-octets (Inline.message i a) ok = (omega arith, octets-append (encStr i) _ (id-exact .octets i (ok .0)) (optional-exact id-exact .octets a (ok .1)))
+  inline-octets (Inline.term i a c) ok = (
+    omega arith,
+    octets-append (encStr i) _ (id-exact .octets i (ok .0)) (octets-append (encOptional encStr a) _ (optional-exact id-exact .octets a (ok .1)) (arguments-exact y .octets c (ok .2))),
+  )
+  inline-octets (variable i) ok = (omega arith, id-exact .octets i ok)
+  inline-octets (nested z) ok = (omega arith, x .octets z ok)
+
+  expr-octets : (v : Expression) → ExpressionOver Deep DeepInline v → Octets (encExpression v)
+  unfolding encExpression
+  expr-octets (Expression.inline i) ok = inline-octets i ok
+  expr-octets (select i vs) ok = (
+    omega arith,
+    octets-append (encInline i) _ (y .octets i (ok .0))
+        (octets-append (toBe 2 (countVariants vs)) _ (octets-toBe 2 (countVariants vs)) (many-exact (variants-chain Deep) (variant-exact x) (countVariants vs) .octets vs (ok .1, refl))),
+  )
+
   inline-level : Exact (inlineAt expr inl) encInline (InlineOver Deep DeepInline)
   unfolding inlineAt after
   inline-level = record {
     sound = λ oct l h. byte-took h (λ tag p b h. body-sound oct b h);
+    octets = inline-octets;
     complete = λ {a = v} ok h. body-complete v ok h (λ tag p g n r. rw g r);
   }
 
@@ -366,7 +444,7 @@ module _ {expr : Parser Expression} {inl : Parser Inline} {Deep : Expression →
   expr-complete (select i vs) ok h = byte-ahead _ h (λ p b r. select-complete i vs ok r)
 
   expr-level : Exact (exprAt expr inl) encExpression (ExpressionOver Deep DeepInline)
-  expr-level = record { sound = λ oct l h. expr-sound oct h; complete = λ {a = v} ok h. expr-complete v ok h }
+  expr-level = record { sound = λ oct l h. expr-sound oct h; octets = expr-octets; complete = λ {a = v} ok h. expr-complete v ok h }
 
 -- By depth
 pub record Deep-exact (d : ℕ) : Type 0 where
@@ -376,8 +454,8 @@ pub record Deep-exact (d : ℕ) : Type 0 where
 pub deep-exact : (d : ℕ) → Deep-exact d
 unfolding expression ValidExpression
 deep-exact zero = record {
-  of-expression = record { sound = λ oct l h. nothing h; complete = λ ok h. absurd ok };
-  of-inline = record { sound = λ oct l h. nothing h; complete = λ ok h. absurd ok };
+  of-expression = record { sound = λ oct l h. nothing h; octets = λ a ok. absurd ok; complete = λ ok h. absurd ok };
+  of-inline = record { sound = λ oct l h. nothing h; octets = λ a ok. absurd ok; complete = λ ok h. absurd ok };
 }
 deep-exact (suc d) = let i = deep-exact d in record { of-expression = expr-level (i .of-expression) (i .of-inline); of-inline = inline-level (i .of-expression) (i .of-inline) }
 

@@ -14,6 +14,7 @@ use Rattle.records.specs.Encode.{encStr}
 use Rattle.records.specs.Valid.{Fits, Ruled}
 use Rattle.layout.specs.Exact.{Exact, Stands, Octets}
 use Rattle.layout.proofs.Stands.{stands-none, none-ends, octets-part, length-part, stands-length, stands-of, stands-byte, byte-is, bytes-are, join, split}
+use Rattle.layout.proofs.Octets.{octets-append, octets-toBe}
 use Rattle.layout.proofs.Numbers.{length-toBe, be-toBe, toBe-be, be-small}
 
 -- nothing is read where a decoder fails
@@ -142,7 +143,7 @@ unfolding numberAt after
 number-complete n {s} {at} {e} {x} q h = rw (bytes-complete n (length-toBe n x) h, be-toBe n x q)
 
 pub number-exact : (n : ℕ) → Exact (numberAt n) (toBe n) (Fits n)
-number-exact n = record { sound = λ oct l h. number-sound n oct h; complete = number-complete n }
+number-exact n = record { sound = λ oct l h. number-sound n oct h; octets = λ x ok. octets-toBe n x; complete = number-complete n }
 
 -- where a number or a byte was read, the position lies in the slice
 pub number-inside : (n : ℕ) {B : Type 0} (s : List ℕ) (at : ℕ) (k : ℕ → ℕ → Got B) {f : ℕ} {b : B} → after (numberAt n s at) k ≡ got b f → at ≤ length s
@@ -180,8 +181,9 @@ unfolding ruledAt spanAt encStr after
 ruled-complete ok {s} {at} {e} {t} q h = split (toBe 2 (length t)) h (λ p u v.
     rw (number-complete 2 (q .0) u, bytes-complete (length t) refl v, v .bytes) (passes (ok t) (q .1) refl))
 
-pub ruled-exact : (ok : List ℕ → Bool) → Exact (ruledAt ok) encStr (Ruled ok)
-ruled-exact ok = record { sound = ruled-sound ok; complete = ruled-complete ok }
+pub ruled-exact : (ok : List ℕ → Bool) → ((t : List ℕ) → ok t ≡ true → Octets t) → Exact (ruledAt ok) encStr (Ruled ok)
+unfolding encStr
+ruled-exact ok o = record { sound = ruled-sound ok; octets = λ t k. octets-append (toBe 2 (length t)) t (octets-toBe 2 (length t)) (o t (k .1)); complete = ruled-complete ok }
 
 -- n of them, in a list of any kind: what its kind must give
 pub record Chain {A L : Type 0} (nil : L) (cons : A → L → L) (enc : A → List ℕ) (Ok : A → Type 0) (encAll : L → List ℕ) (AllOk : L → Type 0) (count : L → ℕ) : Type 1 where
@@ -216,5 +218,16 @@ module _ {A L : Type 0} {nil : L} {cons : A → L → L} {p : Parser A} {enc : A
       let i = c .parts a l ok in
       ahead x _ (i .0) (bytes-are (c .one a l .0) h) (λ f u v. rw (many-complete n l (i .1) (omega arith) v))) l ok q h
 
+  many-octets : (n : ℕ) (l : L) → AllOk l → count l ≡ n → Octets (encAll l)
+  many-octets zero l ok q =
+      c .view (λ l. AllOk l → count l ≡ 0 → Octets (encAll l)) (λ ok q. rw (c .none .0) tt)
+      (λ a l ok q. let z : suc (count l) ≡ 0 = sym (c .one a l .1) ∙ q in absurd (omega arith)) l ok q
+  many-octets (suc n) l ok q =
+      c .view (λ l. AllOk l → count l ≡ suc n → Octets (encAll l)) (λ ok q. rw (c .none .0) tt)
+      (λ a l ok q.
+      let z : suc (count l) ≡ suc n = sym (c .one a l .1) ∙ q in
+      let i = c .parts a l ok in
+      rw (c .one a l .0) (octets-append (enc a) (encAll l) (x .octets a (i .0)) (many-octets n l (i .1) (omega arith)))) l ok q
+
   pub many-exact : (n : ℕ) → Exact (many nil cons n p) encAll (λ l. AllOk l × (count l ≡ n))
-  many-exact n = record { sound = many-sound n; complete = λ {a = l} ok h. many-complete n l (ok .0) (ok .1) h }
+  many-exact n = record { sound = many-sound n; octets = λ l ok. many-octets n l (ok .0) (ok .1); complete = λ {a = l} ok h. many-complete n l (ok .0) (ok .1) h }

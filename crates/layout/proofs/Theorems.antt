@@ -91,10 +91,12 @@ pub resource-complete : {r : List Entry} → ValidResource r → resourceOf (enc
 unfolding resourceOf
 resource-complete ok = images.whole-complete images.resource-exact ok
 
-pub resource-exactly : {s : List ℕ} {r : List Entry} → Octets s → (resourceOf s ≡ got r (length s)) ↔ (ValidResource r × (s ≡ encResource r))
-resource-exactly {s} {r} oct = (
-  λ h. let y = resource-sound oct h in (y .0, y .1),
-  λ y. subst (λ (l : List ℕ). resourceOf l ≡ got r (length l)) (sym (y .1)) (resource-complete (y .0)),
+-- in one: bytes decode to r exactly when r is valid and they are its encoding
+pub resource-exactly : (s : List ℕ) (r : List Entry) → (Octets s × (resourceOf s ≡ got r (length s))) ↔ (ValidResource r × (s ≡ encResource r))
+resource-exactly s r = (
+  λ h. let y = resource-sound (h .0) (h .1) in (y .0, y .1),
+  λ y. let ok : ValidResource r = y .0 in
+      subst (λ (l : List ℕ). Octets l × (resourceOf l ≡ got r (length l))) (sym (y .1)) (images.resource-exact .octets r ok, resource-complete ok),
 )
 
 pub resource-injective : {q r : List Entry} → ValidResource q → ValidResource r → encResource q ≡ encResource r → q ≡ r
@@ -112,10 +114,11 @@ pub arguments-complete : {l : List (List ℕ × Argument)} → ValidArgumentsIma
 unfolding argumentsOf
 arguments-complete ok = images.whole-complete images.arguments-exact ok
 
-pub arguments-exactly : {s : List ℕ} {l : List (List ℕ × Argument)} → Octets s → (argumentsOf s ≡ got l (length s)) ↔ (ValidArgumentsImage l × (s ≡ encArgumentsImage l))
-arguments-exactly {s} {l} oct = (
-  λ h. let y = arguments-sound oct h in (y .0, y .1),
-  λ y. subst (λ (t : List ℕ). argumentsOf t ≡ got l (length t)) (sym (y .1)) (arguments-complete (y .0)),
+pub arguments-exactly : (s : List ℕ) (l : List (List ℕ × Argument)) → (Octets s × (argumentsOf s ≡ got l (length s))) ↔ (ValidArgumentsImage l × (s ≡ encArgumentsImage l))
+arguments-exactly s l = (
+  λ h. let y = arguments-sound (h .0) (h .1) in (y .0, y .1),
+  λ y. let ok : ValidArgumentsImage l = y .0 in
+      subst (λ (t : List ℕ). Octets t × (argumentsOf t ≡ got l (length t))) (sym (y .1)) (images.arguments-exact .octets l ok, arguments-complete ok),
 )
 
 pub arguments-injective : {k l : List (List ℕ × Argument)} → ValidArgumentsImage k → ValidArgumentsImage l → encArgumentsImage k ≡ encArgumentsImage l → k ≡ l
@@ -133,6 +136,19 @@ store-sound s {e} oct h =
 
 pub store-complete : {v : Store} (rest : List ℕ) → ValidStore v → storeOf (encStore v ++ rest) ≡ got v (length (encStore v))
 store-complete {v} rest ok = images.store-complete v ok (stands-front (encStore v) rest)
+
+-- a valid store's encoding is bytes
+pub store-octets : (v : Store) → ValidStore v → Octets (encStore v)
+store-octets v ok = images.store-octets v ok
+
+-- in one
+pub store-exactly : (s : List ℕ) (e : ℕ) (v : Store) → Octets s → (storeOf s ≡ got v e) ↔ (ValidStore v × (take e s ≡ encStore v) × (e ≤ length s))
+store-exactly s e v oct = (
+  λ h. store-sound s oct h,
+  λ y. let z : e - 0 ≡ e = omega arith in
+      let w : e ≤ length s = y .2 in
+      images.store-complete v (y .0) (record { on = omega arith; within = w; bytes = ap (λ (j : ℕ). take j s) z ∙ y .1 }),
+)
 
 pub store-injective : {v w : Store} → ValidStore v → ValidStore w → encStore v ≡ encStore w → v ≡ w
 store-injective {v} {w} a b q =
