@@ -1,6 +1,6 @@
 -- Document 01's example image is what the encoder writes, and decodes.
 use mathlib.Core.Path.{_≡_, refl}
-use mathlib.Core.List.{List, [], _∷_}
+use mathlib.Core.List.{[], _∷_}
 use Rattle.records.specs.Got.{got, after, test, pick}
 use Rattle.records.specs.Bytes.{toBe, bytesAt, byteAt, numberAt, spanAt, run}
 use Rattle.records.specs.Rules.{letter, digit, idStep, isId, utf8First, utf8Low, utf8High, utf8Rest, utf8Step, isUtf8, isText}

@@ -1,26 +1,25 @@
 -- Entries, items, stores and images: the decoders read exactly what the encoders write of valid trees.
 use mathlib.Core.Path.{_≡_, refl, ap, sym, subst, _∙_}
-use mathlib.Core.Bool.{Bool, true, false}
+use mathlib.Core.Bool.{Bool}
 use mathlib.Core.List.{List, [], _∷_, _++_}
-use mathlib.Core.Option.{Option, some, none}
-use Prim.Native.Nat.{ℕ, zero, suc, _+_, _-_, _^_, _≤_, _<_}
+use Prim.Native.Nat.{ℕ, _+_, _-_, _≤_, _<_}
 use native.Mathlib.Omega.{arith}
-use lib.ListN.{length, take, length-append}
+use lib.ListN.{length, length-append}
 use lib.Seq.{take-all}
 use lib.Dec.{eqb, ltb, leb}
 use borrow.Author.Tests.{leb-true, ltb-true, le-leb, lt-ltb}
-use Rattle.records.specs.Got.{Got, got, bad, Parser, after, test, pick}
-use Rattle.records.specs.Bytes.{toBe, part, byteAt, numberAt}
+use Rattle.records.specs.Got.{Got, got, Parser, after, test, pick}
+use Rattle.records.specs.Bytes.{toBe, numberAt}
 use Rattle.records.specs.Rules.{isUtf8}
-use Rattle.records.specs.Decode.{as-a, many, ruledAt, flagAt, optionalAt, idAt, entryPatternAt}
-use Rattle.records.specs.Images.{Kind, Attribute, Entry, Item, Store, Argument, maxImage, maxStore, maxItems, maxLocale, maxScale, digitsLimit, oneAt, kindAt, attributeAt, attributesAt, complete, entryAt, resourceAt, functionAt, itemAt, localeAt, storeOf, wholeOf, resourceOf, argumentNumberAt, argumentValueAt, argumentAt, argumentsAt, argumentsOf}
+use Rattle.records.specs.Decode.{many}
+use Rattle.records.specs.Images.{Kind, Item, Store, Argument, maxImage, maxStore, maxItems, maxLocale, maxScale, digitsLimit, oneAt, kindAt, attributeAt, attributesAt, complete, entryAt, resourceAt, functionAt, itemAt, localeAt, storeOf, wholeOf, argumentNumberAt, argumentValueAt, argumentAt, argumentsAt}
 use Rattle.records.specs.Encode.{encStr, encFlag, encOptional, encAll, encCounted, encPattern, encKind, encAttribute, encEntry, encWhole, encResource, encFunction, encItem, encStore, encArgument, encNamedArgument, encArgumentsImage}
-use Rattle.records.specs.Valid.{Fits, Ruled, ValidId, IfAny, All, Counted, ValidEntryPattern, ValidAttribute, ValidEntry, ValidResource, ValidItem, ValidStore, ValidArgument, ValidNamedArgument, ValidArgumentsImage}
+use Rattle.records.specs.Valid.{Fits, ValidId, Counted, ValidAttribute, ValidEntry, ValidResource, ValidItem, ValidStore, ValidArgument, ValidNamedArgument, ValidArgumentsImage}
 use Rattle.layout.specs.Exact.{Stands, Octets, Exact}
-use Rattle.layout.proofs.Stands.{stands-length, stands-front, append-nil, bytes-are, join, split}
+use Rattle.layout.proofs.Stands.{stands-length, stands-front, append-nil, bytes-are, join}
 use Rattle.layout.proofs.Octets.{octets-append, octets-toBe, utf8-octets}
 use Rattle.layout.proofs.Numbers.{length-toBe}
-use Rattle.layout.proofs.Steps.{Read, Chain, after-elim, took, byte-took, test-took, tag-took, last-took, gives, tagged, ahead, at-last, as-last, byte-complete, byte-ahead, passes, ends, number-exact, ruled-exact, many-exact}
+use Rattle.layout.proofs.Steps.{Read, took, byte-took, test-took, tag-took, last-took, gives, tagged, ahead, at-last, as-last, byte-complete, byte-ahead, passes, ends, number-exact, ruled-exact, many-exact}
 use Rattle.layout.proofs.Patterns.{flag-exact, optional-exact, id-exact, list-chain, with-id, entry-pattern-exact}
 
 -- the byte 1

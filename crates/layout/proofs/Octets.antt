@@ -2,11 +2,11 @@
 use mathlib.Core.Path.{_≡_, refl, ap, sym, subst, _∙_}
 use mathlib.Core.Bool.{Bool, true, false, _&&_, _||_, false≢true}
 use mathlib.Core.List.{List, [], _∷_, _++_}
-use Prim.Native.Nat.{ℕ, zero, suc, _+_, _/_, _%_, _^_, _≤_, _<_}
+use Prim.Native.Nat.{ℕ, zero, suc, _/_, _^_, _≤_, _<_}
 use native.Mathlib.Omega.{arith}
 use native.Mathlib.Nat.{mod-lt}
 use lib.ListN.{length}
-use lib.Dec.{ltb, leb, eqb}
+use lib.Dec.{ltb, eqb}
 use borrow.Author.Tests.{ltb-true, ltb-false, eqb-true, lt-ltb, le-ltb, le-leb, lt-leb, ne-eqb}
 use Rattle.records.specs.Bytes.{toBe, run}
 use Rattle.records.specs.Rules.{choose, letter, digit, idStep, isId, utf8First, utf8Low, utf8High, utf8Rest, utf8Step, isUtf8, isText, numberStep, isNumber, escapeStep, isString}
@@ -23,7 +23,7 @@ octets-toBe (suc n) x = (mod-lt (x / 256 ^ n) (omega arith), octets-toBe n x)
 
 -- an automaton that all but bytes lead to a dead end
 module _ (f : ℕ → ℕ → ℕ) (end : ℕ) (stays : (b : ℕ) → f end b ≡ end) (out : (q b : ℕ) → 256 ≤ b → f q b ≡ end) where
-  run-end : (t : List ℕ) → run f end t ≡ end
+  pub run-end : (t : List ℕ) → run f end t ≡ end
   unfolding run
   run-end [] = refl
   run-end (b ∷ t) = ap (λ (j : ℕ). run f j t) (stays b) ∙ run-end t
@@ -75,7 +75,7 @@ number-out : (q b : ℕ) → 256 ≤ b → numberStep q b ≡ 5
 unfolding numberStep
 number-out q b h = rw (digit-out b h, isnt b 45 h (omega arith), isnt b 46 h (omega arith))
 
-utf8-stays : (b : ℕ) → utf8Step 8 b ≡ 8
+pub utf8-stays : (b : ℕ) → utf8Step 8 b ≡ 8
 unfolding utf8Step utf8Low utf8High utf8Rest
 utf8-stays b = go (ltb b 0x80) (ltb 0xBF b)
   where
@@ -84,19 +84,20 @@ utf8-stays b = go (ltb b 0x80) (ltb 0xBF b)
     go false true = refl
     go false false = refl
 
-first-out : (b : ℕ) → 256 ≤ b → utf8First b ≡ 8
+-- nor does any byte above F4 begin a scalar
+pub first-above : (b : ℕ) → 0xF4 < b → utf8First b ≡ 8
 unfolding utf8First
-first-out b h =
+first-above b h =
     rw (
       le-ltb b 0x80 (omega arith),
       le-ltb b 0xC2 (omega arith),
       le-ltb b 0xE0 (omega arith),
-      isnt b 0xE0 h (omega arith),
-      isnt b 0xED h (omega arith),
+      ne-eqb b 0xE0 (λ e. omega arith),
+      ne-eqb b 0xED (λ e. omega arith),
       le-ltb b 0xF0 (omega arith),
-      isnt b 0xF0 h (omega arith),
+      ne-eqb b 0xF0 (λ e. omega arith),
       le-ltb b 0xF4 (omega arith),
-      isnt b 0xF4 h (omega arith),
+      ne-eqb b 0xF4 (λ e. omega arith),
     )
 
 high-bound : (q : ℕ) → utf8High q ≤ 0xBF
@@ -108,11 +109,11 @@ high-bound q = go (eqb q 5) (eqb q 7)
     go false true = omega arith
     go false false = omega arith
 
-utf8-out : (q b : ℕ) → 256 ≤ b → utf8Step q b ≡ 8
+pub utf8-out : (q b : ℕ) → 256 ≤ b → utf8Step q b ≡ 8
 unfolding utf8Step
 utf8-out q b h =
     let k : utf8High q < b = omega (arith, high-bound q) in
-    rw (first-out b h, lt-ltb (utf8High q) b k) (go (eqb q 0) (ltb b (utf8Low q)))
+    rw (first-above b (omega arith), lt-ltb (utf8High q) b k) (go (eqb q 0) (ltb b (utf8Low q)))
   where
     go : (i j : Bool) → choose i 8 (choose j 8 8) ≡ 8
     go true j = refl

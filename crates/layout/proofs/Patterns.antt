@@ -3,24 +3,24 @@ use mathlib.Core.Path.{_≡_, refl, ap, sym, subst, _∙_}
 use mathlib.Core.Bool.{Bool, true, false}
 use mathlib.Core.List.{List, [], _∷_, _++_}
 use mathlib.Core.Option.{Option, some, none}
-use Prim.Native.Nat.{ℕ, zero, suc, _+_, _-_, _^_, _≤_, _<_}
+use Prim.Native.Nat.{ℕ, zero, suc, _+_, _-_, _≤_, _<_}
 use native.Mathlib.Omega.{arith}
 use lib.ListN.{length, length-append}
 use lib.Dec.{eqb, ltb}
 use borrow.Author.Tests.{ltb-true, lt-ltb}
-use Rattle.records.specs.Got.{Got, got, bad, Parser, after, test, pick}
-use Rattle.records.specs.Bytes.{toBe, part, byteAt, numberAt}
+use Rattle.records.specs.Got.{got, Parser, after, test, pick}
+use Rattle.records.specs.Bytes.{toBe, part, byteAt}
 use Rattle.records.specs.Rules.{isId, isText, isString, isNumber}
 use Rattle.records.specs.Names.{distinct}
 use Rattle.records.specs.Tree.{Literal, Key, Named, Pattern, pattern, Elements, no-more, more, Element, text, placeable, Expression, select, Inline, variable, nested, Arguments, without, with-args, Inlines, no-inline, and, Variants, no-variant, or, Variant, variant}
-use Rattle.records.specs.Decode.{as-a, many, ruledAt, flagAt, optionalAt, idAt, textAt, stringAt, literalNumberAt, literalAt, keyAt, namedAt, namedArgumentsAt, elementAt, elementsAt, patternAt, variantAt, inlinesAt, argumentsAt, termArgumentsAt, termAt, selectAt, inlineBody, inlineAt, exprAt, expression, inline, maxDepth, entryPatternAt}
+use Rattle.records.specs.Decode.{as-a, flagAt, optionalAt, idAt, textAt, stringAt, literalNumberAt, literalAt, keyAt, namedAt, namedArgumentsAt, elementAt, elementsAt, patternAt, variantAt, inlinesAt, argumentsAt, termArgumentsAt, termAt, selectAt, inlineBody, inlineAt, exprAt, expression, inline, maxDepth, entryPatternAt}
 use Rattle.records.specs.Encode.{encStr, encFlag, encOptional, encAll, encCounted, encLiteral, encKey, encNamed, countElements, countInlines, countVariants, encSized, encPattern, encElements, encElement, encExpression, encInline, encArguments, encInlines, encVariants, encVariant}
-use Rattle.records.specs.Valid.{Fits, Ruled, ValidId, IfAny, All, Counted, ValidLiteral, ValidKey, ValidNamed, ValidNames, ValidElement, ValidElements, PatternOver, ValidVariant, ValidVariants, ValidInlines, ValidCall, ValidArguments, InlineOver, ExpressionOver, ValidExpression, ValidInline, ValidPattern, ValidEntryPattern}
+use Rattle.records.specs.Valid.{Fits, Ruled, ValidId, IfAny, All, ValidLiteral, ValidKey, ValidNamed, ValidElement, ValidElements, PatternOver, ValidVariant, ValidVariants, ValidInlines, ValidCall, ValidArguments, InlineOver, ExpressionOver, ValidExpression, ValidInline, ValidPattern, ValidEntryPattern}
 use Rattle.layout.specs.Exact.{Stands, Octets, Exact}
 use Rattle.layout.proofs.Stands.{stands-length, bytes-are, join, split}
 use Rattle.layout.proofs.Octets.{octets-append, octets-toBe, id-octets, text-octets, string-octets, number-octets}
 use Rattle.layout.proofs.Numbers.{length-toBe}
-use Rattle.layout.proofs.Steps.{Read, Chain, nothing, after-elim, took, byte-took, test-took, tag-took, last-took, gives, tagged, ahead, at-last, as-last, byte-complete, byte-ahead, passes, ends, number-exact, ruled-exact, many-exact}
+use Rattle.layout.proofs.Steps.{Read, Chain, Two, two-exact, nothing, after-elim, took, byte-took, test-took, tag-took, last-took, gives, tagged, ahead, at-last, as-last, byte-complete, byte-ahead, passes, ends, number-exact, ruled-exact, many-exact}
 
 -- Flag
 flag-sound : {s : List ℕ} {at e : ℕ} {f : Bool} → flagAt s at ≡ got f e → Unit {0} × Stands s at e (encFlag f)
@@ -82,45 +82,29 @@ unfolding literalNumberAt
 literal-number-exact = ruled-exact isNumber number-octets
 
 -- literals and keys
-literal-sound : {s : List ℕ} {at e : ℕ} {v : Literal} → Octets s → literalAt s at ≡ got v e → ValidLiteral v × Stands s at e (encLiteral v)
-unfolding literalAt encLiteral
-literal-sound {s} {at} oct h =
-    byte-took h (λ x i b h.
-    tag-took x 1 h (λ q h. took string-exact oct (b .within) h (λ a e ok st h. gives h (Read encLiteral ValidLiteral s at) (ok, tagged q b st))) (λ h.
-    last-took x 2 h (λ q h. took literal-number-exact oct (b .within) h (λ a e ok st h. gives h (Read encLiteral ValidLiteral s at) (ok, tagged q b st)))))
-
-literal-complete : {s : List ℕ} {at e : ℕ} (v : Literal) → ValidLiteral v → Stands s at e (encLiteral v) → literalAt s at ≡ got v e
-unfolding literalAt encLiteral pick test
-literal-complete (Literal.string t) ok h = byte-ahead _ h (λ i b r. as-last string-exact Literal.string ok r)
-literal-complete (Literal.number t) ok h = byte-ahead _ h (λ i b r. as-last literal-number-exact Literal.number ok r)
-
-literal-octets : (v : Literal) → ValidLiteral v → Octets (encLiteral v)
+literal-two : Two Literal.string Literal.number encStr encStr encLiteral (Ruled isString) (Ruled isNumber) ValidLiteral
 unfolding encLiteral
-literal-octets (Literal.string t) ok = (omega arith, string-exact .octets t ok)
-literal-octets (Literal.number t) ok = (omega arith, literal-number-exact .octets t ok)
+literal-two = record { view = view; one = λ t. (refl, λ k. k, λ k. k); two = λ t. (refl, λ k. k, λ k. k) }
+  where
+    view : (Z : Literal → Type 0) → ((t : List ℕ) → Z (Literal.string t)) → ((t : List ℕ) → Z (Literal.number t)) → (v : Literal) → Z v
+    view Z f g (Literal.string t) = f t
+    view Z f g (Literal.number t) = g t
 
 literal-exact : Exact literalAt encLiteral ValidLiteral
-literal-exact = record { sound = λ oct l h. literal-sound oct h; octets = literal-octets; complete = λ {a = v} ok h. literal-complete v ok h }
+unfolding literalAt
+literal-exact = two-exact literal-two string-exact literal-number-exact
 
-key-sound : {s : List ℕ} {at e : ℕ} {v : Key} → Octets s → keyAt s at ≡ got v e → ValidKey v × Stands s at e (encKey v)
-unfolding keyAt encKey
-key-sound {s} {at} oct h =
-    byte-took h (λ x i b h.
-    tag-took x 1 h (λ q h. took id-exact oct (b .within) h (λ a e ok st h. gives h (Read encKey ValidKey s at) (ok, tagged q b st))) (λ h.
-    last-took x 2 h (λ q h. took literal-number-exact oct (b .within) h (λ a e ok st h. gives h (Read encKey ValidKey s at) (ok, tagged q b st)))))
-
-key-complete : {s : List ℕ} {at e : ℕ} (v : Key) → ValidKey v → Stands s at e (encKey v) → keyAt s at ≡ got v e
-unfolding keyAt encKey pick test
-key-complete (Key.name t) ok h = byte-ahead _ h (λ i b r. as-last id-exact Key.name ok r)
-key-complete (Key.number t) ok h = byte-ahead _ h (λ i b r. as-last literal-number-exact Key.number ok r)
-
-key-octets : (v : Key) → ValidKey v → Octets (encKey v)
+key-two : Two Key.name Key.number encStr encStr encKey ValidId (Ruled isNumber) ValidKey
 unfolding encKey
-key-octets (Key.name t) ok = (omega arith, id-exact .octets t ok)
-key-octets (Key.number t) ok = (omega arith, literal-number-exact .octets t ok)
+key-two = record { view = view; one = λ t. (refl, λ k. k, λ k. k); two = λ t. (refl, λ k. k, λ k. k) }
+  where
+    view : (Z : Key → Type 0) → ((t : List ℕ) → Z (Key.name t)) → ((t : List ℕ) → Z (Key.number t)) → (v : Key) → Z v
+    view Z f g (Key.name t) = f t
+    view Z f g (Key.number t) = g t
 
 key-exact : Exact keyAt encKey ValidKey
-key-exact = record { sound = λ oct l h. key-sound oct h; octets = key-octets; complete = λ {a = v} ok h. key-complete v ok h }
+unfolding keyAt
+key-exact = two-exact key-two id-exact literal-number-exact
 
 -- a plain list is a chain
 pub list-chain : {A : Type 0} (enc : A → List ℕ) (Ok : A → Type 0) → Chain [] _∷_ enc Ok (encAll enc) (All Ok) length
@@ -193,25 +177,17 @@ enc-pattern b es n k q r =
     rw (m, q)
 
 module _ {expr : Parser Expression} {Deep : Expression → Type 0} (x : Exact expr encExpression Deep) where
-  element-sound : {s : List ℕ} {at e : ℕ} {v : Element} → Octets s → elementAt expr s at ≡ got v e → ValidElement Deep v × Stands s at e (encElement v)
-  unfolding elementAt encElement
-  element-sound {s} {at} oct h =
-      byte-took h (λ t i b h.
-      tag-took t 1 h (λ q h. took text-exact oct (b .within) h (λ a e ok st h. gives h (Read encElement (ValidElement Deep) s at) (ok, tagged q b st))) (λ h.
-      last-took t 2 h (λ q h. took x oct (b .within) h (λ a e ok st h. gives h (Read encElement (ValidElement Deep) s at) (ok, tagged q b st)))))
-
-  element-complete : {s : List ℕ} {at e : ℕ} (v : Element) → ValidElement Deep v → Stands s at e (encElement v) → elementAt expr s at ≡ got v e
-  unfolding elementAt encElement pick test
-  element-complete (text t) ok h = byte-ahead _ h (λ i b r. as-last text-exact text ok r)
-  element-complete (placeable y) ok h = byte-ahead _ h (λ i b r. as-last x placeable ok r)
-
-  element-octets : (v : Element) → ValidElement Deep v → Octets (encElement v)
+  element-two : Two text placeable encStr encExpression encElement (Ruled isText) Deep (ValidElement Deep)
   unfolding encElement
-  element-octets (text t) ok = (omega arith, text-exact .octets t ok)
-  element-octets (placeable y) ok = (omega arith, x .octets y ok)
+  element-two = record { view = view; one = λ t. (refl, λ k. k, λ k. k); two = λ y. (refl, λ k. k, λ k. k) }
+    where
+      view : (Z : Element → Type 0) → ((t : List ℕ) → Z (text t)) → ((y : Expression) → Z (placeable y)) → (v : Element) → Z v
+      view Z f g (text t) = f t
+      view Z f g (placeable y) = g y
 
   element-exact : Exact (elementAt expr) encElement (ValidElement Deep)
-  element-exact = record { sound = λ oct l h. element-sound oct h; octets = element-octets; complete = λ {a = v} ok h. element-complete v ok h }
+  unfolding elementAt
+  element-exact = two-exact element-two text-exact x
 
   elements-exact : (k : ℕ) → Exact (elementsAt expr k) encElements (λ es. ValidElements Deep es × (countElements es ≡ k))
   unfolding elementsAt
@@ -274,7 +250,7 @@ module _ {expr : Parser Expression} {Deep : Expression → Type 0} (x : Exact ex
   variant-octets : (v : Variant) → ValidVariant Deep v → Octets (encVariant v)
   unfolding encVariant
   variant-octets (variant k d p) ok =
-      octets-append (encKey k) (encFlag d ++ encPattern p) (key-octets k (ok .0)) (octets-append (encFlag d) (encPattern p) (flag-octets d) (pattern-octets p (ok .1)))
+      octets-append (encKey k) (encFlag d ++ encPattern p) (key-exact .octets k (ok .0)) (octets-append (encFlag d) (encPattern p) (flag-octets d) (pattern-octets p (ok .1)))
 
   variant-exact : Exact (variantAt expr) encVariant (ValidVariant Deep)
   variant-exact = record { sound = variant-sound; octets = variant-octets; complete = λ {a = v} ok h. variant-complete v ok h }

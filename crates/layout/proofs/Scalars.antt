@@ -6,13 +6,14 @@ use mathlib.Core.Logic.{_↔_}
 use Prim.Native.Nat.{ℕ, zero, suc, _+_, _-_, _*_, _/_, _%_, _≤_, _<_}
 use native.Mathlib.Omega.{arith}
 use lib.ListN.{length}
-use lib.Dec.{ltb, leb, eqb}
+use lib.Dec.{ltb, eqb}
 use borrow.Author.Tests.{ltb-true, ltb-false, eqb-true, eqb-false, lt-ltb, le-ltb, eq-eqb, ne-eqb}
 use Rattle.records.specs.Bytes.{run}
 use Rattle.records.specs.Rules.{choose, utf8First, utf8Low, utf8High, utf8Rest, utf8Step, isUtf8}
 use Rattle.records.specs.Encode.{encAll}
 use Rattle.records.specs.Valid.{All}
-use Rattle.layout.specs.Utf8.{Scalar, low, high, either, encScalar, encScalars, Coded}
+use Rattle.layout.proofs.Octets.{run-end, first-above, utf8-stays, utf8-out}
+use Rattle.layout.specs.Utf8.{Scalar, low, high, encScalar, encScalars, Coded}
 
 below : {Z : Type 0} (c n : ℕ) → (c < n → Z) → (n ≤ c → Z) → Z
 below {Z} c n f g = go (ltb c n) refl
@@ -91,37 +92,35 @@ in-range lo hi r b h k = rw (le-ltb b lo h, le-ltb hi b k)
 record Later (q lo hi r : ℕ) : Type 0 where
   goes : (b : ℕ) → utf8Step q b ≡ ranged lo hi r b
 
-later-1 : Later 1 0x80 0xBF 0
-unfolding utf8Step utf8Low utf8High utf8Rest
-later-1 = record { goes = λ b. refl }
+-- Table 3-7: the later bytes by state, and the first bytes that stand alone
+record Table : Type 0 where
+  one : Later 1 0x80 0xBF 0
+  two : Later 2 0x80 0xBF 1
+  three : Later 3 0x80 0xBF 2
+  after-E0 : Later 4 0xA0 0xBF 1
+  after-ED : Later 5 0x80 0x9F 1
+  after-F0 : Later 6 0x90 0xBF 2
+  after-F4 : Later 7 0x80 0x8F 2
+  E0 : utf8First 0xE0 ≡ 4
+  ED : utf8First 0xED ≡ 5
+  F0 : utf8First 0xF0 ≡ 6
+  F4 : utf8First 0xF4 ≡ 7
 
-later-2 : Later 2 0x80 0xBF 1
-unfolding utf8Step utf8Low utf8High utf8Rest
-later-2 = record { goes = λ b. refl }
-
-later-3 : Later 3 0x80 0xBF 2
-unfolding utf8Step utf8Low utf8High utf8Rest
-later-3 = record { goes = λ b. refl }
-
-later-4 : Later 4 0xA0 0xBF 1
-unfolding utf8Step utf8Low utf8High utf8Rest
-later-4 = record { goes = λ b. refl }
-
-later-5 : Later 5 0x80 0x9F 1
-unfolding utf8Step utf8Low utf8High utf8Rest
-later-5 = record { goes = λ b. refl }
-
-later-6 : Later 6 0x90 0xBF 2
-unfolding utf8Step utf8Low utf8High utf8Rest
-later-6 = record { goes = λ b. refl }
-
-later-7 : Later 7 0x80 0x8F 2
-unfolding utf8Step utf8Low utf8High utf8Rest
-later-7 = record { goes = λ b. refl }
-
-dead-step : Later 8 0x80 0xBF 8
-unfolding utf8Step utf8Low utf8High utf8Rest
-dead-step = record { goes = λ b. refl }
+table : Table
+unfolding utf8First utf8Step utf8Low utf8High utf8Rest
+table = record {
+  one = record { goes = λ b. refl };
+  two = record { goes = λ b. refl };
+  three = record { goes = λ b. refl };
+  after-E0 = record { goes = λ b. refl };
+  after-ED = record { goes = λ b. refl };
+  after-F0 = record { goes = λ b. refl };
+  after-F4 = record { goes = λ b. refl };
+  E0 = refl;
+  ED = refl;
+  F0 = refl;
+  F4 = refl;
+}
 
 at-first : (b : ℕ) → utf8Step 0 b ≡ utf8First b
 unfolding utf8Step
@@ -131,35 +130,10 @@ first-1 : (b : ℕ) → b < 0x80 → utf8First b ≡ 0
 unfolding utf8First
 first-1 b h = rw (lt-ltb b 0x80 h)
 
-first-E0 : utf8First 0xE0 ≡ 4
-unfolding utf8First
-first-E0 = refl
-
-first-ED : utf8First 0xED ≡ 5
-unfolding utf8First
-first-ED = refl
-
-first-F0 : utf8First 0xF0 ≡ 6
-unfolding utf8First
-first-F0 = refl
-
-first-F4 : utf8First 0xF4 ≡ 7
-unfolding utf8First
-first-F4 = refl
-
 -- bytes that begin nothing
 first-between : (b : ℕ) → 0x80 ≤ b → b < 0xC2 → utf8First b ≡ 8
 unfolding utf8First
 first-between b h k = rw (le-ltb b 0x80 h, lt-ltb b 0xC2 k)
-
-first-above : (b : ℕ) → 0xF4 < b → utf8First b ≡ 8
-unfolding utf8First
-first-above b h =
-    let m : b ≡ 0xE0 → ⊥ = λ e. omega arith in
-    let n : b ≡ 0xED → ⊥ = λ e. omega arith in
-    let o : b ≡ 0xF0 → ⊥ = λ e. omega arith in
-    let p : b ≡ 0xF4 → ⊥ = λ e. omega arith in
-    rw (le-ltb b 0x80 (omega arith), le-ltb b 0xC2 (omega arith), le-ltb b 0xE0 (omega arith), ne-eqb b 0xE0 m, ne-eqb b 0xED n, le-ltb b 0xF0 (omega arith), ne-eqb b 0xF0 o, le-ltb b 0xF4 (omega arith), ne-eqb b 0xF4 p)
 
 -- Steps of the automaton
 run-first : {q : ℕ} (b : ℕ) (t : List ℕ) → utf8First b ≡ q → run utf8Step 0 (b ∷ t) ≡ run utf8Step q t
@@ -174,7 +148,7 @@ run-later {q} {lo} {hi} {r} l b t h k = ap (λ (j : ℕ). run utf8Step j t) (l .
 accept-2 : (x y : ℕ) (t : List ℕ) → 2 ≤ x → x < 32 → y < 64 → run utf8Step 0 (encScalar (x * 64 + y) ++ t) ≡ run utf8Step 0 t
 accept-2 x y t h k l =
     rw (encode-2 x y h k l)
-    (run-first (0xC0 + x) _ (first-2 (0xC0 + x) (omega arith) (omega arith)) ∙ run-later later-1 (0x80 + y) t (omega arith) (omega arith))
+    (run-first (0xC0 + x) _ (first-2 (0xC0 + x) (omega arith) (omega arith)) ∙ run-later (table .one) (0x80 + y) t (omega arith) (omega arith))
 
 accept-3 : (x y z : ℕ) (t : List ℕ) → x < 16 → y < 64 → z < 64 → 0x800 ≤ x * 4096 + y * 64 + z → Scalar (x * 4096 + y * 64 + z)
     → run utf8Step 0 (encScalar (x * 4096 + y * 64 + z) ++ t) ≡ run utf8Step 0 t
@@ -182,15 +156,15 @@ accept-3 x y z t h k l m s =
     rw (encode-3 x y z h k l m)
     (is x 0
     (λ e. let p : 0xE0 + x ≡ 0xE0 = omega arith in
-    run-first (0xE0 + x) _ (ap utf8First p ∙ first-E0) ∙ run-later later-4 (0x80 + y) _ (omega arith) (omega arith) ∙ last)
+    run-first (0xE0 + x) _ (ap utf8First p ∙ table .E0) ∙ run-later (table .after-E0) (0x80 + y) _ (omega arith) (omega arith) ∙ last)
     (λ n. is x 13
     (λ e. let p : 0xE0 + x ≡ 0xED = omega arith in
-    run-first (0xE0 + x) _ (ap utf8First p ∙ first-ED) ∙ run-later later-5 (0x80 + y) _ (omega arith) (thirteen e s) ∙ last)
+    run-first (0xE0 + x) _ (ap utf8First p ∙ table .ED) ∙ run-later (table .after-ED) (0x80 + y) _ (omega arith) (thirteen e s) ∙ last)
     (λ o. let p : 0xE0 + x ≡ 0xED → ⊥ = λ e. o (omega arith) in
-    run-first (0xE0 + x) _ (first-3 (0xE0 + x) (omega arith) (omega arith) p) ∙ run-later later-2 (0x80 + y) _ (omega arith) (omega arith) ∙ last)))
+    run-first (0xE0 + x) _ (first-3 (0xE0 + x) (omega arith) (omega arith) p) ∙ run-later (table .two) (0x80 + y) _ (omega arith) (omega arith) ∙ last)))
   where
     last : run utf8Step 1 ((0x80 + z) ∷ t) ≡ run utf8Step 0 t
-    last = run-later later-1 (0x80 + z) t (omega arith) (omega arith)
+    last = run-later (table .one) (0x80 + z) t (omega arith) (omega arith)
 
     thirteen : x ≡ 13 → Scalar (x * 4096 + y * 64 + z) → 0x80 + y ≤ 0x9F
     thirteen e (low a) = omega arith
@@ -202,14 +176,14 @@ accept-4 w x y z t h k l m n =
     rw (encode-4 w x y z h k l m)
     (is w 0
     (λ e. let p : 0xF0 + w ≡ 0xF0 = omega arith in
-    run-first (0xF0 + w) _ (ap utf8First p ∙ first-F0) ∙ run-later later-6 (0x80 + x) _ (omega arith) (omega arith) ∙ last)
+    run-first (0xF0 + w) _ (ap utf8First p ∙ table .F0) ∙ run-later (table .after-F0) (0x80 + x) _ (omega arith) (omega arith) ∙ last)
     (λ i. is w 4
     (λ e. let p : 0xF0 + w ≡ 0xF4 = omega arith in
-    run-first (0xF0 + w) _ (ap utf8First p ∙ first-F4) ∙ run-later later-7 (0x80 + x) _ (omega arith) (omega arith) ∙ last)
-    (λ j. run-first (0xF0 + w) _ (first-4 (0xF0 + w) (omega arith) (omega arith)) ∙ run-later later-3 (0x80 + x) _ (omega arith) (omega arith) ∙ last)))
+    run-first (0xF0 + w) _ (ap utf8First p ∙ table .F4) ∙ run-later (table .after-F4) (0x80 + x) _ (omega arith) (omega arith) ∙ last)
+    (λ j. run-first (0xF0 + w) _ (first-4 (0xF0 + w) (omega arith) (omega arith)) ∙ run-later (table .three) (0x80 + x) _ (omega arith) (omega arith) ∙ last)))
   where
     last : run utf8Step 2 ((0x80 + y) ∷ (0x80 + z) ∷ t) ≡ run utf8Step 0 t
-    last = run-later later-2 (0x80 + y) _ (omega arith) (omega arith) ∙ run-later later-1 (0x80 + z) t (omega arith) (omega arith)
+    last = run-later (table .two) (0x80 + y) _ (omega arith) (omega arith) ∙ run-later (table .one) (0x80 + z) t (omega arith) (omega arith)
 
 scalar-below : (c : ℕ) → Scalar c → c < 0x110000
 scalar-below c (low a) = omega arith
@@ -241,14 +215,7 @@ utf8-complete cs h = eq-eqb _ 0 (accept-all cs h)
 
 -- Back: a run that ends between scalars.
 dead : (t : List ℕ) → run utf8Step 8 t ≡ 8
-unfolding run
-dead [] = refl
-dead (b ∷ t) = ap (λ (j : ℕ). run utf8Step j t) (dead-step .goes b ∙ go (ltb b 0x80) (ltb 0xBF b)) ∙ dead t
-  where
-    go : (i j : Bool) → choose i 8 (choose j 8 8) ≡ 8
-    go true j = refl
-    go false true = refl
-    go false false = refl
+dead t = run-end utf8Step 8 utf8-stays utf8-out t
 
 no-more : {Z : Type 0} (t : List ℕ) → run utf8Step 8 t ≡ 0 → Z
 no-more t h = let z : _≡_ {A = ℕ} 8 0 = sym (dead t) ∙ h in absurd (omega arith)
@@ -331,20 +298,20 @@ coded-4 a b d e {u} h k l m n o h′ k′ f g p₀ p q r c =
 -- after the first byte, by the state that it leads to
 module _ (n : ℕ) (rest : (u : List ℕ) → length u ≤ n → run utf8Step 0 u ≡ 0 → Coded u) (a : ℕ) (v : List ℕ) (l : length v ≤ n) where
   two-bytes : 0xC2 ≤ a → a < 0xE0 → run utf8Step 1 v ≡ 0 → Coded (a ∷ v)
-  two-bytes h k r = more (omega arith) later-1 v r (λ b u p lo hi s.
+  two-bytes h k r = more (omega arith) (table .one) v r (λ b u p lo hi s.
       let z : length v ≡ suc (length u) = ap length p in
       coded-2 a b h k lo hi p refl (rest u (omega arith) s))
 
   three-bytes : {q lo hi : ℕ} → 0 < q → Later q lo hi 1 → 0xE0 ≤ a → a < 0xF0 → 0x80 ≤ lo → hi ≤ 0xBF → (a ≡ 0xE0 → 0xA0 ≤ lo) → (a ≡ 0xED → hi ≤ 0x9F)
       → run utf8Step q v ≡ 0 → Coded (a ∷ v)
-  three-bytes i j h k x y f g r = more i j v r (λ b w p lo hi r. more (omega arith) later-1 w r (λ d u p′ lo′ hi′ s.
+  three-bytes i j h k x y f g r = more i j v r (λ b w p lo hi r. more (omega arith) (table .one) w r (λ d u p′ lo′ hi′ s.
       let z : length v ≡ suc (length w) = ap length p in
       let z′ : length w ≡ suc (length u) = ap length p′ in
       coded-3 a b d h k (omega arith) (omega arith) lo′ hi′ (λ e. let w = f e in omega arith) (λ e. let w = g e in omega arith) p′ p refl (rest u (omega arith) s)))
 
   four-bytes : {q lo hi : ℕ} → 0 < q → Later q lo hi 2 → 0xF0 ≤ a → a ≤ 0xF4 → 0x80 ≤ lo → hi ≤ 0xBF → (a ≡ 0xF0 → 0x90 ≤ lo) → (a ≡ 0xF4 → hi ≤ 0x8F)
       → run utf8Step q v ≡ 0 → Coded (a ∷ v)
-  four-bytes i j h k x y f g r = more i j v r (λ b w p lo hi r. more (omega arith) later-2 w r (λ d m p′ lo′ hi′ r. more (omega arith) later-1 m r (λ c u p″ lo″ hi″ s.
+  four-bytes i j h k x y f g r = more i j v r (λ b w p lo hi r. more (omega arith) (table .two) w r (λ d m p′ lo′ hi′ r. more (omega arith) (table .one) m r (λ c u p″ lo″ hi″ s.
       let z : length v ≡ suc (length w) = ap length p in
       let z′ : length w ≡ suc (length m) = ap length p′ in
       let z″ : length m ≡ suc (length u) = ap length p″ in
@@ -356,12 +323,12 @@ module _ (n : ℕ) (rest : (u : List ℕ) → length u ≤ n → run utf8Step 0 
       below a 0x80 (λ h. coded-more a (low (omega arith)) (rest v l (goes (first-1 a h))) (sym (ap (λ (k : List ℕ). k ++ v) (encode-1 a h)))) (λ h.
       below a 0xC2 (λ k. no-more v (goes (first-between a h k))) (λ h.
       below a 0xE0 (λ k. two-bytes h k (goes (first-2 a h k))) (λ h.
-      is a 0xE0 (λ e. three-bytes (omega arith) later-4 h (omega arith) (omega arith) (omega arith) (λ i. omega arith) (λ i. absurd (omega arith)) (goes (ap utf8First e ∙ first-E0))) (λ n₁.
-      is a 0xED (λ e. three-bytes (omega arith) later-5 h (omega arith) (omega arith) (omega arith) (λ i. absurd (n₁ i)) (λ i. omega arith) (goes (ap utf8First e ∙ first-ED))) (λ n₂.
-      below a 0xF0 (λ k. three-bytes (omega arith) later-2 h k (omega arith) (omega arith) (λ i. absurd (n₁ i)) (λ i. absurd (n₂ i)) (goes (first-3 a (omega arith) k n₂))) (λ h.
-      is a 0xF0 (λ e. four-bytes (omega arith) later-6 h (omega arith) (omega arith) (omega arith) (λ i. omega arith) (λ i. absurd (omega arith)) (goes (ap utf8First e ∙ first-F0))) (λ n₃.
-      below a 0xF4 (λ k. four-bytes (omega arith) later-3 h (omega arith) (omega arith) (omega arith) (λ i. absurd (n₃ i)) (λ i. absurd (omega arith)) (goes (first-4 a (omega arith) k))) (λ h′.
-      is a 0xF4 (λ e. four-bytes (omega arith) later-7 h (omega arith) (omega arith) (omega arith) (λ i. absurd (n₃ i)) (λ i. omega arith) (goes (ap utf8First e ∙ first-F4))) (λ n₄.
+      is a 0xE0 (λ e. three-bytes (omega arith) (table .after-E0) h (omega arith) (omega arith) (omega arith) (λ i. omega arith) (λ i. absurd (omega arith)) (goes (ap utf8First e ∙ table .E0))) (λ n₁.
+      is a 0xED (λ e. three-bytes (omega arith) (table .after-ED) h (omega arith) (omega arith) (omega arith) (λ i. absurd (n₁ i)) (λ i. omega arith) (goes (ap utf8First e ∙ table .ED))) (λ n₂.
+      below a 0xF0 (λ k. three-bytes (omega arith) (table .two) h k (omega arith) (omega arith) (λ i. absurd (n₁ i)) (λ i. absurd (n₂ i)) (goes (first-3 a (omega arith) k n₂))) (λ h.
+      is a 0xF0 (λ e. four-bytes (omega arith) (table .after-F0) h (omega arith) (omega arith) (omega arith) (λ i. omega arith) (λ i. absurd (omega arith)) (goes (ap utf8First e ∙ table .F0))) (λ n₃.
+      below a 0xF4 (λ k. four-bytes (omega arith) (table .three) h (omega arith) (omega arith) (omega arith) (λ i. absurd (n₃ i)) (λ i. absurd (omega arith)) (goes (first-4 a (omega arith) k))) (λ h′.
+      is a 0xF4 (λ e. four-bytes (omega arith) (table .after-F4) h (omega arith) (omega arith) (omega arith) (λ i. absurd (n₃ i)) (λ i. omega arith) (goes (ap utf8First e ∙ table .F4))) (λ n₄.
       no-more v (goes (first-above a (omega arith))))))))))))
     where
       goes : {q : ℕ} → utf8First a ≡ q → run utf8Step q v ≡ 0

@@ -3,9 +3,8 @@ use mathlib.Core.Path.{_≡_, refl, ap, sym, subst, _∙_}
 use mathlib.Core.List.{List, [], _∷_, _++_, append-assoc}
 use Prim.Native.Nat.{ℕ, zero, suc, _+_, _-_, _≤_, _<_}
 use native.Mathlib.Omega.{arith}
-use native.Mathlib.Numerals.{add-one}
-use lib.ListN.{length, take, drop, getD, length-take, length-drop, length-append, take-append-drop}
-use lib.Seq.{drop-drop, take-append-seam, drop-append-seam, length-take-le, take-at, drop-at, drop-cons}
+use lib.ListN.{length, take, drop, getD, length-drop, length-append, take-append-drop}
+use lib.Seq.{drop-drop, take-append-seam, drop-append-seam, length-take-le, drop-cons}
 use Rattle.records.specs.Bytes.{part}
 use Rattle.layout.specs.Exact.{Stands, Octets}
 

@@ -4,16 +4,16 @@ use mathlib.Core.Bool.{Bool, true, false}
 use mathlib.Core.List.{List, [], _∷_, _++_}
 use Prim.Native.Nat.{ℕ, zero, suc, _+_, _-_, _^_, _≤_, _<_}
 use native.Mathlib.Omega.{arith}
-use lib.ListN.{length, getD}
+use lib.ListN.{length}
 use lib.Dec.{eqb, ltb, leb}
-use borrow.Author.Tests.{eqb-true, eqb-false, ltb-true, leb-true, lt-ltb, le-leb, eq-eqb}
+use borrow.Author.Tests.{eqb-true, ltb-true, leb-true, lt-ltb, le-leb, eq-eqb}
 use Rattle.records.specs.Got.{Got, got, bad, Parser, after, test, pick}
 use Rattle.records.specs.Bytes.{be, toBe, part, byteAt, bytesAt, numberAt, spanAt}
-use Rattle.records.specs.Decode.{ruledAt, many}
+use Rattle.records.specs.Decode.{as-a, ruledAt, many}
 use Rattle.records.specs.Encode.{encStr}
 use Rattle.records.specs.Valid.{Fits, Ruled}
 use Rattle.layout.specs.Exact.{Exact, Stands, Octets}
-use Rattle.layout.proofs.Stands.{stands-none, none-ends, octets-part, length-part, stands-length, stands-of, stands-byte, byte-is, bytes-are, join, split}
+use Rattle.layout.proofs.Stands.{stands-none, none-ends, octets-part, length-part, stands-length, stands-byte, byte-is, bytes-are, join, split}
 use Rattle.layout.proofs.Octets.{octets-append, octets-toBe}
 use Rattle.layout.proofs.Numbers.{length-toBe, be-toBe, toBe-be, be-small}
 
@@ -231,3 +231,32 @@ module _ {A L : Type 0} {nil : L} {cons : A → L → L} {p : Parser A} {enc : A
 
   pub many-exact : (n : ℕ) → Exact (many nil cons n p) encAll (λ l. AllOk l × (count l ≡ n))
   many-exact n = record { sound = many-sound n; octets = λ l ok. many-octets n l (ok .0) (ok .1); complete = λ {a = l} ok h. many-complete n l (ok .0) (ok .1) h }
+
+-- A tag 1 or 2, and what each announces: what the two kinds must give
+pub record Two {A B C : Type 0} (f : A → C) (g : B → C) (encA : A → List ℕ) (encB : B → List ℕ) (enc : C → List ℕ) (OkA : A → Type 0) (OkB : B → Type 0) (Ok : C → Type 0) : Type 1 where
+  pub view : (Z : C → Type 0) → ((a : A) → Z (f a)) → ((b : B) → Z (g b)) → (c : C) → Z c
+  pub one : (a : A) → (enc (f a) ≡ 1 ∷ encA a) × (OkA a → Ok (f a)) × (Ok (f a) → OkA a)
+  pub two : (b : B) → (enc (g b) ≡ 2 ∷ encB b) × (OkB b → Ok (g b)) × (Ok (g b) → OkB b)
+
+module _ {A B C : Type 0} {f : A → C} {g : B → C} {encA : A → List ℕ} {encB : B → List ℕ} {enc : C → List ℕ} {OkA : A → Type 0} {OkB : B → Type 0} {Ok : C → Type 0}
+    {p : Parser A} {q : Parser B} (c : Two f g encA encB enc OkA OkB Ok) (x : Exact p encA OkA) (y : Exact q encB OkB) where
+  abbrev twoAt : Parser C
+  twoAt s at = after (byteAt s at) (λ tag e. pick (eqb tag 1) (as-a f (p s e)) (test (eqb tag 2) (as-a g (q s e))))
+
+  two-complete : {s : List ℕ} {at e : ℕ} (v : C) → Ok v → Stands s at e (enc v) → twoAt s at ≡ got v e
+  unfolding pick test
+  two-complete {s} {at} {e} = c .view (λ v. Ok v → Stands s at e (enc v) → twoAt s at ≡ got v e)
+      (λ a ok h. byte-ahead _ (bytes-are (c .one a .0) h) (λ i b r. as-last x f (c .one a .2 ok) r))
+      (λ z ok h. byte-ahead _ (bytes-are (c .two z .0) h) (λ i b r. as-last y g (c .two z .2 ok) r))
+
+  pub two-exact : Exact twoAt enc Ok
+  two-exact = record {
+    sound = λ {s} {at} oct l h.
+        byte-took h (λ tag i b h.
+        tag-took tag 1 h (λ e h. took x oct (b .within) h (λ a j ok st h. gives h (Read enc Ok s at) (c .one a .1 ok, bytes-are (sym (c .one a .0)) (tagged e b st)))) (λ h.
+        last-took tag 2 h (λ e h. took y oct (b .within) h (λ z j ok st h. gives h (Read enc Ok s at) (c .two z .1 ok, bytes-are (sym (c .two z .0)) (tagged e b st))))));
+    octets = c .view (λ v. Ok v → Octets (enc v))
+        (λ a ok. rw (c .one a .0) (omega arith, x .octets a (c .one a .2 ok)))
+        (λ z ok. rw (c .two z .0) (omega arith, y .octets z (c .two z .2 ok)));
+    complete = λ {a = v} ok h. two-complete v ok h;
+  }

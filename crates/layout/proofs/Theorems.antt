@@ -1,16 +1,16 @@
 -- A byte string decodes to a tree exactly when it is that tree's encoding and the tree is valid: patterns, entries, resource images, stores,
 -- arguments images. So equal bytes mean equal trees, and each valid tree has one image.
-use mathlib.Core.Path.{_≡_, refl, ap, sym, subst, _∙_}
-use mathlib.Core.List.{List, [], _∷_, _++_}
+use mathlib.Core.Path.{_≡_, ap, sym, subst, _∙_}
+use mathlib.Core.List.{List, [], _++_}
 use mathlib.Core.Logic.{_↔_}
-use Prim.Native.Nat.{ℕ, zero, suc, _+_, _-_, _≤_, _<_}
+use Prim.Native.Nat.{ℕ, zero, suc, _+_, _-_, _≤_}
 use native.Mathlib.Omega.{arith}
 use lib.ListN.{length, take}
-use Rattle.records.specs.Got.{Got, got, Parser}
+use Rattle.records.specs.Got.{got, Parser}
 use Rattle.records.specs.Bytes.{part}
 use Rattle.records.specs.Tree.{Pattern, Expression, Inline}
 use Rattle.records.specs.Decode.{patternAt, expression, inline, exprAt, inlineAt, entryPatternAt}
-use Rattle.records.specs.Images.{Entry, Store, Argument, kindAt, entryAt, resourceAt, resourceOf, storeOf, argumentsAt, argumentsOf}
+use Rattle.records.specs.Images.{Entry, Store, Argument, kindAt, entryAt, resourceAt, resourceOf, storeOf, argumentsOf}
 use Rattle.records.specs.Encode.{encPattern, encExpression, encInline, encEntry, encResource, encStore, encArgumentsImage}
 use Rattle.records.specs.Valid.{ValidPattern, ValidExpression, ValidInline, ValidEntryPattern, ValidEntry, ValidResource, ValidStore, ValidArgumentsImage}
 use Rattle.layout.specs.Exact.{Stands, Octets, Exact}
