@@ -347,3 +347,91 @@ utf8-sound t h = coded (length t) t (omega arith) (eqb-true _ 0 h)
 
 pub utf8-exactly : (t : List ℕ) → (isUtf8 t ≡ true) ↔ Coded t
 utf8-exactly t = (λ h. utf8-sound t h, λ k. ap isUtf8 (k .are) ∙ utf8-complete (k .scalars) (k .valid))
+
+-- The form of a scalar, by its digits
+data Form (c : ℕ) : Type 0 where
+  form-1 : c < 0x80 → encScalar c ≡ c ∷ [] → Form c
+  form-2 : (x y : ℕ) → c ≡ x * 64 + y → x < 32 → encScalar c ≡ (0xC0 + x) ∷ (0x80 + y) ∷ [] → Form c
+  form-3 : (x y z : ℕ) → c ≡ x * 4096 + y * 64 + z → x < 16 → encScalar c ≡ (0xE0 + x) ∷ (0x80 + y) ∷ (0x80 + z) ∷ [] → Form c
+  form-4 : (w x y z : ℕ) → c ≡ w * 262144 + x * 4096 + y * 64 + z → encScalar c ≡ (0xF0 + w) ∷ (0x80 + x) ∷ (0x80 + y) ∷ (0x80 + z) ∷ [] → Form c
+
+form : (c : ℕ) → Form c
+form c =
+    below c 0x80 (λ h. form-1 h (encode-1 c h)) (λ h.
+    below c 0x800
+    (λ k. let e : c / 64 * 64 + c % 64 ≡ c = omega arith in
+    form-2 (c / 64) (c % 64) (sym e) (omega arith) (ap encScalar (sym e) ∙ encode-2 (c / 64) (c % 64) (omega arith) (omega arith) (omega arith)))
+    (λ k. below c 0x10000
+    (λ l. let e : c / 4096 * 4096 + c / 64 % 64 * 64 + c % 64 ≡ c = omega arith in
+    form-3 (c / 4096) (c / 64 % 64) (c % 64) (sym e) (omega arith)
+    (ap encScalar (sym e) ∙ encode-3 (c / 4096) (c / 64 % 64) (c % 64) (omega arith) (omega arith) (omega arith) (omega arith)))
+    (λ l. let e : c / 262144 * 262144 + c / 4096 % 64 * 4096 + c / 64 % 64 * 64 + c % 64 ≡ c = omega arith in
+    form-4 (c / 262144) (c / 4096 % 64) (c / 64 % 64) (c % 64) (sym e)
+    (ap encScalar (sym e) ∙ encode-4 (c / 262144) (c / 4096 % 64) (c / 64 % 64) (c % 64) (omega arith) (omega arith) (omega arith) (omega arith)))))
+
+-- two that begin one list
+module _ (c d : ℕ) (u v : List ℕ) (h : encScalar c ++ u ≡ encScalar d ++ v) where
+  firsts : {a b : ℕ} {x y : List ℕ} → encScalar c ≡ a ∷ x → encScalar d ≡ b ∷ y → (a ≡ b) × (x ++ u ≡ y ++ v)
+  firsts {a} {b} {x} {y} p q =
+      let k : a ∷ (x ++ u) ≡ b ∷ (y ++ v) = sym (ap (λ (l : List ℕ). l ++ u) p) ∙ h ∙ ap (λ (l : List ℕ). l ++ v) q in
+      ((cc), (cc))
+
+  same-forms : Form c → Form d → (c ≡ d) × (u ≡ v)
+  same-forms (form-1 a p) (form-1 b q) = firsts p q
+  same-forms (form-1 a p) (form-2 x y e l q) = let k = firsts p q .0 in absurd (omega arith)
+  same-forms (form-1 a p) (form-3 x y z e l q) = let k = firsts p q .0 in absurd (omega arith)
+  same-forms (form-1 a p) (form-4 w x y z e q) = let k = firsts p q .0 in absurd (omega arith)
+  same-forms (form-2 x y e l p) (form-1 b q) = let k = firsts p q .0 in absurd (omega arith)
+  same-forms (form-2 x y e l p) (form-2 x′ y′ e′ l′ q) =
+      let k = firsts p q in
+      let i : 0xC0 + x ≡ 0xC0 + x′ = k .0 in
+      let m : (0x80 + y) ∷ u ≡ (0x80 + y′) ∷ v = k .1 in
+      let j : 0x80 + y ≡ 0x80 + y′ = cc in
+      (omega arith, (cc))
+  same-forms (form-2 x y e l p) (form-3 x′ y′ z′ e′ l′ q) = let k = firsts p q .0 in absurd (omega arith)
+  same-forms (form-2 x y e l p) (form-4 w′ x′ y′ z′ e′ q) = let k = firsts p q .0 in absurd (omega arith)
+  same-forms (form-3 x y z e l p) (form-1 b q) = let k = firsts p q .0 in absurd (omega arith)
+  same-forms (form-3 x y z e l p) (form-2 x′ y′ e′ l′ q) = let k = firsts p q .0 in absurd (omega arith)
+  same-forms (form-3 x y z e l p) (form-3 x′ y′ z′ e′ l′ q) =
+      let k = firsts p q in
+      let i : 0xE0 + x ≡ 0xE0 + x′ = k .0 in
+      let m : (0x80 + y) ∷ (0x80 + z) ∷ u ≡ (0x80 + y′) ∷ (0x80 + z′) ∷ v = k .1 in
+      let j : 0x80 + y ≡ 0x80 + y′ = cc in
+      let o : 0x80 + z ≡ 0x80 + z′ = cc in
+      (omega arith, (cc))
+  same-forms (form-3 x y z e l p) (form-4 w′ x′ y′ z′ e′ q) = let k = firsts p q .0 in absurd (omega arith)
+  same-forms (form-4 w x y z e p) (form-1 b q) = let k = firsts p q .0 in absurd (omega arith)
+  same-forms (form-4 w x y z e p) (form-2 x′ y′ e′ l′ q) = let k = firsts p q .0 in absurd (omega arith)
+  same-forms (form-4 w x y z e p) (form-3 x′ y′ z′ e′ l′ q) = let k = firsts p q .0 in absurd (omega arith)
+  same-forms (form-4 w x y z e p) (form-4 w′ x′ y′ z′ e′ q) =
+      let k = firsts p q in
+      let i : 0xF0 + w ≡ 0xF0 + w′ = k .0 in
+      let m : (0x80 + x) ∷ (0x80 + y) ∷ (0x80 + z) ∷ u ≡ (0x80 + x′) ∷ (0x80 + y′) ∷ (0x80 + z′) ∷ v = k .1 in
+      let j : 0x80 + x ≡ 0x80 + x′ = cc in
+      let o : 0x80 + y ≡ 0x80 + y′ = cc in
+      let r : 0x80 + z ≡ 0x80 + z′ = cc in
+      (omega arith, (cc))
+
+encoded-more : (c : ℕ) (t : List ℕ) → encScalar c ++ t ≡ [] → ⊥
+encoded-more c t h = go (form c)
+  where
+    none : {a : ℕ} {x : List ℕ} → encScalar c ≡ a ∷ x → ⊥
+    none {a} {x} p = let k : a ∷ (x ++ t) ≡ [] = sym (ap (λ (l : List ℕ). l ++ t) p) ∙ h in let z : _≡_ {A = ℕ} 0 1 = cc in omega arith
+
+    go : Form c → ⊥
+    go (form-1 a p) = none p
+    go (form-2 x y e l p) = none p
+    go (form-3 x y z e l p) = none p
+    go (form-4 w x y z e p) = none p
+
+-- Bytes are the encoding of at most one list of scalars.
+pub scalars-injective : (cs ds : List ℕ) → encScalars cs ≡ encScalars ds → cs ≡ ds
+unfolding encScalars encAll
+scalars-injective [] [] h = refl
+scalars-injective [] (d ∷ ds) h = absurd (encoded-more d _ (sym h))
+scalars-injective (c ∷ cs) [] h = absurd (encoded-more c _ h)
+scalars-injective (c ∷ cs) (d ∷ ds) h =
+    let k = same-forms c d _ _ h (form c) (form d) in
+    let i : cs ≡ ds = scalars-injective cs ds (k .1) in
+    let j : c ≡ d = k .0 in
+    cc
