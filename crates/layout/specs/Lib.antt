@@ -1,0 +1,3 @@
+pub mod Exact
+pub mod Utf8
+pub mod Example
