@@ -1,0 +1,4 @@
+-- Laws that the proofs of several functions cite.
+pub mod Place
+pub mod Reading
+pub mod Recording
