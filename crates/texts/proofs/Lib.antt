@@ -2,3 +2,4 @@
 pub mod Place
 pub mod Reading
 pub mod Recording
+pub mod Examples

@@ -326,8 +326,9 @@ pub fn put_bytes(d: &mut [u8], at: usize, src: &[u8]) -> Wrote
     if d.len() - n < at {
         return Wrote::Full;
     }
+    let end = at + n;
     write_bytes(d, at, src);
-    Wrote::At(at + n)
+    Wrote::At(end)
 }
 
 // Is there room in a list of `size` bytes, at `at`, for a record of n bytes?

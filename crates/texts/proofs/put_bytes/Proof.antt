@@ -16,11 +16,11 @@ sub-if2 c = search needs
 returns-2 : tie.Need-returns-2
 returns-2 c = appended-full _ _ _ (omega arith)
 
+add-end : tie.Need-add-end
+add-end c = search needs
+
 write-bytes-requires : tie.Need-write-bytes-requires
 write-bytes-requires c κs = search needs
-
-add-t5 : tie.Need-add-t5
-add-t5 c = search needs
 
 same-length : tie.Need-same-length
 same-length c = search needs
@@ -29,4 +29,4 @@ returns-3 : tie.Need-returns-3
 returns-3 c = appended-fits _ _ _ (omega arith) refl (c .before .before .write-bytes .ensures ∙ paste-over _ _ _)
 
 pub put-bytes-spec : {M : Type 1} → statement M
-put-bytes-spec = tie.close (tie.spec returns sub-if2 returns-2 write-bytes-requires add-t5 same-length returns-3)
+put-bytes-spec = tie.close (tie.spec returns sub-if2 returns-2 add-end write-bytes-requires same-length returns-3)
