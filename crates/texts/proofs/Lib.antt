@@ -1,0 +1,5 @@
+-- Laws that the proofs of several functions cite.
+pub mod Place
+pub mod Reading
+pub mod Recording
+pub mod Examples

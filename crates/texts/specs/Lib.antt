@@ -1,0 +1,3 @@
+pub mod Append
+pub mod Unescape
+pub mod Report
