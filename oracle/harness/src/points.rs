@@ -15,7 +15,7 @@ const FAN: &str = r#"
 
 /// Sources of `a` and what it needs. `n` is 2, `m` is none, `s` is `one`, and
 /// `q` is missing.
-const POINTS: [&str; 67] = [
+const POINTS: [&str; 68] = [
     // Cut short: names, `???`, marks, arguments that still resolve.
     "a = x { g }",
     "a = x { g }{ p }",
@@ -41,6 +41,7 @@ const POINTS: [&str; 67] = [
     "a = x { b }\nb = x { b }",
     "a = { b }\nb = { b }",
     "a = { $n -> [two] x *[o] { a } }",
+    "a = { 1 -> *[o] x{ b } }\nb = x{ b }",
     "a = { b.x } { b.y }\nb = v\n.x = { b.y }\n.y = { b.x }\n.x = late",
     "a = { NUMBER(a) -> [x] x *[o] { a } }",
     // Terms and their arguments.
