@@ -126,3 +126,25 @@ and-left false y h = h
 pub string-append : (a b : List ℕ) → isString a ≡ true → unescape (a ++ b) ≡ unescape a ++ unescape b
 unfolding isString
 string-append a b h = unescape-append a b (eqb-true _ _ (and-left (eqb (run escapeStep 0 a) 0) _ h))
+
+-- In such a text each backslash begins an escape: none stands for itself.
+scalar-begins : (n : ℕ) (t : List ℕ) → Whole 0 n t [] → 0 < moreOf (scalarOf n t)
+unfolding scalarOf scalarPiece moreOf
+scalar-begins n t w = rw (w .read) (omega arith)
+
+escape-begins-at : (x y z u : Bool) (t : List ℕ) → run escapeStep (choose x 0 (choose y 0 (choose z 6 (choose u 8 2)))) t ≡ 0 → 0 < moreOf (given x (Byte 92 1) (given y (Byte 34 1) (given z (scalarOf 4 t) (given u (scalarOf 6 t) (Byte 92 0)))))
+unfolding moreOf
+escape-begins-at true y z u t h = omega arith
+escape-begins-at false true z u t h = omega arith
+escape-begins-at false false true u t h = scalar-begins 4 t (digits-whole 3 6 0 t [] refl h)
+escape-begins-at false false false true t h = scalar-begins 6 t (digits-whole 5 8 0 t [] refl h)
+escape-begins-at false false false false t h = not-broken t h
+
+escape-begins : (t : List ℕ) → run escapeStep 1 t ≡ 0 → 0 < moreOf (escapeOf t)
+unfolding run escapeOf escapeStep
+escape-begins [] h = absurd (omega arith)
+escape-begins (c ∷ t) h = escape-begins-at (eqb c 92) (eqb c 34) (eqb c 117) (eqb c 85) t h
+
+pub backslash-escapes : (t : List ℕ) → run escapeStep 0 (92 ∷ t) ≡ 0 → 0 < moreOf (pieceOf 92 t)
+unfolding run escapeStep pieceOf
+backslash-escapes t h = escape-begins t h
