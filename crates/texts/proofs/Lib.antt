@@ -3,3 +3,5 @@ pub mod Place
 pub mod Reading
 pub mod Recording
 pub mod Examples
+pub mod Joining
+pub mod WellFormed

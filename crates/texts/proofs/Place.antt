@@ -112,6 +112,10 @@ module _ (d : List ℕ) (at : ℕ) (bs : List ℕ) where
   unfolding appended attempt
   appended-full h = rw (lt-leb _ _ h)
 
+-- no bytes always fit, and change nothing
+pub appended-none : (d : List ℕ) (at : ℕ) → at ≤ length d → appended d at [] ≡ (At at, d)
+appended-none d at h = sym (appended-fits d at [] (omega arith) (omega arith) (sym (over-none d at)))
+
 -- what the answer says
 module _ (d : List ℕ) (at : ℕ) (bs : List ℕ) {r : Wrote} {e : List ℕ} where
   pub attempt-at : (t : Bool) {p : ℕ} → (r, e) ≡ attempt t d at bs → r ≡ At p → (t ≡ true) × (p ≡ at + length bs) × (e ≡ over d at bs)

@@ -84,6 +84,10 @@ module _ (d : List ℕ) (at : ℕ) (e : Error) where
       let f = room-true (length d) at (length (encError e)) refl (w .0) in
       (f .2, f .1, w .1, w .2)
 
+  pub recorded-no : {r : Wrote} {out : List ℕ} → (r, out) ≡ recorded d at e → r ≡ Full → (roomFor (length d) at (length (encError e)) ≡ false) × (out ≡ d)
+  unfolding recorded
+  recorded-no h q = attempt-no d at (encError e) _ h q
+
 -- what is written, piece by piece
 length-head : (n tag : ℕ) → length (toBe 2 n ++ (tag ∷ [])) ≡ 3
 unfolding toBe

@@ -22,7 +22,8 @@ unfoldable pub attempt : Bool → List ℕ → ℕ → List ℕ → Wrote × Lis
 attempt true d at bs = (At (at + length bs), over d at bs)
 attempt false d at bs = (Full, d)
 
--- "the next write passes the buffer": where it does not, the bytes are written. Bytes none in number always fit, up to the buffer's end
+-- "the next write passes the buffer" (15 for a text, 16 for a workspace): where it does not, the bytes are written. No bytes at all fit up to the
+-- buffer's very end.
 unfoldable pub appended : List ℕ → ℕ → List ℕ → Wrote × List ℕ
 appended d at bs = attempt (leb (at + length bs) (length d)) d at bs
 

@@ -44,7 +44,7 @@ optionOf false t = none
 unfoldable pub roomFor : ℕ → ℕ → ℕ → Bool
 roomFor size at n = leb n 65537 && (leb (at + n) 4294967295 && leb (at + n) size)
 
--- "the next record passes the list buffer": where it does not, it is written
+-- "the next record passes the list buffer" (7): where it does not, it is written
 unfoldable pub recorded : List ℕ → ℕ → Error → Wrote × List ℕ
 recorded d at e = attempt (roomFor (length d) at (length (encError e))) d at (encError e)
 

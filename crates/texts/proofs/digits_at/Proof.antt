@@ -1,5 +1,4 @@
 -- `texts::digits_at` meets its contract: the digits that are left, after those that wrote v, give the same as all; k digits write a number below 16^k.
--- Made from Proof.answers, which stands beside it: change that, and run `proofs make`.
 use Prim.Native.Nat.{_-_, _<_, _^_, _≤_}
 use Rattle.texts.proofs.Reading.{digits-bound, digits-done, digits-none, digits-not, digits-short, digits-turn}
 use Rattle.texts.specs.Unescape.{digitsOf}
@@ -31,7 +30,7 @@ is-hex-requires c κs = search needs
 mul-v : tie.Need-mul-v Inv-loop μ-loop
 mul-v c =
     let small = digits-bound _ _ _ 0 (c .before .before .before .before .loop-test .taken) (c .before .before .before .before .before .loop .inv .1) (c .before .before .before .before .before .before .before .pre .1) (c .before .before .before .before .before .loop .inv .2) (omega arith) in
-    let z = small in omega arith
+    omega arith
 
 hex-value-requires : tie.Need-hex-value-requires Inv-loop μ-loop
 hex-value-requires c κs = search needs
@@ -42,7 +41,7 @@ wide-requires c κs = search needs
 add-v : tie.Need-add-v Inv-loop μ-loop
 add-v c =
     let below = digits-bound _ _ _ (c .wide .result) (c .before .before .before .before .before .before .loop-test .taken) (c .before .before .before .before .before .before .before .loop .inv .1) (c .before .before .before .before .before .before .before .before .before .pre .1) (c .before .before .before .before .before .before .before .loop .inv .2) (rw (c .wide .ensures .0) ((c .before .hex-value .ensures (sym (c .before .before .before .is-hex .ensures) ∙ c .before .before .if2 .taken)) .1)) in
-    let z = below in omega arith
+    omega arith
 
 returns-2 : tie.Need-returns-2 Inv-loop μ-loop
 returns-2 c = sym (digits-not _ _ _ _ (c .before .before .before .if1 .left) (c .before .before .before .before .loop-test .taken) (sym (c .before .is-hex .ensures) ∙ c .if2 .left)) ∙ c .before .before .before .before .before .loop .inv .3

@@ -1,5 +1,4 @@
 -- `texts::escape_at` meets its contract: the branches are those of `escapeOf`.
--- Made from Proof.answers, which stands beside it: change that, and run `proofs make`.
 use Rattle.texts.proofs.Reading.{escape-byte, escape-end}
 use Rattle.texts.specs.Unescape.{escapeOf}
 use borrow.Author.Needs.{needs}

@@ -1,5 +1,4 @@
 -- `texts::fill_zero` meets its contract: the bytes passed are zeros, and the others as they were.
--- Made from Proof.answers, which stands beside it: change that, and run `proofs make`.
 use Prim.Native.Nat.{_-_, _≤_}
 use Rattle.texts.proofs.Place.{fill-end, fill-turn, over-none}
 use Rattle.texts.specs.Append.{over}

@@ -1,5 +1,4 @@
 -- `texts::has_backslash` meets its contract: what is left has a backslash exactly if the whole has one.
--- Made from Proof.answers, which stands beside it: change that, and run `proofs make`.
 use Prim.Native.Nat.{_-_, _≤_}
 use Rattle.texts.proofs.Reading.{backslash-here, backslash-next, backslash-none}
 use Rattle.texts.specs.Unescape.{hasBackslash}

@@ -1,5 +1,4 @@
 -- `texts::hex_value` meets its contract: the branches are those of `hexValue`; the others have no digit.
--- Made from Proof.answers, which stands beside it: change that, and run `proofs make`.
 use Prim.Native.Nat.{_≤_}
 use Rattle.texts.proofs.Reading.{hex-before, hex-between, hex-lower, hex-past, never, value-digit, value-lower, value-upper}
 use borrow.Author.Needs.{needs}

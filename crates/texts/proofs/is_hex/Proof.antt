@@ -1,5 +1,4 @@
 -- `texts::is_hex` meets its contract: the branches go through the bytes from the lowest up.
--- Made from Proof.answers, which stands beside it: change that, and run `proofs make`.
 use Rattle.texts.proofs.Reading.{hex-before, hex-between, hex-digit, hex-lower, hex-past, hex-upper}
 use mathlib.Core.Path.{sym}
 use Rattle.texts.proofs.is_hex.Statement.{statement}

@@ -1,5 +1,4 @@
 -- `texts::kind_byte` meets its contract.
--- Made from Proof.answers, which stands beside it: change that, and run `proofs make`.
 use Rattle.records.specs.Encode.{encKind}
 use Rattle.texts.specs.Report.{kindOf}
 use borrow.Author.Needs.{needs}

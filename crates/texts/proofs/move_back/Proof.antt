@@ -1,5 +1,4 @@
 -- `texts::move_back` meets its contract: outside the range nothing is done, within it `move_up` does it.
--- Made from Proof.answers, which stands beside it: change that, and run `proofs make`.
 use Rattle.texts.proofs.Place.{moved-back, not-inside, not-moved}
 use borrow.Author.Needs.{needs}
 use mathlib.Core.Path.{_∙_, sym}

@@ -1,5 +1,4 @@
 -- `texts::move_up` meets its contract: from the end down, what was passed stands at its new place, and nothing that is still to be read was written.
--- Made from Proof.answers, which stands beside it: change that, and run `proofs make`.
 use Prim.Native.Nat.{_+_, _≤_}
 use Rattle.records.specs.Bytes.{part}
 use Rattle.texts.proofs.Place.{move-end, move-start, move-turn}

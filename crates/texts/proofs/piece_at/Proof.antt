@@ -1,5 +1,4 @@
 -- `texts::piece_at` meets its contract: a backslash, or another byte.
--- Made from Proof.answers, which stands beside it: change that, and run `proofs make`.
 use Rattle.texts.specs.Unescape.{pieceOf}
 use borrow.Author.Needs.{needs}
 use borrow.Author.Tests.{eq-eqb, ne-eqb}

@@ -1,5 +1,4 @@
 -- `texts::piece_len` meets its contract.
--- Made from Proof.answers, which stands beside it: change that, and run `proofs make`.
 use Rattle.texts.specs.Unescape.{readsAs}
 use borrow.Author.Needs.{needs}
 use Rattle.texts.proofs.piece_len.Statement.{statement}

@@ -1,5 +1,4 @@
 -- `texts::piece_more` meets its contract.
--- Made from Proof.answers, which stands beside it: change that, and run `proofs make`.
 use Rattle.texts.specs.Unescape.{moreOf}
 use borrow.Author.Needs.{needs}
 use Rattle.texts.proofs.piece_more.Statement.{statement}

@@ -1,5 +1,4 @@
 -- `texts::plain_tag` meets its contract: a record of one byte, and that is the tag.
--- Made from Proof.answers, which stands beside it: change that, and run `proofs make`.
 use Rattle.records.specs.Bytes.{toBe}
 use Rattle.records.specs.Errors.{encError, encRecord}
 use Rattle.texts.specs.Report.{plainOf}

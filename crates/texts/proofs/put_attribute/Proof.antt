@@ -1,5 +1,4 @@
 -- `texts::put_attribute` meets its contract.
--- Made from Proof.answers, which stands beside it: change that, and run `proofs make`.
 use Rattle.texts.proofs.Place.{length-over}
 use Rattle.texts.proofs.Recording.{announced-written, attribute-is, attribute-length, recorded-fits, recorded-full, recorded-long, room-true}
 use Rattle.texts.specs.Append.{over}
@@ -38,7 +37,7 @@ referred-byte-requires c κs = search needs
 write-named-requires : tie.Need-write-named-requires
 write-named-requires c κs =
     let room = room-true _ _ _ (c .before .before .before .room-for .ensures) (c .before .before .if3 .taken) in
-    let f = room in omega arith
+    omega arith
 
 add-list : tie.Need-add-list
 add-list c = search needs
@@ -46,12 +45,12 @@ add-list c = search needs
 add-list-2 : tie.Need-add-list-2
 add-list-2 c =
     let room = room-true _ _ _ (c .before .before .before .before .before .before .room-for .ensures) (c .before .before .before .before .before .if3 .taken) in
-    let f = room in omega arith
+    omega arith
 
 slice-write-list : tie.Need-slice-write-list
 slice-write-list c =
     let room = room-true _ _ _ (c .before .before .before .before .before .before .room-for .ensures) (c .before .before .before .before .before .if3 .taken) in
-    let f = room in omega arith
+    omega arith
 
 add-write-str : tie.Need-add-write-str
 add-write-str c = search needs
@@ -59,12 +58,12 @@ add-write-str c = search needs
 add-write-str-2 : tie.Need-add-write-str-2
 add-write-str-2 c =
     let room = room-true _ _ _ (c .before .before .before .before .before .before .before .room-for .ensures) (c .before .before .before .before .before .before .if3 .taken) in
-    let f = room in omega arith
+    omega arith
 
 write-str-requires : tie.Need-write-str-requires
 write-str-requires c κs =
     let room = room-true _ _ _ (c .before .before .before .before .before .before .before .room-for .ensures) (c .before .before .before .before .before .before .if3 .taken) in
-    let f = room in simp length-set (omega arith)
+    simp length-set (omega arith)
 
 add-t17 : tie.Need-add-t17
 add-t17 c = search needs
@@ -75,19 +74,19 @@ add-t16 c = search needs
 add-t22 : tie.Need-add-t22
 add-t22 c =
     let room = room-true _ _ _ (c .before .before .before .before .before .before .before .before .before .before .room-for .ensures) (c .before .before .before .before .before .before .before .before .before .if3 .taken) in
-    let f = room in omega arith
+    omega arith
 
 same-length : tie.Need-same-length
 same-length c =
     let room = room-true _ _ _ (c .before .before .before .before .before .before .before .before .before .before .room-for .ensures) (c .before .before .before .before .before .before .before .before .before .if3 .taken) in
     let bytes = announced-written (c .before .before .before .before .before .before .before .before .before .before .before .before .before .before .before .before .args .list .now) (c .before .before .before .before .before .before .before .before .before .before .before .before .before .before .before .before .args .at) _ _ _ _ (c .before .before .before .before .before .before .write-named .ensures) 1 _ ((room-true _ _ _ (c .before .before .before .before .before .before .before .before .before .before .room-for .ensures) (c .before .before .before .before .before .before .before .before .before .if3 .taken)) .2) (c .before .before .write-str .ensures) ∙ ap (over (c .before .before .before .before .before .before .before .before .before .before .before .before .before .before .before .before .args .list .now) (c .before .before .before .before .before .before .before .before .before .before .before .before .before .before .before .before .args .at)) (attribute-is (c .before .before .before .before .before .before .before .before .before .before .before .before .before .before .before .before .args .id .now) (referredOf (c .before .before .before .before .before .before .before .before .before .before .before .before .before .before .before .before .args .kind)) (c .before .before .before .before .before .before .before .before .before .before .before .before .before .before .before .before .args .attribute .now) (c .before .before .before .before .before .before .before .referred-byte .ensures)) in
-    let f = room in ap length bytes ∙ length-over _ _ _ (omega (arith, attribute-length (c .before .before .before .before .before .before .before .before .before .before .before .before .before .before .before .before .args .id .now) (referredOf (c .before .before .before .before .before .before .before .before .before .before .before .before .before .before .before .before .args .kind)) (c .before .before .before .before .before .before .before .before .before .before .before .before .before .before .before .before .args .attribute .now)))
+    ap length bytes ∙ length-over _ _ _ (omega (arith, attribute-length (c .before .before .before .before .before .before .before .before .before .before .before .before .before .before .before .before .args .id .now) (referredOf (c .before .before .before .before .before .before .before .before .before .before .before .before .before .before .before .before .args .kind)) (c .before .before .before .before .before .before .before .before .before .before .before .before .before .before .before .before .args .attribute .now)))
 
 returns-3 : tie.Need-returns-3
 returns-3 c =
     let room = room-true _ _ _ (c .before .before .before .before .before .before .before .before .before .before .room-for .ensures) (c .before .before .before .before .before .before .before .before .before .if3 .taken) in
     let bytes = announced-written (c .before .before .before .before .before .before .before .before .before .before .before .before .before .before .before .before .args .list .now) (c .before .before .before .before .before .before .before .before .before .before .before .before .before .before .before .before .args .at) _ _ _ _ (c .before .before .before .before .before .before .write-named .ensures) 1 _ ((room-true _ _ _ (c .before .before .before .before .before .before .before .before .before .before .room-for .ensures) (c .before .before .before .before .before .before .before .before .before .if3 .taken)) .2) (c .before .before .write-str .ensures) ∙ ap (over (c .before .before .before .before .before .before .before .before .before .before .before .before .before .before .before .before .args .list .now) (c .before .before .before .before .before .before .before .before .before .before .before .before .before .before .before .before .args .at)) (attribute-is (c .before .before .before .before .before .before .before .before .before .before .before .before .before .before .before .before .args .id .now) (referredOf (c .before .before .before .before .before .before .before .before .before .before .before .before .before .before .before .before .args .kind)) (c .before .before .before .before .before .before .before .before .before .before .before .before .before .before .before .before .args .attribute .now) (c .before .before .before .before .before .before .before .referred-byte .ensures)) in
-    let f = room in recorded-fits _ _ _ _ (c .before .before .before .before .before .before .before .before .before .before .room-for .ensures) (c .before .before .before .before .before .before .before .before .before .if3 .taken) (attribute-length _ _ _) bytes
+    recorded-fits _ _ _ _ (c .before .before .before .before .before .before .before .before .before .before .room-for .ensures) (c .before .before .before .before .before .before .before .before .before .if3 .taken) (attribute-length _ _ _) bytes
 
 returns-4 : tie.Need-returns-4
 returns-4 c = recorded-full _ _ _ _ (c .before .room-for .ensures) (c .if3 .left) (attribute-length _ _ _)

@@ -1,5 +1,4 @@
 -- `texts::put_bare` meets its contract.
--- Made from Proof.answers, which stands beside it: change that, and run `proofs make`.
 use Rattle.texts.proofs.Recording.{bare-is, bare-length, flag-written, recorded-fits, recorded-full, recorded-long, room-true}
 use Rattle.texts.specs.Append.{over}
 use Rattle.texts.specs.Report.{referredOf}
@@ -27,7 +26,7 @@ referred-byte-requires c κs = search needs
 write-named-requires : tie.Need-write-named-requires
 write-named-requires c κs =
     let room = room-true _ _ _ (c .before .before .before .room-for .ensures) (c .before .before .if2 .taken) in
-    let f = room in omega arith
+    omega arith
 
 add-list : tie.Need-add-list
 add-list c = search needs
@@ -35,12 +34,12 @@ add-list c = search needs
 add-list-2 : tie.Need-add-list-2
 add-list-2 c =
     let room = room-true _ _ _ (c .before .before .before .before .before .before .room-for .ensures) (c .before .before .before .before .before .if2 .taken) in
-    let f = room in omega arith
+    omega arith
 
 slice-write-list : tie.Need-slice-write-list
 slice-write-list c =
     let room = room-true _ _ _ (c .before .before .before .before .before .before .room-for .ensures) (c .before .before .before .before .before .if2 .taken) in
-    let f = room in omega arith
+    omega arith
 
 add-t13 : tie.Need-add-t13
 add-t13 c = search needs
@@ -48,7 +47,7 @@ add-t13 c = search needs
 add-t15 : tie.Need-add-t15
 add-t15 c =
     let room = room-true _ _ _ (c .before .before .before .before .before .before .room-for .ensures) (c .before .before .before .before .before .if2 .taken) in
-    let f = room in omega arith
+    omega arith
 
 same-length : tie.Need-same-length
 same-length c = search needs
@@ -56,7 +55,7 @@ same-length c = search needs
 returns-2 : tie.Need-returns-2
 returns-2 c =
     let room = room-true _ _ _ (c .before .before .before .before .before .before .room-for .ensures) (c .before .before .before .before .before .if2 .taken) in
-    let f = room in recorded-fits _ _ _ _ (c .before .before .before .before .before .before .room-for .ensures) (c .before .before .before .before .before .if2 .taken) (bare-length _ _) (flag-written _ _ _ _ _ _ (c .before .before .write-named .ensures) 0 (omega arith) ∙ ap (over _ _) (bare-is _ _ (c .before .before .before .referred-byte .ensures)))
+    recorded-fits _ _ _ _ (c .before .before .before .before .before .before .room-for .ensures) (c .before .before .before .before .before .if2 .taken) (bare-length _ _) (flag-written _ _ _ _ _ _ (c .before .before .write-named .ensures) 0 (omega arith) ∙ ap (over _ _) (bare-is _ _ (c .before .before .before .referred-byte .ensures)))
 
 returns-3 : tie.Need-returns-3
 returns-3 c = recorded-full _ _ _ _ (c .before .room-for .ensures) (c .if2 .left) (bare-length _ _)

@@ -1,5 +1,4 @@
 -- `texts::put_bytes` meets its contract: the length first, then the bytes.
--- Made from Proof.answers, which stands beside it: change that, and run `proofs make`.
 use Rattle.texts.proofs.Place.{appended-fits, appended-full, paste-over}
 use borrow.Author.Needs.{needs}
 use mathlib.Core.Path.{_∙_, refl}

@@ -1,5 +1,4 @@
 -- `texts::put_header` meets its contract.
--- Made from Proof.answers, which stands beside it: change that, and run `proofs make`.
 use Rattle.texts.proofs.Recording.{headed-done, headed-long, headed-short, header-written}
 use borrow.Author.Needs.{needs}
 use mathlib.Core.Path.{_∙_, sym}

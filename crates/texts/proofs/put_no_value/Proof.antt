@@ -1,5 +1,4 @@
 -- `texts::put_no_value` meets its contract.
--- Made from Proof.answers, which stands beside it: change that, and run `proofs make`.
 use Rattle.texts.proofs.Recording.{name-written, no-value-is, no-value-length, recorded-fits, recorded-full, recorded-long, room-true}
 use Rattle.texts.specs.Append.{over}
 use borrow.Author.Needs.{needs}
@@ -23,17 +22,17 @@ add-write-head c = search needs
 write-head-requires : tie.Need-write-head-requires
 write-head-requires c κs =
     let room = room-true _ _ _ (c .before .before .room-for .ensures) (c .before .if2 .taken) in
-    let f = room in omega arith
+    omega arith
 
 add-write-str : tie.Need-add-write-str
 add-write-str c =
     let room = room-true _ _ _ (c .before .before .before .before .before .before .room-for .ensures) (c .before .before .before .before .before .if2 .taken) in
-    let f = room in omega arith
+    omega arith
 
 write-str-requires : tie.Need-write-str-requires
 write-str-requires c κs =
     let room = room-true _ _ _ (c .before .before .before .before .before .before .room-for .ensures) (c .before .before .before .before .before .if2 .taken) in
-    let f = room in omega arith
+    omega arith
 
 add-t12 : tie.Need-add-t12
 add-t12 c = search needs
@@ -41,7 +40,7 @@ add-t12 c = search needs
 add-t15 : tie.Need-add-t15
 add-t15 c =
     let room = room-true _ _ _ (c .before .before .before .before .before .before .before .before .before .room-for .ensures) (c .before .before .before .before .before .before .before .before .if2 .taken) in
-    let f = room in omega arith
+    omega arith
 
 same-length : tie.Need-same-length
 same-length c = search needs
@@ -49,7 +48,7 @@ same-length c = search needs
 returns-2 : tie.Need-returns-2
 returns-2 c =
     let room = room-true _ _ _ (c .before .before .before .before .before .before .before .before .before .room-for .ensures) (c .before .before .before .before .before .before .before .before .if2 .taken) in
-    let f = room in recorded-fits _ _ _ _ (c .before .before .before .before .before .before .before .before .before .room-for .ensures) (c .before .before .before .before .before .before .before .before .if2 .taken) (no-value-length _) (name-written _ _ _ _ _ (omega arith) (c .before .before .before .before .before .before .write-head .ensures) (c .before .before .write-str .ensures) ∙ ap (over _ _) (no-value-is _))
+    recorded-fits _ _ _ _ (c .before .before .before .before .before .before .before .before .before .room-for .ensures) (c .before .before .before .before .before .before .before .before .if2 .taken) (no-value-length _) (name-written _ _ _ _ _ (omega arith) (c .before .before .before .before .before .before .write-head .ensures) (c .before .before .write-str .ensures) ∙ ap (over _ _) (no-value-is _))
 
 returns-3 : tie.Need-returns-3
 returns-3 c = recorded-full _ _ _ _ (c .before .room-for .ensures) (c .if2 .left) (no-value-length _)

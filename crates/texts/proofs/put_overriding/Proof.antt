@@ -1,5 +1,4 @@
 -- `texts::put_overriding` meets its contract.
--- Made from Proof.answers, which stands beside it: change that, and run `proofs make`.
 use Rattle.texts.proofs.Recording.{overriding-is, overriding-length, recorded-fits, recorded-full, recorded-long, room-true}
 use Rattle.texts.specs.Append.{over}
 use Rattle.texts.specs.Report.{kindOf}
@@ -27,7 +26,7 @@ kind-byte-requires c κs = search needs
 write-named-requires : tie.Need-write-named-requires
 write-named-requires c κs =
     let room = room-true _ _ _ (c .before .before .before .room-for .ensures) (c .before .before .if2 .taken) in
-    let f = room in omega arith
+    omega arith
 
 add-t13 : tie.Need-add-t13
 add-t13 c = search needs
@@ -35,7 +34,7 @@ add-t13 c = search needs
 add-t15 : tie.Need-add-t15
 add-t15 c =
     let room = room-true _ _ _ (c .before .before .before .before .before .before .room-for .ensures) (c .before .before .before .before .before .if2 .taken) in
-    let f = room in omega arith
+    omega arith
 
 same-length : tie.Need-same-length
 same-length c = search needs

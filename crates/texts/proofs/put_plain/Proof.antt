@@ -1,5 +1,4 @@
 -- `texts::put_plain` meets its contract.
--- Made from Proof.answers, which stands beside it: change that, and run `proofs make`.
 use Rattle.records.specs.Bytes.{toBe}
 use Rattle.texts.proofs.Recording.{plain-length, recorded-fits, recorded-full, room-true}
 use Rattle.texts.specs.Append.{over}
@@ -18,12 +17,12 @@ plain-tag-requires c κs = search needs
 write-head-requires : tie.Need-write-head-requires
 write-head-requires c κs =
     let room = room-true _ _ _ (c .before .before .before .room-for .ensures) (c .before .before .if1 .taken) in
-    let f = room in omega arith
+    omega arith
 
 add-t10 : tie.Need-add-t10
 add-t10 c =
     let room = room-true _ _ _ (c .before .before .before .before .before .before .room-for .ensures) (c .before .before .before .before .before .if1 .taken) in
-    let f = room in omega arith
+    omega arith
 
 same-length : tie.Need-same-length
 same-length c = search needs

@@ -1,5 +1,4 @@
 -- `texts::put_reference` meets its contract.
--- Made from Proof.answers, which stands beside it: change that, and run `proofs make`.
 use Rattle.texts.specs.Report.{optionOf}
 use borrow.Author.Needs.{needs}
 use Rattle.texts.proofs.put_reference.Statement.{statement}

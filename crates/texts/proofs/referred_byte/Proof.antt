@@ -1,5 +1,4 @@
 -- `texts::referred_byte` meets its contract.
--- Made from Proof.answers, which stands beside it: change that, and run `proofs make`.
 use Rattle.records.specs.Errors.{encReferred}
 use Rattle.texts.specs.Report.{referredOf}
 use borrow.Author.Needs.{needs}

@@ -1,5 +1,4 @@
 -- `texts::room_for` meets its contract: the tests in their order.
--- Made from Proof.answers, which stands beside it: change that, and run `proofs make`.
 use Rattle.texts.proofs.Recording.{room-by-size, room-too-far, room-too-long}
 use borrow.Author.Needs.{needs}
 use mathlib.Core.Path.{sym}

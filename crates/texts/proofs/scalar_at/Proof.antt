@@ -1,5 +1,4 @@
 -- `texts::scalar_at` meets its contract: the digits decide.
--- Made from Proof.answers, which stands beside it: change that, and run `proofs make`.
 use Rattle.texts.proofs.Reading.{scalar-broken, scalar-value}
 use borrow.Author.Needs.{needs}
 use mathlib.Core.Path.{_∙_, sym}

@@ -1,5 +1,4 @@
 -- `texts::scalar_len` meets its contract: the branches are those of `encScalar`.
--- Made from Proof.answers, which stands beside it: change that, and run `proofs make`.
 use Rattle.texts.proofs.Reading.{scalar-1, scalar-2, scalar-3, scalar-4}
 use lib.ListN.{length}
 use mathlib.Core.Path.{ap, sym}

@@ -1,5 +1,4 @@
 -- `texts::scalar_or` meets its contract: the branches are those of `scalarOr`.
--- Made from Proof.answers, which stands beside it: change that, and run `proofs make`.
 use Rattle.texts.specs.Unescape.{isScalar, scalarOr}
 use borrow.Author.Tests.{le-leb, le-ltb, lt-leb, lt-ltb}
 use native.Mathlib.Omega.{arith}

@@ -1,5 +1,4 @@
 -- `texts::unescape_into` meets its contract: the length first, then the bytes.
--- Made from Proof.answers, which stands beside it: change that, and run `proofs make`.
 use Rattle.texts.proofs.Place.{appended-fits, appended-full}
 use borrow.Author.Needs.{needs}
 use native.Mathlib.Omega.{arith}

@@ -1,5 +1,4 @@
 -- `texts::unescape_to` meets its contract: piece by piece, what is read stands behind what was read before.
--- Made from Proof.answers, which stands beside it: change that, and run `proofs make`.
 use Prim.Native.Nat.{_-_}
 use Rattle.texts.proofs.Reading.{Written, sized-at, written-end, written-none, written-room, written-turn}
 use borrow.Author.Needs.{needs}
@@ -31,7 +30,7 @@ piece-len-requires c κs = search needs
 add-j : tie.Need-add-j Inv-loop μ-loop
 add-j c =
     let room = written-room _ _ _ (c .before .before .before .before .before .before .before .before .before .before .pre) (c .before .before .before .before .before .before .before .loop .inv) (c .before .before .before .before .before .before .loop-test .taken) (c .before .before .before .before .before .piece-at .ensures) in
-    let r = room in let l = c .piece-len .ensures in let z = c .before .before .before .before .before .before .before .loop .inv .size in omega arith
+    let l = c .piece-len .ensures in let z = c .before .before .before .before .before .before .before .loop .inv .size in omega arith
 
 piece-more-requires : tie.Need-piece-more-requires Inv-loop μ-loop
 piece-more-requires c κs = search needs
@@ -39,17 +38,17 @@ piece-more-requires c κs = search needs
 add-i : tie.Need-add-i Inv-loop μ-loop
 add-i c =
     let sized = sized-at (c .before .before .before .before .before .before .before .before .before .before .before .args .s .now) (c .before .before .before .before .before .before .before .before .loop .i) (c .before .before .before .before .before .before .before .loop-test .taken) (c .before .before .before .before .before .before .piece-at .ensures) in
-    let z = sized in omega arith
+    omega arith
 
 add-i-2 : tie.Need-add-i-2 Inv-loop μ-loop
 add-i-2 c =
     let sized = sized-at (c .before .before .before .before .before .before .before .before .before .before .before .args .s .now) (c .before .before .before .before .before .before .before .before .loop .i) (c .before .before .before .before .before .before .before .loop-test .taken) (c .before .before .before .before .before .before .piece-at .ensures) in
-    let z = sized in omega arith
+    omega arith
 
 loop-less : tie.Need-loop-less Inv-loop μ-loop
 loop-less c =
     let sized = sized-at (c .before .before .before .before .before .before .before .before .before .before .before .args .s .now) (c .before .before .before .before .before .before .before .before .loop .i) (c .before .before .before .before .before .before .before .loop-test .taken) (c .before .before .before .before .before .before .piece-at .ensures) in
-    let z = sized in omega arith
+    omega arith
 
 loop-again : tie.Need-loop-again Inv-loop μ-loop
 loop-again c =

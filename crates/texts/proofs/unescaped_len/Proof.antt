@@ -1,5 +1,4 @@
 -- `texts::unescaped_len` meets its contract: what is counted, with the length of what is left, gives the same as the whole.
--- Made from Proof.answers, which stands beside it: change that, and run `proofs make`.
 use Prim.Native.Nat.{_+_, _-_, _≤_}
 use Rattle.texts.proofs.Reading.{count-turn, sized-at, unescape-end}
 use Rattle.texts.specs.Unescape.{unescape}
@@ -28,7 +27,7 @@ piece-len-requires c κs = search needs
 add-n : tie.Need-add-n Inv-loop μ-loop
 add-n c =
     let sized = sized-at (c .before .before .before .before .before .args .s .now) (c .before .before .before .loop .i) (c .before .before .loop-test .taken) (c .before .piece-at .ensures) in
-    let z = sized in let l = c .piece-len .ensures in omega arith
+    let l = c .piece-len .ensures in omega arith
 
 piece-more-requires : tie.Need-piece-more-requires Inv-loop μ-loop
 piece-more-requires c κs = search needs
@@ -36,22 +35,22 @@ piece-more-requires c κs = search needs
 add-i : tie.Need-add-i Inv-loop μ-loop
 add-i c =
     let sized = sized-at (c .before .before .before .before .before .before .args .s .now) (c .before .before .before .before .loop .i) (c .before .before .before .loop-test .taken) (c .before .before .piece-at .ensures) in
-    let z = sized in let l = c .before .piece-len .ensures in omega arith
+    let l = c .before .piece-len .ensures in omega arith
 
 add-i-2 : tie.Need-add-i-2 Inv-loop μ-loop
 add-i-2 c =
     let sized = sized-at (c .before .before .before .before .before .before .args .s .now) (c .before .before .before .before .loop .i) (c .before .before .before .loop-test .taken) (c .before .before .piece-at .ensures) in
-    let z = sized in let l = c .before .piece-len .ensures in omega arith
+    let l = c .before .piece-len .ensures in omega arith
 
 loop-less : tie.Need-loop-less Inv-loop μ-loop
 loop-less c =
     let sized = sized-at (c .before .before .before .before .before .before .args .s .now) (c .before .before .before .before .loop .i) (c .before .before .before .loop-test .taken) (c .before .before .piece-at .ensures) in
-    let z = sized in let l = c .before .piece-len .ensures in omega arith
+    let l = c .before .piece-len .ensures in omega arith
 
 loop-again : tie.Need-loop-again Inv-loop μ-loop
 loop-again c =
     let sized = sized-at (c .before .before .before .before .before .before .args .s .now) (c .before .before .before .before .loop .i) (c .before .before .before .loop-test .taken) (c .before .before .piece-at .ensures) in
-    let z = sized in let l = c .before .piece-len .ensures in (omega arith, omega arith, count-turn _ _ _ (c .before .before .before .loop-test .taken) (c .before .before .piece-at .ensures) (c .before .piece-len .ensures) (c .piece-more .ensures) (c .before .before .before .before .loop .inv .2))
+    let l = c .before .piece-len .ensures in (omega arith, omega arith, count-turn _ _ _ (c .before .before .before .loop-test .taken) (c .before .before .piece-at .ensures) (c .before .piece-len .ensures) (c .piece-more .ensures) (c .before .before .before .before .loop .inv .2))
 
 returns : tie.Need-returns Inv-loop μ-loop
 returns c = let e : length (unescape (drop (c .before .loop .i) (c .before .before .before .args .s .now))) ≡ 0 = ap length (unescape-end _ _ (c .loop-test .left)) in omega (arith, c .before .loop .inv .2)

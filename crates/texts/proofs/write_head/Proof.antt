@@ -1,5 +1,4 @@
 -- `texts::write_head` meets its contract.
--- Made from Proof.answers, which stands beside it: change that, and run `proofs make`.
 use Rattle.texts.proofs.Recording.{head-written}
 use borrow.Author.Needs.{needs}
 use Rattle.texts.proofs.write_head.Statement.{statement}

@@ -1,5 +1,4 @@
 -- `texts::write_named` meets its contract.
--- Made from Proof.answers, which stands beside it: change that, and run `proofs make`.
 use Rattle.texts.proofs.Place.{length-over}
 use Rattle.texts.proofs.Recording.{length-named, named-written}
 use borrow.Author.Needs.{needs}

@@ -1,5 +1,4 @@
 -- `texts::write_piece` meets its contract: a byte, or a scalar.
--- Made from Proof.answers, which stands beside it: change that, and run `proofs make`.
 use Rattle.texts.proofs.Place.{set-over}
 use Rattle.texts.proofs.Reading.{byte-reads, byte-room, scalar-reads, scalar-room}
 use Rattle.texts.specs.Append.{over}

@@ -1,5 +1,4 @@
 -- `texts::write_scalar` meets its contract: the branches are those of `encScalar`.
--- Made from Proof.answers, which stands beside it: change that, and run `proofs make`.
 use Rattle.texts.proofs.Place.{set-over, store-2, store-3, store-4}
 use Rattle.texts.proofs.Reading.{room-of, scalar-1, scalar-2, scalar-3, scalar-4}
 use Rattle.texts.specs.Append.{over}
@@ -16,7 +15,7 @@ cast-d c = search needs
 slice-write-d : tie.Need-slice-write-d
 slice-write-d c =
     let one = room-of (c .before .args .at) _ (scalar-1 (c .before .args .v) (c .if1 .taken)) (c .before .pre .0) in
-    let f = one in omega arith
+    omega arith
 
 same-length : tie.Need-same-length
 same-length c = search needs
@@ -24,7 +23,7 @@ same-length c = search needs
 returns : tie.Need-returns
 returns c =
     let one = room-of (c .before .args .at) _ (scalar-1 (c .before .args .v) (c .if1 .taken)) (c .before .pre .0) in
-    set-over _ _ _ (let f = one in omega arith) ∙ ap (over _ _) (sym (scalar-1 (c .before .args .v) (c .if1 .taken)))
+    set-over _ _ _ (omega arith) ∙ ap (over _ _) (sym (scalar-1 (c .before .args .v) (c .if1 .taken)))
 
 add-d : tie.Need-add-d
 add-d c = search needs
@@ -35,7 +34,7 @@ cast-d-2 c = search needs
 slice-write-d-2 : tie.Need-slice-write-d-2
 slice-write-d-2 c =
     let two = room-of (c .before .before .args .at) _ (scalar-2 (c .before .before .args .v) (c .before .if1 .left) (c .if2 .taken)) (c .before .before .pre .0) in
-    let f = two in omega arith
+    omega arith
 
 add-d-2 : tie.Need-add-d-2
 add-d-2 c = search needs
@@ -49,7 +48,7 @@ add-d-3 c = search needs
 slice-write-d-3 : tie.Need-slice-write-d-3
 slice-write-d-3 c =
     let two = room-of (c .before .before .args .at) _ (scalar-2 (c .before .before .args .v) (c .before .if1 .left) (c .if2 .taken)) (c .before .before .pre .0) in
-    let f = two in simp length-set (omega arith)
+    simp length-set (omega arith)
 
 same-length-2 : tie.Need-same-length-2
 same-length-2 c = search needs
@@ -68,7 +67,7 @@ cast-d-4 c = search needs
 slice-write-d-4 : tie.Need-slice-write-d-4
 slice-write-d-4 c =
     let three = room-of (c .before .before .before .args .at) _ (scalar-3 (c .before .before .before .args .v) (c .before .before .if1 .left) (c .before .if2 .left) (c .if3 .taken)) (c .before .before .before .pre .0) in
-    let f = three in omega arith
+    omega arith
 
 add-d-5 : tie.Need-add-d-5
 add-d-5 c = search needs
@@ -82,7 +81,7 @@ add-d-6 c = search needs
 slice-write-d-5 : tie.Need-slice-write-d-5
 slice-write-d-5 c =
     let three = room-of (c .before .before .before .args .at) _ (scalar-3 (c .before .before .before .args .v) (c .before .before .if1 .left) (c .before .if2 .left) (c .if3 .taken)) (c .before .before .before .pre .0) in
-    let f = three in simp length-set (omega arith)
+    simp length-set (omega arith)
 
 add-d-7 : tie.Need-add-d-7
 add-d-7 c = search needs
@@ -96,7 +95,7 @@ add-d-8 c = search needs
 slice-write-d-6 : tie.Need-slice-write-d-6
 slice-write-d-6 c =
     let three = room-of (c .before .before .before .args .at) _ (scalar-3 (c .before .before .before .args .v) (c .before .before .if1 .left) (c .before .if2 .left) (c .if3 .taken)) (c .before .before .before .pre .0) in
-    let f = three in simp length-set (omega arith)
+    simp length-set (omega arith)
 
 same-length-3 : tie.Need-same-length-3
 same-length-3 c = search needs
@@ -115,7 +114,7 @@ cast-d-7 c = search needs
 slice-write-d-7 : tie.Need-slice-write-d-7
 slice-write-d-7 c =
     let four = room-of (c .before .before .before .args .at) _ (scalar-4 (c .before .before .before .args .v) (c .before .before .if1 .left) (c .before .if2 .left) (c .if3 .left)) (c .before .before .before .pre .0) in
-    let f = four in omega arith
+    omega arith
 
 add-d-10 : tie.Need-add-d-10
 add-d-10 c = search needs
@@ -129,7 +128,7 @@ add-d-11 c = search needs
 slice-write-d-8 : tie.Need-slice-write-d-8
 slice-write-d-8 c =
     let four = room-of (c .before .before .before .args .at) _ (scalar-4 (c .before .before .before .args .v) (c .before .before .if1 .left) (c .before .if2 .left) (c .if3 .left)) (c .before .before .before .pre .0) in
-    let f = four in simp length-set (omega arith)
+    simp length-set (omega arith)
 
 add-d-12 : tie.Need-add-d-12
 add-d-12 c = search needs
@@ -143,7 +142,7 @@ add-d-13 c = search needs
 slice-write-d-9 : tie.Need-slice-write-d-9
 slice-write-d-9 c =
     let four = room-of (c .before .before .before .args .at) _ (scalar-4 (c .before .before .before .args .v) (c .before .before .if1 .left) (c .before .if2 .left) (c .if3 .left)) (c .before .before .before .pre .0) in
-    let f = four in simp length-set (omega arith)
+    simp length-set (omega arith)
 
 add-d-14 : tie.Need-add-d-14
 add-d-14 c = search needs
@@ -157,7 +156,7 @@ add-d-15 c = search needs
 slice-write-d-10 : tie.Need-slice-write-d-10
 slice-write-d-10 c =
     let four = room-of (c .before .before .before .args .at) _ (scalar-4 (c .before .before .before .args .v) (c .before .before .if1 .left) (c .before .if2 .left) (c .if3 .left)) (c .before .before .before .pre .0) in
-    let f = four in simp length-set (omega arith)
+    simp length-set (omega arith)
 
 same-length-4 : tie.Need-same-length-4
 same-length-4 c = search needs

@@ -1,5 +1,4 @@
 -- `texts::write_str` meets its contract.
--- Made from Proof.answers, which stands beside it: change that, and run `proofs make`.
 use Rattle.texts.proofs.Recording.{str-written}
 use borrow.Author.Needs.{needs}
 use Rattle.texts.proofs.write_str.Statement.{statement}
