@@ -1,0 +1,4 @@
+pub mod Effect
+pub mod Resolve
+pub mod Exec
+pub mod Format
