@@ -2,3 +2,4 @@ pub mod Effect
 pub mod Resolve
 pub mod Exec
 pub mod Format
+pub mod Finished

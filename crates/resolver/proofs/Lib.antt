@@ -1,0 +1,10 @@
+pub mod Walk
+pub mod Tally
+pub mod Steady
+pub mod Runs
+pub mod Wider
+pub mod Work
+pub mod Counts
+pub mod Fuel
+pub mod Net
+pub mod Kept

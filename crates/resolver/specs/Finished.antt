@@ -1,0 +1,75 @@
+-- What is said of a formatting that finished: its parts and the machine that its run led to, the errors of a trace, and the placeables.
+use mathlib.Core.Path.{_≡_}
+use mathlib.Core.List.{List, [], _∷_, _++_}
+use mathlib.Core.Bool.{Bool, true, _&&_}
+use mathlib.Core.Option.{Option, none, some}
+use Prim.Native.Nat.{ℕ, suc, _+_, _≤_, min}
+use lib.ListN.{length}
+use lib.Dec.{leb}
+use Rattle.records.specs.Got.{Got, got, bad}
+use Rattle.records.specs.Rules.{isId}
+use Rattle.records.specs.Tree.{Pattern}
+use Rattle.records.specs.Images.{Entry, Store, Argument, storeOf, argumentsOf}
+use Rattle.records.specs.Errors.{Error, overriding, reference, noValue, missingDefault, cyclic, tooManyPlaceables, listHeader}
+use Rattle.bundle.specs.Lookup.{findIn, partOf}
+use Rattle.resolver.specs.Effect.{Bytes, Effect, put, report, begin, expand, unfound, open-text, keep-text, free, merged, Trace}
+use Rattle.resolver.specs.Resolve.{Setting, asMessage}
+use Rattle.resolver.specs.Exec.{Machine, ran}
+use Rattle.resolver.specs.Format.{Buffers, valuesOf, limitsOf, isIdOrNone, runPattern}
+
+-- the errors that a trace reports, in order
+abbrev pub reported : Effect → List Error
+reported (put b) = []
+reported (report e) = e ∷ []
+reported begin = []
+reported expand = []
+reported unfound = []
+reported open-text = []
+reported keep-text = []
+reported (free n) = []
+reported (merged n) = []
+
+abbrev pub reports : Trace → List Error
+reports [] = []
+reports (e ∷ t) = reported e ++ reports t
+
+-- how often TooManyPlaceables is in a list
+abbrev pub isTooMany : Error → ℕ
+isTooMany (overriding k i) = 0
+isTooMany (reference k i a) = 0
+isTooMany (noValue i) = 0
+isTooMany missingDefault = 0
+isTooMany cyclic = 0
+isTooMany tooManyPlaceables = 1
+
+abbrev pub tooManyIn : List Error → ℕ
+tooManyIn [] = 0
+tooManyIn (e ∷ es) = isTooMany e + tooManyIn es
+
+-- The number expanded is the number begun, or 100 if that is 101; TooManyPlaceables is listed exactly when a 101st was begun, then once.
+pub record Placeables (m : Machine) : Type 0 where
+  pub expanded : m .expanded ≡ min (m .begun) 100
+  pub few : m .begun ≤ 101
+  pub once : m .begun ≡ 101 → tooManyIn (m .errors) ≡ 1
+  pub never : m .begun ≤ 100 → tooManyIn (m .errors) ≡ 0
+
+-- what a bundle and the arguments set for a formatting
+abbrev pub settingOf : Store → List (Bytes × Argument) → Setting
+settingOf store args = record { locale = store .locale; isolating = store .isolating; arguments = valuesOf args }
+
+-- a formatting that finishes: every test before the run passes, and the run leads to a machine
+pub record Finished (s : Bytes) (id : Bytes) (a : Option Bytes) (image : Bytes) (b : Buffers) : Type 0 where
+  pub store : Store
+  pub storeEnd : ℕ
+  pub stored : storeOf s ≡ got store storeEnd
+  pub ids : isId id && isIdOrNone a ≡ true
+  pub entry : Entry
+  pub found : asMessage (findIn (store .items) id) ≡ some entry
+  pub part : Pattern
+  pub has : partOf a entry ≡ some part
+  pub arguments : List (Bytes × Argument)
+  pub argumentsEnd : ℕ
+  pub given : argumentsOf image ≡ got arguments argumentsEnd
+  pub header : leb listHeader (length (b .list)) ≡ true
+  pub machine : Machine
+  pub runs : runPattern (settingOf store arguments) (findIn (store .items)) (limitsOf b) part ≡ ran machine
