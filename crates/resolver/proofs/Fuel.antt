@@ -139,7 +139,7 @@ deeper st find zero k h p t = λ s o q. record {
 deeper st find (suc n) k h p t =
     rPattern Agree agree-closed find find (agree-look find) (λ q u. resolve st find n q u) (λ q u. resolve st find (suc n) q u) t k (λ j lt q u. deeper st find n j (omega arith) q u) st p
 
-ok-fresh : Ok fresh
+pub ok-fresh : Ok fresh
 unfolding fresh
 ok-fresh = record { few = omega arith; over = refl }
 

@@ -8,3 +8,6 @@ pub mod Counts
 pub mod Fuel
 pub mod Net
 pub mod Kept
+pub mod Parts
+pub mod Whole
+pub mod Formattings

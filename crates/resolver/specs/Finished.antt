@@ -10,12 +10,13 @@ use Rattle.records.specs.Got.{Got, got, bad}
 use Rattle.records.specs.Rules.{isId}
 use Rattle.records.specs.Tree.{Pattern}
 use Rattle.records.specs.Images.{Entry, Store, Argument, storeOf, argumentsOf}
-use Rattle.records.specs.Errors.{Error, overriding, reference, noValue, missingDefault, cyclic, tooManyPlaceables, listHeader}
-use Rattle.bundle.specs.Lookup.{findIn, partOf}
+use Rattle.records.specs.Errors.{Error, overriding, reference, noValue, missingDefault, cyclic, tooManyPlaceables, encErrors, listHeader}
+use Rattle.bundle.specs.Lookup.{Find, findIn, partOf}
+use Rattle.bundle.specs.Additions.{atFront}
 use Rattle.resolver.specs.Effect.{Bytes, Effect, put, report, begin, expand, unfound, open-text, keep-text, free, merged, Trace}
-use Rattle.resolver.specs.Resolve.{Setting, asMessage}
+use Rattle.resolver.specs.Resolve.{Setting, bytesOf, asMessage, resolve}
 use Rattle.resolver.specs.Exec.{Machine, ran}
-use Rattle.resolver.specs.Format.{Buffers, valuesOf, limitsOf, isIdOrNone, runPattern}
+use Rattle.resolver.specs.Format.{Buffers, Formatted, valuesOf, limitsOf, isIdOrNone, maxPatterns, fresh, runPattern, format}
 
 -- the errors that a trace reports, in order
 abbrev pub reported : Effect → List Error
@@ -32,6 +33,10 @@ reported (merged n) = []
 abbrev pub reports : Trace → List Error
 reports [] = []
 reports (e ∷ t) = reported e ++ reports t
+
+-- the trace of a formatting's pattern
+abbrev pub traceOf : Setting → Find → Pattern → Trace
+traceOf st find p = resolve st find maxPatterns p (bytesOf p ∷ []) fresh .trace
 
 -- how often TooManyPlaceables is in a list
 abbrev pub isTooMany : Error → ℕ
@@ -73,3 +78,21 @@ pub record Finished (s : Bytes) (id : Bytes) (a : Option Bytes) (image : Bytes) 
   pub header : leb listHeader (length (b .list)) ≡ true
   pub machine : Machine
   pub runs : runPattern (settingOf store arguments) (findIn (store .items)) (limitsOf b) part ≡ ran machine
+
+-- the five numbers of an answer are those of a machine
+pub record Says (m : Machine) (t e k u w : ℕ) : Type 0 where
+  pub text : t ≡ length (m .written)
+  pub errors : e ≡ length (m .errors)
+  pub begun : k ≡ m .begun
+  pub unfound : u ≡ m .unfounds
+  pub work : w ≡ m .high
+
+-- What is so of every formatting that answers finished with five numbers: it has its parts; the numbers are its machine's; the text is what
+-- resolution wrote; the list is that of the errors that resolution reported, in order; placeables.
+pub record Holds (s : Bytes) (id : Bytes) (a : Option Bytes) (image : Bytes) (b : Buffers) (t e k u w : ℕ) : Type 0 where
+  pub parts : Finished s id a image b
+  pub says : Says (parts .machine) t e k u w
+  pub text : format s id a image b .buffers .text ≡ atFront (resolve (settingOf (parts .store) (parts .arguments)) (findIn (parts .store .items)) maxPatterns (parts .part) (bytesOf (parts .part) ∷ []) fresh .text) (b .text)
+  pub list : format s id a image b .buffers .list ≡ atFront (encErrors (reports (traceOf (settingOf (parts .store) (parts .arguments)) (findIn (parts .store .items)) (parts .part)))) (b .list)
+  pub errors : parts .machine .errors ≡ reports (traceOf (settingOf (parts .store) (parts .arguments)) (findIn (parts .store .items)) (parts .part))
+  pub placeables : Placeables (parts .machine)
