@@ -1,6 +1,6 @@
 -- Placeables begun, expanded, and the one report of a 101st.
 use mathlib.Core.Path.{_≡_, refl, sym, _∙_}
-use mathlib.Core.List.{List, [], _∷_, _++_}
+use mathlib.Core.List.{[], _∷_, _++_}
 use mathlib.Core.Bool.{Bool, true, false}
 use mathlib.Core.Option.{Option, none, some}
 use Prim.Native.Nat.{ℕ, suc, _+_, _-_, _≤_, min}
@@ -10,7 +10,7 @@ use borrow.Author.Tests.{ltb-true, ltb-false, lt-ltb, le-ltb}
 use Rattle.records.specs.Tree.{Pattern}
 use Rattle.records.specs.Errors.{Error, overriding, reference, noValue, missingDefault, cyclic, tooManyPlaceables}
 use Rattle.bundle.specs.Lookup.{Holder, Find}
-use Rattle.resolver.specs.Effect.{Bytes, Effect, report, begin, expand, unfound, open-text, keep-text, free, merged, Trace, State, M, Done, ret, _>>=_, _>>_, emit, write, isDirty, getLocals, setLocals, maxPlaceables, enterIf, enter, onlyIf, entered, capture, release}
+use Rattle.resolver.specs.Effect.{Bytes, Effect, report, expand, unfound, open-text, keep-text, free, Trace, State, M, Done, ret, _>>=_, _>>_, emit, write, isDirty, getLocals, setLocals, maxPlaceables, enterIf, enter, onlyIf, entered, capture, release}
 use Rattle.resolver.specs.Resolve.{Setting, Trail, lookFor, lookUp, resolve}
 use Rattle.resolver.proofs.Walk.{Rel, Closed, Plain, rResolve}
 use Rattle.resolver.proofs.Tally.{isBegin, isExpand, isOver, tally, tally-append}
@@ -112,7 +112,6 @@ counts-release m h s o =
 counts-closed : Closed (λ k. Counts)
 unfolding ret emit write isDirty getLocals setLocals
 counts-closed = record {
-  rUp = λ {k} {A} {m} {m′} h. h;
   rRet = λ {k} {A} a. stays;
   rBind = λ {k} {A} {B} {m} {m′} {f} {f′} h l. counts-bind m f h l;
   rReport = λ {k} e p. plain-report e p;

@@ -8,8 +8,8 @@ use Rattle.bundle.specs.Lookup.{Find, findIn}
 use Rattle.bundle.specs.Additions.{atFront}
 use Rattle.resolver.specs.Effect.{Bytes}
 use Rattle.resolver.specs.Resolve.{Setting}
-use Rattle.resolver.specs.Exec.{Machine, ran, refused}
-use Rattle.resolver.specs.Format.{Answer, finished, refusedRunning, Buffers, Formatted, limitsOf, ended, orRefuse, formatWith, formatArguments, formatPart, formatEntry, formatStore, format}
+use Rattle.resolver.specs.Exec.{ran}
+use Rattle.resolver.specs.Format.{finished, refusedRunning, Buffers, Formatted, limitsOf, ended, orRefuse, formatWith, formatArguments, formatPart, formatEntry, formatStore, format}
 use Rattle.resolver.specs.Finished.{settingOf, Finished, Holds}
 use Rattle.resolver.proofs.Parts.{parts, finish, says}
 use Rattle.resolver.proofs.Whole.{lists-reports, placeables, nothing-left, work-enough, work-short}

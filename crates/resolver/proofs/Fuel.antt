@@ -1,6 +1,5 @@
 -- References nest no deeper than 102 patterns: more depth changes nothing.
 use mathlib.Core.Path.{_≡_, refl, ap, _∙_}
-use mathlib.Core.List.{List, [], _∷_, _++_}
 use mathlib.Core.Bool.{Bool, true, false, not}
 use mathlib.Core.Option.{Option, none, some}
 use Prim.Native.Nat.{ℕ, zero, suc, _+_, _-_, _≤_}
@@ -71,13 +70,9 @@ agree-entered k b b′ m m′ h l s o q =
     let z : Meet Done (enterIf (s .dirty) (ltb (s .begun) maxPlaceables) >>= λ go. onlyIf go n) (enterIf (s .dirty) (ltb (s .begun) maxPlaceables) >>= λ go. onlyIf go n′) s = agree-go k n n′ e s o q _ _ refl refl in
     record { same-run = z .same-run; ok = z .ok; up = z .up }
 
-agree-up : (k : ℕ) {A : Type 0} (m m′ : M A) → Agree k A m m′ → Agree (suc k) A m m′
-agree-up k m m′ h s o q = h s o (omega arith)
-
 agree-closed : Closed Agree
 unfolding ret emit write isDirty getLocals setLocals
 agree-closed = record {
-  rUp = λ {k} {A} {m} {m′} h. agree-up k m m′ h;
   rRet = λ {k} {A} a s o q. record { same-run = refl; ok = o; up = omega arith };
   rBind = λ {k} {A} {B} {m} {m′} {f} {f′} h l. agree-bind k m m′ f f′ h l;
   rReport = λ {k} e p s o q. record { same-run = refl; ok = o; up = omega arith };

@@ -1,18 +1,18 @@
 -- What is written keeps nothing at the workspace's back: only selectors and arguments do, and those are freed.
 use mathlib.Core.Path.{_≡_, refl}
-use mathlib.Core.List.{List, [], _∷_}
-use mathlib.Core.Bool.{Bool, true, false, _&&_, not}
+use mathlib.Core.List.{List}
+use mathlib.Core.Bool.{Bool, true, false, not}
 use mathlib.Core.Option.{Option, none, some}
-use Prim.Native.Nat.{ℕ, zero, suc, _+_}
+use Prim.Native.Nat.{ℕ, zero, suc}
 use native.Mathlib.Omega.{arith}
 use lib.Dec.{ltb}
 use Rattle.numbers.specs.Value.{Value, textual, numeric, nothing, wrong}
 use Rattle.records.specs.Tree.{Pattern, pattern, Elements, no-more, more, Element, text, placeable, Expression, inline, select, Inline, variable, nested, Variants, no-variant, or, Variant, variant}
 use Rattle.records.specs.Images.{Entry}
 use Rattle.records.specs.Errors.{Error}
-use Rattle.bundle.specs.Lookup.{Holder, Find, partOf}
+use Rattle.bundle.specs.Lookup.{Holder, Find}
 use Rattle.resolver.specs.Effect.{Bytes, Effect, report, expand, Locals, State, M, Done, ret, _>>=_, _>>_, emit, write, isDirty, getLocals, setLocals, maxPlaceables, enterIf, enter, onlyIf, entered, release}
-use Rattle.resolver.specs.Resolve.{Setting, Trail, mark, cutShort, writeRefError, lookFor, lookUp, asMessage, asTerm, trackIf, track, onPart, messageFound, termFound, writeMessage, writeTerm, writeResult, foundOr, variableIn, getVariable, writeVariable, writePattern, writeElements, writeElement, writeExpression, writeNth, writeVariant, writeInline, resolve}
+use Rattle.resolver.specs.Resolve.{Setting, Trail, mark, cutShort, writeRefError, lookFor, lookUp, asMessage, trackIf, track, onPart, messageFound, termFound, writeMessage, writeResult, foundOr, variableIn, getVariable, writeVariable, writePattern, writeElements, writeElement, writeExpression, writeNth, writeVariant, writeInline, resolve}
 
 -- an action that keeps nothing
 abbrev pub Keepless : (A : Type 0) → M A → Type 0

@@ -11,3 +11,5 @@ pub mod Kept
 pub mod Parts
 pub mod Whole
 pub mod Formattings
+pub mod Lists
+pub mod Steadiness

@@ -1,6 +1,6 @@
 -- What a run that ends has written and holds: the text that the action says, the bytes that it says are kept; nothing is freed that is not there.
 use mathlib.Core.Path.{_≡_, refl, sym, _∙_, subst}
-use mathlib.Core.List.{List, [], _∷_, _++_, append-assoc, append-nil}
+use mathlib.Core.List.{[], _∷_, _++_, append-assoc, append-nil}
 use mathlib.Core.Bool.{Bool, true, false}
 use mathlib.Core.Option.{Option, none, some}
 use Prim.Native.Nat.{ℕ, zero, suc, _+_, _-_}
@@ -12,7 +12,7 @@ use Rattle.records.specs.Errors.{Error}
 use Rattle.bundle.specs.Lookup.{Holder, Find}
 use Rattle.resolver.specs.Effect.{Bytes, Effect, put, report, begin, expand, unfound, open-text, keep-text, free, merged, State, M, Done, ret, _>>=_, _>>_, emit, write, isDirty, getLocals, setLocals, maxPlaceables, enterIf, enter, onlyIf, entered, capture, release}
 use Rattle.resolver.specs.Resolve.{Setting, Trail, lookFor, lookUp, resolve}
-use Rattle.resolver.specs.Exec.{Machine, Limits, Ran, ran, refused, allow, putText, putWork, putAt, step, exec}
+use Rattle.resolver.specs.Exec.{Machine, Limits, ran, putText, putWork, putAt, step, exec}
 use Rattle.resolver.proofs.Walk.{Rel, Closed, rResolve}
 use Rattle.resolver.proofs.Runs.{same-machine, allowed, Between, between, one-step}
 
@@ -191,7 +191,6 @@ net-entered b x g h = net-bind enter (λ go. onlyIf go (b >> (emit expand >> x))
 net-closed : Closed (λ k. Net)
 unfolding ret emit isDirty getLocals setLocals
 net-closed = record {
-  rUp = λ {k} {A} {m} {m′} h. h;
   rRet = λ {k} {A} a s L m m′ e. none-net L m m′ e;
   rBind = λ {k} {A} {B} {m} {m′} {f} {f′} h l. net-bind m f h l;
   rReport = λ {k} e p s L m m′ h. report-net L e m m′ h;

@@ -1,5 +1,5 @@
 -- A formatting that finishes has every part that its definition asks for, and answers what its machine says.
-use mathlib.Core.Path.{_≡_, refl, sym, _∙_}
+use mathlib.Core.Path.{_≡_, refl}
 use mathlib.Core.List.{List}
 use mathlib.Core.Bool.{Bool, true, false, _&&_}
 use mathlib.Core.Option.{Option, none, some}
@@ -16,7 +16,7 @@ use Rattle.bundle.specs.Lookup.{findIn, partOf}
 use Rattle.resolver.specs.Effect.{Bytes}
 use Rattle.resolver.specs.Resolve.{asMessage}
 use Rattle.resolver.specs.Exec.{Machine, Ran, ran, refused}
-use Rattle.resolver.specs.Format.{Answer, finished, refusedBefore, refusedRunning, Buffers, Formatted, limitsOf, refuse, orRefuse, ended, isIdOrNone, runPattern, formatWith, formatArguments, formatPart, formatEntry, formatStore, format}
+use Rattle.resolver.specs.Format.{finished, refusedBefore, refusedRunning, Buffers, Formatted, limitsOf, refuse, orRefuse, ended, isIdOrNone, runPattern, formatWith, formatArguments, formatPart, formatEntry, formatStore, format}
 use Rattle.resolver.specs.Finished.{settingOf, Finished, Says}
 
 not-before : (n t e k u w : ℕ) → refusedBefore n ≡ finished t e k u w → ⊥

@@ -1,9 +1,9 @@
 -- A resolution that leaves no id unfound does the same in a bundle that has more.
 use mathlib.Core.Path.{_≡_, refl}
-use mathlib.Core.List.{List, [], _∷_, _++_}
+use mathlib.Core.List.{[], _∷_}
 use mathlib.Core.Bool.{Bool, true, false}
 use mathlib.Core.Option.{Option, none, some}
-use Prim.Native.Nat.{ℕ, _+_}
+use Prim.Native.Nat.{ℕ}
 use native.Mathlib.Omega.{arith}
 use Rattle.records.specs.Tree.{Pattern}
 use Rattle.bundle.specs.Lookup.{Holder, Find}
@@ -46,7 +46,6 @@ steady-entered h k = steady-bind (λ s cl. refl) (λ go. steady-only (steady-the
 
 steady-closed : Closed (λ k. Steady)
 steady-closed = record {
-  rUp = λ {k} {A} {m} {m′} h. h;
   rRet = λ {k} {A} a s cl. refl;
   rBind = λ {k} {A} {B} {m} {m′} {f} {f′} h l. steady-bind h l;
   rReport = λ {k} e pl s cl. refl;

@@ -1,6 +1,6 @@
 -- How often an effect of a kind is in a trace.
-use mathlib.Core.Path.{_≡_, refl}
-use mathlib.Core.List.{List, [], _∷_, _++_}
+use mathlib.Core.Path.{_≡_}
+use mathlib.Core.List.{[], _∷_, _++_}
 use Prim.Native.Nat.{ℕ, _+_}
 use native.Mathlib.Omega.{arith}
 use Rattle.resolver.specs.Effect.{Effect, put, report, begin, expand, unfound, open-text, keep-text, free, merged, Trace}

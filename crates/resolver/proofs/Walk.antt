@@ -1,6 +1,6 @@
 -- One induction over the syntax, for every property of resolution that the actions it is made of pass on.
 use mathlib.Core.List.{List, [], _∷_}
-use mathlib.Core.Bool.{Bool, true, false, _&&_, not}
+use mathlib.Core.Bool.{Bool, true, false}
 use mathlib.Core.Option.{Option, none, some}
 use Prim.Native.Nat.{ℕ, zero, suc, _≤_, _<_}
 use native.Mathlib.Nat.{le-refl}
@@ -9,10 +9,10 @@ use Rattle.numbers.specs.Number.{Number}
 use Rattle.numbers.specs.Value.{Value, textual, numeric, nothing, wrong}
 use Rattle.texts.specs.Unescape.{hasBackslash}
 use Rattle.records.specs.Tree.{Literal, Named, Pattern, pattern, Elements, no-more, more, Element, text, placeable, Expression, inline, select, Inline, variable, nested, Arguments, without, with-args, Inlines, no-inline, and, Variants, no-variant, or, Variant, variant}
-use Rattle.records.specs.Images.{Kind, Entry}
-use Rattle.records.specs.Errors.{Error, Referred, overriding, reference, noValue, missingDefault, cyclic, tooManyPlaceables}
-use Rattle.bundle.specs.Lookup.{Holder, Find, partOf}
-use Rattle.resolver.specs.Effect.{Bytes, report, expand, merged, Locals, M, Done, ret, _>>=_, _>>_, emit, write, isDirty, getLocals, setLocals, onlyIf, entered, capture, release}
+use Rattle.records.specs.Images.{Entry}
+use Rattle.records.specs.Errors.{Error, overriding, reference, noValue, missingDefault, cyclic, tooManyPlaceables}
+use Rattle.bundle.specs.Lookup.{Holder, Find}
+use Rattle.resolver.specs.Effect.{Bytes, report, merged, Locals, M, Done, ret, _>>=_, _>>_, emit, write, isDirty, getLocals, setLocals, onlyIf, entered, capture, release}
 use Rattle.resolver.specs.Resolve.{Setting, Trail, Given, mark, cutShort, held, stringIf, stringValue, literalValue, namedValues, writeRefError, lookUp, asMessage, asTerm, trackIf, track, onPart, missingPart, messageFound, termFound, writeMessage, writeTerm, noteIf, noteOne, noteMerges, mergesOf, call, callFunction, writeResult, orWrong, foundOr, variableIn, getVariable, writeVariable, writePattern, writeElements, writeElement, writeExpression, writeNth, writeVariant, writeInline, resolveInline, termArguments, getArguments, resolve}
 
 -- a relation on actions
@@ -34,7 +34,6 @@ Rels = ℕ → Rel
 
 -- the actions that resolution is made of keep R
 pub record Closed (R : Rels) : Type 1 where
-  pub rUp : {k : ℕ} {A : Type 0} {m m′ : M A} → R k A m m′ → R (suc k) A m m′
   pub rRet : {k : ℕ} {A : Type 0} (a : A) → R k A (ret a) (ret a)
   pub rBind : {k : ℕ} {A B : Type 0} {m m′ : M A} {f f′ : A → M B} → R k A m m′ → ((a : A) → R k B (f a) (f′ a)) → R k B (m >>= f) (m′ >>= f′)
   pub rReport : {k : ℕ} (e : Error) → Plain e → R k Done (emit (report e)) (emit (report e))

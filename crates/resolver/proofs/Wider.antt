@@ -1,13 +1,13 @@
 -- Longer buffers: the same run.
 use mathlib.Core.Path.{_≡_, refl, _∙_}
-use mathlib.Core.List.{List, [], _∷_}
+use mathlib.Core.List.{[], _∷_}
 use mathlib.Core.Bool.{Bool, true, false}
-use Prim.Native.Nat.{ℕ, zero, suc, _≤_, min}
+use Prim.Native.Nat.{ℕ, zero, suc, _≤_}
 use native.Mathlib.Omega.{arith}
 use lib.Dec.{leb}
 use borrow.Author.Tests.{leb-true, le-leb}
 use Rattle.resolver.specs.Effect.{Bytes, Effect, put, report, begin, expand, unfound, open-text, keep-text, free, merged, Trace}
-use Rattle.resolver.specs.Exec.{Machine, Limits, Ran, ran, refused, allowIf, allow, listLimit, putText, putWork, putAt, step, exec}
+use Rattle.resolver.specs.Exec.{Machine, Limits, ran, allowIf, allow, listLimit, putText, putWork, putAt, step, exec}
 use Rattle.resolver.proofs.Runs.{not-refused, Onward, onward, exec-step}
 
 -- text, list and workspace each at least as long

@@ -1,15 +1,14 @@
 -- The highest use: a run needs a workspace of just that length.
-use mathlib.Core.Path.{_≡_, refl, ap, sym, _∙_}
-use mathlib.Core.List.{List, [], _∷_}
+use mathlib.Core.Path.{_≡_, refl, ap, _∙_}
+use mathlib.Core.List.{[], _∷_}
 use mathlib.Core.Bool.{Bool, true, false}
-use Prim.Native.Nat.{ℕ, zero, suc, _+_, _≤_, _<_, max}
+use Prim.Native.Nat.{ℕ, zero, suc, _≤_, _<_}
 use native.Mathlib.Omega.{arith}
-use lib.ListN.{length}
 use lib.Dec.{leb}
 use borrow.Author.Tests.{leb-true, leb-false, le-leb, lt-leb}
 use Rattle.resolver.specs.Effect.{Bytes, Effect, put, report, begin, expand, unfound, open-text, keep-text, free, merged, Trace}
-use Rattle.resolver.specs.Exec.{Machine, Limits, Ran, ran, refused, allowIf, allow, putText, putWork, putAt, step, andThen, exec}
-use Rattle.resolver.proofs.Runs.{not-refused, same-machine, allowed, Onward, onward, exec-step}
+use Rattle.resolver.specs.Exec.{Machine, Limits, ran, refused, allowIf, allow, putText, putWork, putAt, step, andThen, exec}
+use Rattle.resolver.proofs.Runs.{same-machine, allowed, Onward, onward, exec-step}
 
 -- the same text and list, another workspace
 abbrev pub withWork : Limits → ℕ → Limits

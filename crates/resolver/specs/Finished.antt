@@ -1,12 +1,12 @@
 -- What is said of a formatting that finished: its parts and the machine that its run led to, the errors of a trace, and the placeables.
 use mathlib.Core.Path.{_≡_}
 use mathlib.Core.List.{List, [], _∷_, _++_}
-use mathlib.Core.Bool.{Bool, true, _&&_}
-use mathlib.Core.Option.{Option, none, some}
-use Prim.Native.Nat.{ℕ, suc, _+_, _≤_, min}
+use mathlib.Core.Bool.{true, _&&_}
+use mathlib.Core.Option.{Option, some}
+use Prim.Native.Nat.{ℕ, _+_, _≤_, min}
 use lib.ListN.{length}
 use lib.Dec.{leb}
-use Rattle.records.specs.Got.{Got, got, bad}
+use Rattle.records.specs.Got.{got}
 use Rattle.records.specs.Rules.{isId}
 use Rattle.records.specs.Tree.{Pattern}
 use Rattle.records.specs.Images.{Entry, Store, Argument, storeOf, argumentsOf}
@@ -16,7 +16,7 @@ use Rattle.bundle.specs.Additions.{atFront}
 use Rattle.resolver.specs.Effect.{Bytes, Effect, put, report, begin, expand, unfound, open-text, keep-text, free, merged, Trace}
 use Rattle.resolver.specs.Resolve.{Setting, bytesOf, asMessage, resolve}
 use Rattle.resolver.specs.Exec.{Machine, ran}
-use Rattle.resolver.specs.Format.{Buffers, Formatted, valuesOf, limitsOf, isIdOrNone, maxPatterns, fresh, runPattern, format}
+use Rattle.resolver.specs.Format.{Buffers, valuesOf, limitsOf, isIdOrNone, maxPatterns, fresh, runPattern, format}
 
 -- the errors that a trace reports, in order
 abbrev pub reported : Effect → List Error

@@ -3,3 +3,4 @@ pub mod Resolve
 pub mod Exec
 pub mod Format
 pub mod Finished
+pub mod Steadiness
