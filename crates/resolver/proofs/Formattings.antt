@@ -1,22 +1,27 @@
 -- What is so of every finished formatting, and the workspace that it needs.
-use mathlib.Core.Path.{_≡_, ap, sym, _∙_}
-use mathlib.Core.Option.{Option}
+use mathlib.Core.Path.{_≡_, refl, ap, sym, _∙_}
+use mathlib.Core.List.{List}
+use mathlib.Core.Bool.{Bool, true, false}
+use mathlib.Core.Option.{Option, none, some}
 use Prim.Native.Nat.{ℕ, _≤_, _<_}
-use lib.ListN.{length}
-use Rattle.records.specs.Errors.{encErrors}
+use native.Mathlib.Omega.{arith}
+use lib.ListN.{length, drop, length-append, length-drop, length-replicate}
+use lib.Dec.{leb}
+use borrow.Author.Tests.{leb-true}
+use Rattle.records.specs.Got.{Got, got, bad}
+use Rattle.records.specs.Tree.{Pattern}
+use Rattle.records.specs.Images.{Entry, Store, Argument, storeOf}
+use Rattle.records.specs.Errors.{encErrors, listHeader}
 use Rattle.bundle.specs.Lookup.{Find, findIn}
 use Rattle.bundle.specs.Additions.{atFront}
 use Rattle.resolver.specs.Effect.{Bytes}
 use Rattle.resolver.specs.Resolve.{Setting}
-use Rattle.resolver.specs.Exec.{ran}
-use Rattle.resolver.specs.Format.{finished, refusedRunning, Buffers, Formatted, limitsOf, ended, orRefuse, formatWith, formatArguments, formatPart, formatEntry, formatStore, format}
-use Rattle.resolver.specs.Finished.{settingOf, Finished, Holds}
+use Rattle.resolver.specs.Exec.{Ran, ran, refused}
+use Rattle.resolver.specs.Format.{finished, refusedRunning, Buffers, Formatted, limitsOf, zeros, refuse, orRefuse, ended, runPattern, formatWith, formatArguments, formatPart, formatEntry, formatStore, format}
+use Rattle.resolver.specs.Finished.{settingOf, Finished, Holds, withWorkspace, Sized}
+use Rattle.resolver.proofs.Within.{Within, within}
 use Rattle.resolver.proofs.Parts.{parts, finish, says}
 use Rattle.resolver.proofs.Whole.{lists-reports, placeables, nothing-left, work-enough, work-short}
-
--- the same text and list buffers, another workspace
-abbrev pub withWorkspace : Buffers → Bytes → Buffers
-withWorkspace b w = record { text = b .text; list = b .list; work = w }
 
 module _ (s id : Bytes) (a : Option Bytes) (image : Bytes) (b : Buffers) where
   -- every finished formatting: its numbers, its text, its list, its placeables
@@ -36,6 +41,11 @@ module _ (s id : Bytes) (a : Option Bytes) (image : Bytes) (b : Buffers) where
         errors = r;
         placeables = placeables st find (f .part) (limitsOf b) (f .machine) (f .runs);
       }
+
+  -- the figure answered is no more than the workspace's length
+  pub figure-fits : (f : Finished s id a image b) → f .machine .high ≤ length (b .work)
+  unfolding limitsOf
+  figure-fits f = within (limitsOf b) (settingOf (f .store) (f .arguments)) (findIn (f .store .items)) (f .part) (f .machine) (f .runs) .work
 
   module _ (f : Finished s id a image b) (w : Bytes) where
     -- with a workspace of exactly the highest use, or a longer one, the answer is the same
@@ -66,3 +76,49 @@ module _ (s id : Bytes) (a : Option Bytes) (image : Bytes) (b : Buffers) where
     short-workspace h =
         let q = work-short (settingOf (f .store) (f .arguments)) (findIn (f .store .items)) (f .part) (limitsOf b) (f .machine) (f .runs) (length w) h in
         rw (f .stored) (rw (f .ids) (rw (f .found) (rw (f .has) (rw (f .given) (rw (f .header) (rw q))))))
+
+front-length : (x l : Bytes) → length x ≤ length l → length (atFront x l) ≡ length l
+unfolding atFront
+front-length x l h = omega (arith, length-append x (drop (length x) l), length-drop (length x) l)
+
+module _ (b : Buffers) where
+  sized-same : Sized b b
+  sized-same = record { text = refl; list = refl; work = refl }
+
+  sized-test : (c : Bool) (n : ℕ) (f : Formatted) → (c ≡ true → Sized b (f .buffers)) → Sized b (orRefuse c n b f .buffers)
+  unfolding orRefuse refuse
+  sized-test true n f h = h refl
+  sized-test false n f h = sized-same
+
+  sized-end : (st : Setting) (find : Find) (p : Pattern) → leb listHeader (length (b .list)) ≡ true → (r : Ran) → runPattern st find (limitsOf b) p ≡ r → Sized b (ended r b .buffers)
+  unfolding ended zeros limitsOf
+  sized-end st find p t (ran m) h =
+      let w : Within (limitsOf b) m = within (limitsOf b) st find p m h in
+      record { text = front-length (m .written) (b .text) (w .text); list = front-length (encErrors (m .errors)) (b .list) (w .list (leb-true listHeader (length (b .list)) t)); work = length-replicate _ _ }
+  sized-end st find p t (refused n) h = record { text = length-replicate _ _; list = length-replicate _ _; work = length-replicate _ _ }
+
+  sized-arguments : (store : Store) (p : Pattern) (g : Got (List (Bytes × Argument))) → Sized b (formatArguments store p g b .buffers)
+  unfolding formatArguments formatWith refuse
+  sized-arguments store p (got args z) = sized-test _ 7 _ (λ t. sized-end (settingOf store args) (findIn (store .items)) p t _ refl)
+  sized-arguments store p bad = sized-same
+
+  module _ (image : Bytes) where
+    sized-part : (store : Store) (o : Option Pattern) → Sized b (formatPart store o image b .buffers)
+    unfolding formatPart refuse
+    sized-part store (some p) = sized-arguments store p _
+    sized-part store none = sized-same
+
+    sized-entry : (store : Store) (a : Option Bytes) (o : Option Entry) → Sized b (formatEntry store o a image b .buffers)
+    unfolding formatEntry refuse
+    sized-entry store a (some x) = sized-part store _
+    sized-entry store a none = sized-same
+
+    sized-store : (id : Bytes) (a : Option Bytes) (g : Got Store) → Sized b (formatStore g id a image b .buffers)
+    unfolding formatStore refuse
+    sized-store id a (got store z) = sized-test _ 8 _ (λ t. sized-entry store a _)
+    sized-store id a bad = sized-same
+
+    -- every formatting, finished or refused, leaves the three buffers as long as they were
+    pub formatting-sized : (s id : Bytes) (a : Option Bytes) → Sized b (format s id a image b .buffers)
+    unfolding format
+    formatting-sized s id a = sized-store id a (storeOf s)

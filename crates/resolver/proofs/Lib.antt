@@ -4,6 +4,7 @@ pub mod Steady
 pub mod Runs
 pub mod Wider
 pub mod Work
+pub mod Within
 pub mod Counts
 pub mod Fuel
 pub mod Net

@@ -27,70 +27,89 @@ use Rattle.resolver.specs.Steadiness.{Addition, InBytes, AllInBytes, sli
 use Rattle.resolver.proofs.Wider.{Wider}
 use Rattle.resolver.proofs.Parts.{parts, finish, says}
 use Rattle.resolver.proofs.Whole.{whole-steady}
-use Rattle.resolver.proofs.Lists.{list-stated, list-of-front}
+use Rattle.resolver.proofs.Lists.{list-of-front}
+use Rattle.resolver.proofs.Within.{within}
 
 -- a store with more items, behind the others
 abbrev withItems : Store → List Item → Store
 withItems v new = record { locale = v .locale; isolating = v .isolating; items = v .items ++ new }
 
--- s′ is a slice of the length of s that holds v with more items behind, none of them overriding
-record Extended (v : Store) (s s′ : Bytes) : Type 0 where
+-- s′ holds v with more items behind, none of them overriding
+record Extended (v : Store) (s′ : Bytes) : Type 0 where
   new : List Item
   firsts : AllFirstWins new
   used : ℕ
   reads : storeOf s′ ≡ got (withItems v new) used
-  size : length s′ ≡ length s
-  octets : Octets s′
 
 none-new : (v : Store) → withItems v [] ≡ v
 none-new v = ap (λ (l : List Item). record { locale = v .locale; isolating = v .isolating; items = l }) (append-nil (v .items))
 
-unchanged : (v : Store) (s : Bytes) (used : ℕ) → Octets s → storeOf s ≡ got v used → Extended v s s
-unchanged v s used oct h = record { new = []; firsts = tt; used = used; reads = h ∙ ap (λ (x : Store). got x used) (sym (none-new v)); size = refl; octets = oct }
+unchanged : (v : Store) (s : Bytes) (used : ℕ) → storeOf s ≡ got v used → Extended v s
+unchanged v s used h = record { new = []; firsts = tt; used = used; reads = h ∙ ap (λ (x : Store). got x used) (sym (none-new v)) }
 
 same-store : (v w : Store) (i j : ℕ) (s : Bytes) → storeOf s ≡ got v i → storeOf s ≡ got w j → w ≡ v
 same-store v w i j s h k = cc
 
-accepted-extends : (v : Store) (used : ℕ) (s s′ : Bytes) (x : Item) → FirstWins x → storeOf s ≡ got v used → Accepted s s′ x → Extended v s s′
+accepted-extends : (v : Store) (used : ℕ) (s s′ : Bytes) (x : Item) → FirstWins x → storeOf s ≡ got v used → Accepted s s′ x → Extended v s′
 accepted-extends v used s s′ x f h a =
-    subst (λ (w : Store). Extended w s s′) (same-store v (a .store) used (a .used) s h (a .stored))
-    (record { new = x ∷ []; firsts = (f, tt); used = a .used + length (encItem x); reads = a .grown .reads; size = a .grown .size; octets = a .grown .octets })
+    subst (λ (w : Store). Extended w s′) (same-store v (a .store) used (a .used) s h (a .stored))
+    (record { new = x ∷ []; firsts = (f, tt); used = a .used + length (encItem x); reads = a .grown .reads })
 
 firsts-append : (xs ys : List Item) → AllFirstWins xs → AllFirstWins ys → AllFirstWins (xs ++ ys)
 firsts-append [] ys h k = k
 firsts-append (x ∷ xs) ys h k = (h .0, firsts-append xs ys (h .1) k)
 
-extended-twice : (v : Store) (s s₁ s₂ : Bytes) (e : Extended v s s₁) → Extended (withItems v (e .new)) s₁ s₂ → Extended v s s₂
-extended-twice v s s₁ s₂ e f = record {
+extended-twice : (v : Store) (s₁ s₂ : Bytes) (e : Extended v s₁) → Extended (withItems v (e .new)) s₂ → Extended v s₂
+extended-twice v s₁ s₂ e f = record {
   new = e .new ++ f .new;
   firsts = firsts-append (e .new) (f .new) (e .firsts) (f .firsts);
   used = f .used;
   reads = f .reads ∙ ap (λ (l : List Item). got (record { locale = v .locale; isolating = v .isolating; items = l }) (f .used)) (append-assoc (v .items) (e .new) (f .new));
-  size = f .size ∙ e .size;
-  octets = f .octets;
 }
 
 -- one addition, accepted or refused
-one-extends : (x : Addition) → InBytes x → (v : Store) (used : ℕ) (s : Bytes) → Octets s → storeOf s ≡ got v used → Extended v s (sliceAfter x s)
+one-extends : (x : Addition) → InBytes x → (v : Store) (used : ℕ) (s : Bytes) → Octets s → storeOf s ≡ got v used → Extended v (sliceAfter x s)
 unfolding sliceAfter refuse
 one-extends (Addition.resource image list) b v used s oct h = go (addResource s image list .answer) refl
   where
-    go : (a : adding.Answer) → addResource s image list .answer ≡ a → Extended v s (addResource s image list .slice)
+    go : (a : adding.Answer) → addResource s image list .answer ≡ a → Extended v (addResource s image list .slice)
     go (adding.done n) q = accepted-extends v used s _ _ tt h (resource-accepted s image oct b list n q .accepted)
-    go (adding.refused k) q = rw (resource-refused s image list k q) (unchanged v s used oct h)
+    go (adding.refused k) q = rw (resource-refused s image list k q) (unchanged v s used h)
 one-extends (Addition.function id code) b v used s oct h = go (addFunction s id code .answer) refl
   where
-    go : (a : adding.Answer) → addFunction s id code .answer ≡ a → Extended v s (addFunction s id code .slice)
+    go : (a : adding.Answer) → addFunction s id code .answer ≡ a → Extended v (addFunction s id code .slice)
     go (adding.done n) q = accepted-extends v used s _ _ tt h (function-accepted s id oct code n q)
-    go (adding.refused k) q = rw (function-refused s id code k q) (unchanged v s used oct h)
+    go (adding.refused k) q = rw (function-refused s id code k q) (unchanged v s used h)
+
+-- a call leaves bytes, as many as there were, whether the slice is a store or not
+one-sized : (x : Addition) → InBytes x → (s : Bytes) → Octets s → (length (sliceAfter x s) ≡ length s) × Octets (sliceAfter x s)
+unfolding sliceAfter refuse
+one-sized (Addition.resource image list) b s oct = go (addResource s image list .answer) refl
+  where
+    go : (a : adding.Answer) → addResource s image list .answer ≡ a → (length (addResource s image list .slice) ≡ length s) × Octets (addResource s image list .slice)
+    go (adding.done n) q = let r = resource-accepted s image oct b list n q .accepted .grown in (r .size, r .octets)
+    go (adding.refused k) q = rw (resource-refused s image list k q) (refl, oct)
+one-sized (Addition.function id code) b s oct = go (addFunction s id code .answer) refl
+  where
+    go : (a : adding.Answer) → addFunction s id code .answer ≡ a → (length (addFunction s id code .slice) ≡ length s) × Octets (addFunction s id code .slice)
+    go (adding.done n) q = let r = function-accepted s id oct code n q .grown in (r .size, r .octets)
+    go (adding.refused k) q = rw (function-refused s id code k q) (refl, oct)
 
 -- the whole list
-all-extend : (xs : List Addition) → AllInBytes xs → (v : Store) (used : ℕ) (s : Bytes) → Octets s → storeOf s ≡ got v used → Extended v s (slicesAfter xs s)
+all-extend : (xs : List Addition) → AllInBytes xs → (v : Store) (used : ℕ) (s : Bytes) → Octets s → storeOf s ≡ got v used → Extended v (slicesAfter xs s)
 unfolding slicesAfter
-all-extend [] b v used s oct h = unchanged v s used oct h
+all-extend [] b v used s oct h = unchanged v s used h
 all-extend (x ∷ xs) b v used s oct h =
-    let e : Extended v s (sliceAfter x s) = one-extends x (b .0) v used s oct h in
-    extended-twice v s (sliceAfter x s) _ e (all-extend xs (b .1) (withItems v (e .new)) (e .used) (sliceAfter x s) (e .octets) (e .reads))
+    let e : Extended v (sliceAfter x s) = one-extends x (b .0) v used s oct h in
+    extended-twice v (sliceAfter x s) _ e (all-extend xs (b .1) (withItems v (e .new)) (e .used) (sliceAfter x s) (one-sized x (b .0) s oct .1) (e .reads))
+
+-- "its length unchanged"
+pub slices-sized : (xs : List Addition) → AllInBytes xs → (s : Bytes) → Octets s → length (slicesAfter xs s) ≡ length s
+unfolding slicesAfter
+slices-sized [] b s oct = refl
+slices-sized (x ∷ xs) b s oct =
+    let r = one-sized x (b .0) s oct in
+    slices-sized xs (b .1) (sliceAfter x s) (r .1) ∙ r .0
 
 -- a message is held by something
 held : (o : Option Holder) (x : Entry) → asMessage o ≡ some x → (h : Holder) × (o ≡ some h)
@@ -113,7 +132,7 @@ module _ (s : Bytes) (oct : Octets s) (xs : List Addition) (bytes : AllInBytes x
   unfolding limitsOf
   again f z =
       let v : Store = f .store in
-      let e : Extended v s (slicesAfter xs s) = all-extend xs bytes v (f .storeEnd) s oct (f .stored) in
+      let e : Extended v (slicesAfter xs s) = all-extend xs bytes v (f .storeEnd) s oct (f .stored) in
       let more : Extends (findIn (v .items)) (findIn (v .items ++ e .new)) = extends (v .items) (e .new) (e .firsts) in
       let h = held (findIn (v .items) id) (f .entry) (f .found) in
       let same : findIn (v .items ++ e .new) id ≡ findIn (v .items) id = more id (h .0) (h .1) ∙ sym (h .1) in
@@ -144,7 +163,7 @@ module _ (s : Bytes) (oct : Octets s) (xs : List Addition) (bytes : AllInBytes x
       let g = again f z in
       let first : format s id a image b ≡ ended (ran m) b = finish s id a image b f in
       let second : format (slicesAfter xs s) id a image b′ ≡ ended (ran m) b′ = finish (slicesAfter xs s) id a image b′ (g .0) ∙ ap (λ (k : Machine). ended (ran k) b′) (g .1) in
-      rw (first, second) (same-end m b b′ (list-stated (settingOf (f .store) (f .arguments)) (findIn (f .store .items)) (f .part) (limitsOf b) m (f .runs)))
+      rw (first, second) (same-end m b b′ (within (limitsOf b) (settingOf (f .store) (f .arguments)) (findIn (f .store .items)) (f .part) m (f .runs) .stated))
 
 -- "Demand 3's steadiness is a single claim about the whole list of additions"
 pub steadiness : Steadiness

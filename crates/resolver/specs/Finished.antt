@@ -96,3 +96,13 @@ pub record Holds (s : Bytes) (id : Bytes) (a : Option Bytes) (image : Bytes) (b 
   pub list : format s id a image b .buffers .list ≡ atFront (encErrors (reports (traceOf (settingOf (parts .store) (parts .arguments)) (findIn (parts .store .items)) (parts .part)))) (b .list)
   pub errors : parts .machine .errors ≡ reports (traceOf (settingOf (parts .store) (parts .arguments)) (findIn (parts .store .items)) (parts .part))
   pub placeables : Placeables (parts .machine)
+
+-- the same text and list buffers, another workspace
+abbrev pub withWorkspace : Buffers → Bytes → Buffers
+withWorkspace b w = record { text = b .text; list = b .list; work = w }
+
+-- each buffer as long as it was
+pub record Sized (b b′ : Buffers) : Type 0 where
+  pub text : length (b′ .text) ≡ length (b .text)
+  pub list : length (b′ .list) ≡ length (b .list)
+  pub work : length (b′ .work) ≡ length (b .work)
