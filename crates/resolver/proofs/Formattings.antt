@@ -18,16 +18,17 @@ use Rattle.resolver.specs.Effect.{Bytes}
 use Rattle.resolver.specs.Resolve.{Setting}
 use Rattle.resolver.specs.Exec.{Ran, ran, refused}
 use Rattle.resolver.specs.Format.{finished, refusedRunning, Buffers, Formatted, limitsOf, zeros, refuse, orRefuse, ended, runPattern, formatWith, formatArguments, formatPart, formatEntry, formatStore, format}
-use Rattle.resolver.specs.Finished.{settingOf, Finished, Holds, withWorkspace, Sized}
+use Rattle.resolver.specs.Finished.{listOf, settingOf, Finished, Sound, withWorkspace, Sized}
 use Rattle.resolver.proofs.Within.{Within, within}
+use Rattle.resolver.proofs.Lists.{list-of-front}
 use Rattle.resolver.proofs.Parts.{parts, finish, says}
 use Rattle.resolver.proofs.Whole.{lists-reports, placeables, nothing-left, work-enough, work-short}
 
 module _ (s id : Bytes) (a : Option Bytes) (image : Bytes) (b : Buffers) where
   -- every finished formatting: its numbers, its text, its list, its placeables
-  pub holds : (t e k u w : ℕ) → format s id a image b .answer ≡ finished t e k u w → Holds s id a image b t e k u w
+  pub sound : (t e k u w : ℕ) → format s id a image b .answer ≡ finished t e k u w → Sound s id a image b t e k u w
   unfolding ended
-  holds t e k u w h =
+  sound t e k u w h =
       let f : Finished s id a image b = parts s id a image b t e k u w h in
       let st : Setting = settingOf (f .store) (f .arguments) in
       let find : Find = findIn (f .store .items) in
@@ -38,6 +39,7 @@ module _ (s id : Bytes) (a : Option Bytes) (image : Bytes) (b : Buffers) where
         says = says s id a image b f t e k u w h;
         text = ap (λ (x : Formatted). x .buffers .text) q ∙ ap (λ (l : Bytes). atFront l (b .text)) (nothing-left st find (f .part) (limitsOf b) (f .machine) (f .runs) .0);
         list = ap (λ (x : Formatted). x .buffers .list) q ∙ ap (λ l. atFront (encErrors l) (b .list)) r;
+        listed = ap (λ (x : Formatted). listOf (x .buffers .list)) q ∙ list-of-front (f .machine .errors) (b .list) (within (limitsOf b) st find (f .part) (f .machine) (f .runs) .stated);
         errors = r;
         placeables = placeables st find (f .part) (limitsOf b) (f .machine) (f .runs);
       }

@@ -4,9 +4,10 @@ use mathlib.Core.List.{List, [], _∷_, _++_}
 use mathlib.Core.Bool.{true, _&&_}
 use mathlib.Core.Option.{Option, some}
 use Prim.Native.Nat.{ℕ, _+_, _≤_, min}
-use lib.ListN.{length}
+use lib.ListN.{length, take}
 use lib.Dec.{leb}
 use Rattle.records.specs.Got.{got}
+use Rattle.records.specs.Bytes.{be}
 use Rattle.records.specs.Rules.{isId}
 use Rattle.records.specs.Tree.{Pattern}
 use Rattle.records.specs.Images.{Entry, Store, Argument, storeOf, argumentsOf}
@@ -87,13 +88,18 @@ pub record Says (m : Machine) (t e k u w : ℕ) : Type 0 where
   pub unfound : u ≡ m .unfounds
   pub work : w ≡ m .high
 
+-- the bytes of an error list, up to the length that its header states
+unfoldable pub listOf : Bytes → Bytes
+listOf l = take (be (take 4 l)) l
+
 -- What is so of every formatting that answers finished with five numbers: it has its parts; the numbers are its machine's; the text is what
--- resolution wrote; the list is that of the errors that resolution reported, in order; placeables.
-pub record Holds (s : Bytes) (id : Bytes) (a : Option Bytes) (image : Bytes) (b : Buffers) (t e k u w : ℕ) : Type 0 where
+-- resolution wrote; the list is that of the errors that resolution reported, in order, and its header states its length; placeables.
+pub record Sound (s : Bytes) (id : Bytes) (a : Option Bytes) (image : Bytes) (b : Buffers) (t e k u w : ℕ) : Type 0 where
   pub parts : Finished s id a image b
   pub says : Says (parts .machine) t e k u w
   pub text : format s id a image b .buffers .text ≡ atFront (resolve (settingOf (parts .store) (parts .arguments)) (findIn (parts .store .items)) maxPatterns (parts .part) (bytesOf (parts .part) ∷ []) fresh .text) (b .text)
   pub list : format s id a image b .buffers .list ≡ atFront (encErrors (reports (traceOf (settingOf (parts .store) (parts .arguments)) (findIn (parts .store .items)) (parts .part)))) (b .list)
+  pub listed : listOf (format s id a image b .buffers .list) ≡ encErrors (parts .machine .errors)
   pub errors : parts .machine .errors ≡ reports (traceOf (settingOf (parts .store) (parts .arguments)) (findIn (parts .store .items)) (parts .part))
   pub placeables : Placeables (parts .machine)
 

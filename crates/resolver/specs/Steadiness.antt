@@ -4,11 +4,11 @@ use mathlib.Core.List.{List, [], _∷_}
 use mathlib.Core.Option.{Option}
 use Prim.Native.Nat.{ℕ, _≤_}
 use lib.ListN.{length, take}
-use Rattle.records.specs.Bytes.{be}
 use Rattle.layout.specs.Exact.{Octets}
 use Rattle.bundle.specs.Additions.{addResource, addFunction}
 use Rattle.resolver.specs.Effect.{Bytes}
 use Rattle.resolver.specs.Format.{finished, Buffers, Formatted, format}
+use Rattle.resolver.specs.Finished.{listOf}
 
 -- "Its calls are Add resource, plain, with any image and list buffer, and Add function, with any id and code."
 pub data Addition : Type 0 where
@@ -39,10 +39,6 @@ pub record Longer (b b′ : Buffers) : Type 0 where
   pub text : length (b .text) ≤ length (b′ .text)
   pub list : length (b .list) ≤ length (b′ .list)
   pub work : length (b .work) ≤ length (b′ .work)
-
--- the bytes of an error list, up to the length that its header states
-unfoldable pub listOf : Bytes → Bytes
-listOf l = take (be (take 4 l)) l
 
 -- "Equal are the bytes of text and list up to their lengths, the error count, placeables begun and unfound": the whole answer, its workspace figure
 -- included, and those bytes
