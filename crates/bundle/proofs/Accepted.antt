@@ -36,13 +36,15 @@ passed true r s l a n h = (refl, refl)
 passed false r s l a n h = absurd (not-done r n h)
 
 -- a refusal at a test, or after it
-stopped : (c : Bool) (r : ℕ) (s l : List ℕ) (a : Added) → ((k : ℕ) → a .answer ≡ refused k → a ≡ refuse k s l) → (k : ℕ) → orRefuse c r s l a .answer ≡ refused k → orRefuse c r s l a ≡ refuse k s l
+stopped : (c : Bool) (r : ℕ) (s l : List ℕ) (a : Added) → ((k : ℕ) → a .answer ≡ refused k → a ≡ refuse k s l) → (k : ℕ)
+    → orRefuse c r s l a .answer ≡ refused k → orRefuse c r s l a ≡ refuse k s l
 unfolding orRefuse refuse
 stopped true r s l a f k h = f k h
 stopped false r s l a f k h = let q : r ≡ k = cc in rw q
 
 -- the item's bytes, in a slice that has room for them
-accept : (s : List ℕ) → Octets s → (v : Store) (used : ℕ) → storeOf s ≡ got v used → (x : Item) → ValidItem x → (b : List ℕ) → encItem x ≡ b → (k : ℕ) → length b ≡ k → hasRoom s used (length (v .items)) k ≡ true → Accepted s (withItem s used (length (v .items)) b) x
+accept : (s : List ℕ) → Octets s → (v : Store) (used : ℕ) → storeOf s ≡ got v used → (x : Item) → ValidItem x → (b : List ℕ) → encItem x ≡ b → (k : ℕ)
+    → length b ≡ k → hasRoom s used (length (v .items)) k ≡ true → Accepted s (withItem s used (length (v .items)) b) x
 accept s oct v used h x ok b e k q room = record {
   store = v;
   used = used;
@@ -61,7 +63,9 @@ function-length i =
     omega (arith, length-append (toBe 4 (4 + length (1 ∷ 1 ∷ b))) (1 ∷ 1 ∷ b), length-toBe 4 (4 + length (1 ∷ 1 ∷ b)), length-append (toBe 2 (length i)) i, length-toBe 2 (length i))
 
 module _ (s image : List ℕ) (octets : Octets s) (bytes : Octets image) where
-  plain : (l : List ℕ) (v : Store) (used : ℕ) (es : List Entry) (e : ℕ) → storeOf s ≡ got v used → resourceOf image ≡ got es e → (n : ℕ) → addPlainTo s image l (got v used) (got es e) .answer ≡ done n → AcceptedResource s image (addPlainTo s image l (got v used) (got es e) .slice) Item.plain
+  plain : (l : List ℕ) (v : Store) (used : ℕ) (es : List Entry) (e : ℕ) → storeOf s ≡ got v used → resourceOf image ≡ got es e → (n : ℕ)
+      → addPlainTo s image l (got v used) (got es e) .answer ≡ done n
+      → AcceptedResource s image (addPlainTo s image l (got v used) (got es e) .slice) Item.plain
   unfolding addPlainTo listed succeed ValidItem encItem
   plain l v used es e p q n h =
       let room : Bool = hasRoom s used (length (v .items)) (1 + length image) in
@@ -79,7 +83,9 @@ module _ (s image : List ℕ) (octets : Octets s) (bytes : Octets image) where
         accepted = rw (a .1 ∙ b .1) (accept s octets v used p (Item.plain es) (y .0) (1 ∷ image) (ap (λ (t : List ℕ). 1 ∷ t) (sym (y .1))) (1 + length image) (omega arith) (a .0));
       }
 
-  overrides : (v : Store) (used : ℕ) (es : List Entry) (e : ℕ) → storeOf s ≡ got v used → resourceOf image ≡ got es e → (n : ℕ) → addOverridingTo s image (got v used) (got es e) .answer ≡ done n → AcceptedResource s image (addOverridingTo s image (got v used) (got es e) .slice) Item.overriding
+  overrides : (v : Store) (used : ℕ) (es : List Entry) (e : ℕ) → storeOf s ≡ got v used → resourceOf image ≡ got es e → (n : ℕ)
+      → addOverridingTo s image (got v used) (got es e) .answer ≡ done n
+      → AcceptedResource s image (addOverridingTo s image (got v used) (got es e) .slice) Item.overriding
   unfolding addOverridingTo succeed ValidItem encItem
   overrides v used es e p q n h =
       let room : Bool = hasRoom s used (length (v .items)) (1 + length image) in
@@ -93,27 +99,32 @@ module _ (s image : List ℕ) (octets : Octets s) (bytes : Octets image) where
       }
 
   -- an accepted plain resource stands behind the other items
-  pub resource-accepted : (l : List ℕ) (n : ℕ) → addResource s image l .answer ≡ done n → AcceptedResource s image (addResource s image l .slice) Item.plain
+  pub resource-accepted : (l : List ℕ) (n : ℕ) → addResource s image l .answer ≡ done n
+      → AcceptedResource s image (addResource s image l .slice) Item.plain
   unfolding addResource addPlainTo refuse
   resource-accepted l n = go (storeOf s) (resourceOf image) refl refl
     where
-      go : (g : Got Store) (r : Got (List Entry)) → storeOf s ≡ g → resourceOf image ≡ r → addPlainTo s image l g r .answer ≡ done n → AcceptedResource s image (addPlainTo s image l g r .slice) Item.plain
+      go : (g : Got Store) (r : Got (List Entry)) → storeOf s ≡ g → resourceOf image ≡ r → addPlainTo s image l g r .answer ≡ done n
+          → AcceptedResource s image (addPlainTo s image l g r .slice) Item.plain
       go bad r p q h = absurd (not-done 4 n h)
       go (got v used) bad p q h = absurd (not-done 5 n h)
       go (got v used) (got es e) p q h = plain l v used es e p q n h
 
   -- an accepted overriding resource stands behind the other items
-  pub overriding-accepted : (n : ℕ) → addResourceOverriding s image .answer ≡ done n → AcceptedResource s image (addResourceOverriding s image .slice) Item.overriding
+  pub overriding-accepted : (n : ℕ) → addResourceOverriding s image .answer ≡ done n
+      → AcceptedResource s image (addResourceOverriding s image .slice) Item.overriding
   unfolding addResourceOverriding addOverridingTo refuse
   overriding-accepted n = go (storeOf s) (resourceOf image) refl refl
     where
-      go : (g : Got Store) (r : Got (List Entry)) → storeOf s ≡ g → resourceOf image ≡ r → addOverridingTo s image g r .answer ≡ done n → AcceptedResource s image (addOverridingTo s image g r .slice) Item.overriding
+      go : (g : Got Store) (r : Got (List Entry)) → storeOf s ≡ g → resourceOf image ≡ r → addOverridingTo s image g r .answer ≡ done n
+          → AcceptedResource s image (addOverridingTo s image g r .slice) Item.overriding
       go bad r p q h = absurd (not-done 4 n h)
       go (got v used) bad p q h = absurd (not-done 5 n h)
       go (got v used) (got es e) p q h = overrides v used es e p q n h
 
 module _ (s id : List ℕ) (octets : Octets s) (code : ℕ) where
-  named : (v : Store) (used : ℕ) → storeOf s ≡ got v used → (n : ℕ) → addFunctionTo s id code (got v used) .answer ≡ done n → Accepted s (addFunctionTo s id code (got v used) .slice) (Item.function id)
+  named : (v : Store) (used : ℕ) → storeOf s ≡ got v used → (n : ℕ) → addFunctionTo s id code (got v used) .answer ≡ done n
+      → Accepted s (addFunctionTo s id code (got v used) .slice) (Item.function id)
   unfolding addFunctionTo succeed encItem
   named v used p n h =
       let end : Added = succeed 0 (withItem s used (length (v .items)) (3 ∷ encFunction id)) [] in
@@ -131,7 +142,8 @@ module _ (s id : List ℕ) (octets : Octets s) (code : ℕ) where
   unfolding addFunction addFunctionTo refuse
   function-accepted n = go (storeOf s) refl
     where
-      go : (g : Got Store) → storeOf s ≡ g → addFunctionTo s id code g .answer ≡ done n → Accepted s (addFunctionTo s id code g .slice) (Item.function id)
+      go : (g : Got Store) → storeOf s ≡ g → addFunctionTo s id code g .answer ≡ done n
+          → Accepted s (addFunctionTo s id code g .slice) (Item.function id)
       go bad p h = absurd (not-done 4 n h)
       go (got v used) p h = named v used p n h
 
@@ -154,7 +166,8 @@ resource-refused s image l k = go (storeOf s) (resourceOf image)
     go (got v used) bad h = refuses 5 k s l h
     go (got v used) (got es e) h = stopped _ 6 s l _ (λ j g. stopped _ 7 s l _ (λ i f. succeeds _ s _ l _ i f) j g) k h
 
-pub overriding-refused : (s image : List ℕ) (k : ℕ) → addResourceOverriding s image .answer ≡ refused k → addResourceOverriding s image ≡ refuse k s []
+pub overriding-refused : (s image : List ℕ) (k : ℕ) → addResourceOverriding s image .answer ≡ refused k
+    → addResourceOverriding s image ≡ refuse k s []
 unfolding addResourceOverriding addOverridingTo
 overriding-refused s image k = go (storeOf s) (resourceOf image)
   where

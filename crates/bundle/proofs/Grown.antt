@@ -47,7 +47,8 @@ front-length : (v : Store) → length (front v) ≡ 3
 front-length v = omega (arith, flag-length (v .isolating))
 
 -- a store's bytes: used length, the three bytes that stay, item count, items
-store-shape : (v : Store) → encStore v ≡ toBe 4 (9 + length (encAll encItem (v .items))) ++ (front v ++ (toBe 2 (length (v .items)) ++ encAll encItem (v .items)))
+store-shape : (v : Store)
+    → encStore v ≡ toBe 4 (9 + length (encAll encItem (v .items))) ++ (front v ++ (toBe 2 (length (v .items)) ++ encAll encItem (v .items)))
 unfolding encStore encWhole encCounted
 store-shape v =
     let n : ℕ = length (v .items) in
@@ -131,7 +132,8 @@ module _ (s : List ℕ) (oct : Octets s) (v : Store) (used : ℕ) (h : storeOf s
     with-item = at-front ∙ ap (λ (j : ℕ). encStore (withMore v x) ++ drop j s) more-length
 
     -- one item more
-    pub grown : ValidItem x → hasRoom s used (length (v .items)) (length (encItem x)) ≡ true → Grown s (withItem s used (length (v .items)) (encItem x)) v used x
+    pub grown : ValidItem x → hasRoom s used (length (v .items)) (length (encItem x)) ≡ true
+        → Grown s (withItem s used (length (v .items)) (encItem x)) v used x
     unfolding ValidStore
     grown valid room =
         let n : ℕ = length (encItem x) in

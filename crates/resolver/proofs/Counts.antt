@@ -57,7 +57,8 @@ ok-entered s q =
     let h : suc (s .begun) ≤ 100 = ltb-true _ _ q in
     record { few = omega arith; over = sym (le-ltb 100 (suc (s .begun)) h) }
 
-pub ok-over : (s : State) → Ok s → s .dirty ≡ false → ltb (s .begun) maxPlaceables ≡ false → Ok (record { begun = suc (s .begun); dirty = true; locals = s .locals })
+pub ok-over : (s : State) → Ok s → s .dirty ≡ false → ltb (s .begun) maxPlaceables ≡ false
+    → Ok (record { begun = suc (s .begun); dirty = true; locals = s .locals })
 unfolding maxPlaceables
 ok-over s o p q =
     let h : 100 ≤ s .begun = ltb-false _ _ q in
@@ -65,7 +66,9 @@ ok-over s o p q =
     record { few = omega arith; over = sym (lt-ltb 100 (suc (s .begun)) (omega arith)) }
 
 -- a placeable: one begun, what stands before its expression, one expanded, the rest
-counts-go : (b m : M Done) → Counts Done b b → Counts Done m m → (s : State) → Ok s → (d few : Bool) → s .dirty ≡ d → ltb (s .begun) maxPlaceables ≡ few → Counted s ((enterIf d few >>= λ go. onlyIf go (b >> (emit expand >> m))) s .trace) ((enterIf d few >>= λ go. onlyIf go (b >> (emit expand >> m))) s .state)
+counts-go : (b m : M Done) → Counts Done b b → Counts Done m m → (s : State) → Ok s → (d few : Bool) → s .dirty ≡ d
+    → ltb (s .begun) maxPlaceables ≡ few
+    → Counted s ((enterIf d few >>= λ go. onlyIf go (b >> (emit expand >> m))) s .trace) ((enterIf d few >>= λ go. onlyIf go (b >> (emit expand >> m))) s .state)
 unfolding _>>=_ _>>_ enterIf onlyIf emit ret maxPlaceables
 counts-go b m hb hm s o true few p q = stays s o
 counts-go b m hb hm s o false false p q =
@@ -135,5 +138,6 @@ unfolding lookUp
 counts-look find i = counts-look-for (find i)
 
 -- a resolution's effects and its state agree on the placeables
-pub counted : (st : Setting) (find : Find) (n : ℕ) (p : Pattern) (t : Trail) (s : State) → Ok s → Counted s (resolve st find n p t s .trace) (resolve st find n p t s .state)
+pub counted : (st : Setting) (find : Find) (n : ℕ) (p : Pattern) (t : Trail) (s : State) → Ok s
+    → Counted s (resolve st find n p t s .trace) (resolve st find n p t s .state)
 counted st find n p t = rResolve Counts counts-closed find find (counts-look find) st n p t

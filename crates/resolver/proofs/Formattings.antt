@@ -34,12 +34,14 @@ module _ (s id : Bytes) (a : Option Bytes) (image : Bytes) (b : Buffers) where
       let find : Find = findIn (f .store .items) in
       let r = lists-reports st find (f .part) (limitsOf b) (f .machine) (f .runs) in
       let q : format s id a image b ≡ ended (ran (f .machine)) b = finish s id a image b f in
+      let stated = within (limitsOf b) st find (f .part) (f .machine) (f .runs) .stated in
+      let left = nothing-left st find (f .part) (limitsOf b) (f .machine) (f .runs) in
       record {
         parts = f;
         says = says s id a image b f t e k u w h;
-        text = ap (λ (x : Formatted). x .buffers .text) q ∙ ap (λ (l : Bytes). atFront l (b .text)) (nothing-left st find (f .part) (limitsOf b) (f .machine) (f .runs) .0);
+        text = ap (λ (x : Formatted). x .buffers .text) q ∙ ap (λ (l : Bytes). atFront l (b .text)) (left .0);
         list = ap (λ (x : Formatted). x .buffers .list) q ∙ ap (λ l. atFront (encErrors l) (b .list)) r;
-        listed = ap (λ (x : Formatted). listOf (x .buffers .list)) q ∙ list-of-front (f .machine .errors) (b .list) (within (limitsOf b) st find (f .part) (f .machine) (f .runs) .stated);
+        listed = ap (λ (x : Formatted). listOf (x .buffers .list)) q ∙ list-of-front (f .machine .errors) (b .list) stated ∙ ap encErrors r;
         errors = r;
         placeables = placeables st find (f .part) (limitsOf b) (f .machine) (f .runs);
       }
@@ -92,11 +94,17 @@ module _ (b : Buffers) where
   sized-test true n f h = h refl
   sized-test false n f h = sized-same
 
-  sized-end : (st : Setting) (find : Find) (p : Pattern) → leb listHeader (length (b .list)) ≡ true → (r : Ran) → runPattern st find (limitsOf b) p ≡ r → Sized b (ended r b .buffers)
+  sized-end : (st : Setting) (find : Find) (p : Pattern) → leb listHeader (length (b .list)) ≡ true → (r : Ran)
+      → runPattern st find (limitsOf b) p ≡ r → Sized b (ended r b .buffers)
   unfolding ended zeros limitsOf
   sized-end st find p t (ran m) h =
       let w : Within (limitsOf b) m = within (limitsOf b) st find p m h in
-      record { text = front-length (m .written) (b .text) (w .text); list = front-length (encErrors (m .errors)) (b .list) (w .list (leb-true listHeader (length (b .list)) t)); work = length-replicate _ _ }
+      let header : listHeader ≤ length (b .list) = leb-true listHeader (length (b .list)) t in
+      record {
+        text = front-length (m .written) (b .text) (w .text);
+        list = front-length (encErrors (m .errors)) (b .list) (w .list header);
+        work = length-replicate _ _;
+      }
   sized-end st find p t (refused n) h = record { text = length-replicate _ _; list = length-replicate _ _; work = length-replicate _ _ }
 
   sized-arguments : (store : Store) (p : Pattern) (g : Got (List (Bytes × Argument))) → Sized b (formatArguments store p g b .buffers)

@@ -24,7 +24,8 @@ pub record Meet (A : Type 0) (m m′ : M A) (s : State) : Type 0 where
 abbrev pub Agree : Rels
 Agree k A m m′ = (s : State) → Ok s → k ≤ s .begun → Meet A m m′ s
 
-agree-bind : (k : ℕ) {A B : Type 0} (m m′ : M A) (f f′ : A → M B) → Agree k A m m′ → ((a : A) → Agree k B (f a) (f′ a)) → Agree k B (m >>= f) (m′ >>= f′)
+agree-bind : (k : ℕ) {A B : Type 0} (m m′ : M A) (f f′ : A → M B) → Agree k A m m′ → ((a : A) → Agree k B (f a) (f′ a))
+    → Agree k B (m >>= f) (m′ >>= f′)
 unfolding _>>=_
 agree-bind k m m′ f f′ h l s o q =
     let r : Meet _ m m′ s = h s o q in
@@ -48,7 +49,8 @@ agree-release k m m′ h s o q =
     record { same-run = rw (r .same-run); ok = r .ok; up = r .up }
 
 -- what is expanded runs where one more was begun
-agree-go : (k : ℕ) (m m′ : M Done) → Agree (suc k) Done m m′ → (s : State) → Ok s → k ≤ s .begun → (b few : Bool) → s .dirty ≡ b → ltb (s .begun) maxPlaceables ≡ few → Meet Done (enterIf b few >>= λ go. onlyIf go m) (enterIf b few >>= λ go. onlyIf go m′) s
+agree-go : (k : ℕ) (m m′ : M Done) → Agree (suc k) Done m m′ → (s : State) → Ok s → k ≤ s .begun → (b few : Bool) → s .dirty ≡ b
+    → ltb (s .begun) maxPlaceables ≡ few → Meet Done (enterIf b few >>= λ go. onlyIf go m) (enterIf b few >>= λ go. onlyIf go m′) s
 unfolding _>>=_ enterIf onlyIf ret
 agree-go k m m′ h s o q true few p t = record { same-run = refl; ok = o; up = omega arith }
 agree-go k m m′ h s o q false false p t = record { same-run = refl; ok = ok-over s o p t; up = omega arith }
@@ -66,8 +68,10 @@ unfolding entered enter _>>=_
 agree-entered k b b′ m m′ h l s o q =
     let n : M Done = b >> (emit expand >> m) in
     let n′ : M Done = b′ >> (emit expand >> m′) in
-    let e : Agree (suc k) Done n n′ = agree-then (suc k) b b′ (emit expand >> m) (emit expand >> m′) h (agree-then (suc k) (emit expand) (emit expand) m m′ (agree-emit (suc k)) l) in
-    let z : Meet Done (enterIf (s .dirty) (ltb (s .begun) maxPlaceables) >>= λ go. onlyIf go n) (enterIf (s .dirty) (ltb (s .begun) maxPlaceables) >>= λ go. onlyIf go n′) s = agree-go k n n′ e s o q _ _ refl refl in
+    let i : Agree (suc k) Done (emit expand >> m) (emit expand >> m′) = agree-then (suc k) (emit expand) (emit expand) m m′ (agree-emit (suc k)) l in
+    let e : Agree (suc k) Done n n′ = agree-then (suc k) b b′ (emit expand >> m) (emit expand >> m′) h i in
+    let first : M Bool = enterIf (s .dirty) (ltb (s .begun) maxPlaceables) in
+    let z : Meet Done (first >>= λ go. onlyIf go n) (first >>= λ go. onlyIf go n′) s = agree-go k n n′ e s o q _ _ refl refl in
     record { same-run = z .same-run; ok = z .ok; up = z .up }
 
 agree-closed : Closed Agree
@@ -124,7 +128,8 @@ module _ (st : Setting) (find : Find) (cross : Pattern → Trail → M Done) (tr
   pattern-cut (pattern b es) s d = elements-cut es _ s d
 
 -- where depth and placeables begun make 101, one more of depth changes nothing
-pub deeper : (st : Setting) (find : Find) (n k : ℕ) → 101 ≤ n + k → (p : Pattern) (t : Trail) → Agree k Done (resolve st find n p t) (resolve st find (suc n) p t)
+pub deeper : (st : Setting) (find : Find) (n k : ℕ) → 101 ≤ n + k → (p : Pattern) (t : Trail)
+    → Agree k Done (resolve st find n p t) (resolve st find (suc n) p t)
 unfolding resolve ret
 deeper st find zero k h p t = λ s o q. record {
   same-run = pattern-cut st find _ t p s (o .over ∙ lt-ltb 100 (s .begun) (omega arith));
@@ -132,13 +137,15 @@ deeper st find zero k h p t = λ s o q. record {
   up = omega arith;
 }
 deeper st find (suc n) k h p t =
-    rPattern Agree agree-closed find find (agree-look find) (λ q u. resolve st find n q u) (λ q u. resolve st find (suc n) q u) t k (λ j lt q u. deeper st find n j (omega arith) q u) st p
+    rPattern Agree agree-closed find find (agree-look find) (λ q u. resolve st find n q u) (λ q u. resolve st find (suc n) q u) t k
+    (λ j lt q u. deeper st find n j (omega arith) q u) st p
 
 pub ok-fresh : Ok fresh
 unfolding fresh
 ok-fresh = record { few = omega arith; over = refl }
 
-deeper-by : (st : Setting) (find : Find) (d : ℕ) (p : Pattern) (t : Trail) → resolve st find (d + maxPatterns) p t fresh ≡ resolve st find maxPatterns p t fresh
+deeper-by : (st : Setting) (find : Find) (d : ℕ) (p : Pattern) (t : Trail)
+    → resolve st find (d + maxPatterns) p t fresh ≡ resolve st find maxPatterns p t fresh
 unfolding maxPatterns
 deeper-by st find zero p t = refl
 deeper-by st find (suc d) p t =
@@ -146,7 +153,8 @@ deeper-by st find (suc d) p t =
     rw e (deeper st find (d + 102) 0 (omega arith) p t fresh ok-fresh (omega arith) .same-run ∙ deeper-by st find d p t)
 
 -- the depth of the definition cuts nothing: every greater one gives the same
-pub deep-enough : (st : Setting) (find : Find) (n : ℕ) → maxPatterns ≤ n → (p : Pattern) (t : Trail) → resolve st find n p t fresh ≡ resolve st find maxPatterns p t fresh
+pub deep-enough : (st : Setting) (find : Find) (n : ℕ) → maxPatterns ≤ n → (p : Pattern) (t : Trail)
+    → resolve st find n p t fresh ≡ resolve st find maxPatterns p t fresh
 deep-enough st find n h p t =
     let e : n ≡ n - maxPatterns + maxPatterns = omega arith in
     ap (λ (d : ℕ). resolve st find d p t fresh) e ∙ deeper-by st find (n - maxPatterns) p t

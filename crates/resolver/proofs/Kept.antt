@@ -67,7 +67,9 @@ enter-none s = enterIf-none (s .dirty) (ltb (s .begun) maxPlaceables) s
 
 entered-none : (b m : M Done) → Keepless Done b → Keepless Done m → Keepless Done (entered b m)
 unfolding entered
-entered-none b m h k = bind-none enter (λ go. onlyIf go (b >> (emit expand >> m))) enter-none (λ go. only-none go _ (then-none b (emit expand >> m) h (then-none (emit expand) m (emit-none expand) k)))
+entered-none b m h k =
+    let n = then-none b (emit expand >> m) h (then-none (emit expand) m (emit-none expand) k) in
+    bind-none enter (λ go. onlyIf go (b >> (emit expand >> m))) enter-none (λ go. only-none go _ n)
 
 mark-none : (b : Bool) (t : Bytes) → Keepless Done (mark b t)
 unfolding mark

@@ -160,7 +160,8 @@ net-release x h s L m m′ e =
     let z : Stepped m′ (c .mid .nest) (c .mid .written) (c .mid .used - x s .kept) = freed L (x s .kept) (c .mid) m′ (one-step L (free (x s .kept)) (c .mid) m′ (c .right)) in
     record { level = z .nest ∙ i .level; made = z .written ∙ i .made; used = omega (arith, z .used, i .used) }
 
-two-net : (L : Limits) (e f : Effect) (m m′ : Machine) → ((n : Machine) → exec L (e ∷ []) m ≡ ran n → Netted m n [] 0) → ((n : Machine) → exec L (f ∷ []) n ≡ ran m′ → Netted n m′ [] 0) → exec L (e ∷ f ∷ []) m ≡ ran m′ → Netted m m′ [] 0
+two-net : (L : Limits) (e f : Effect) (m m′ : Machine) → ((n : Machine) → exec L (e ∷ []) m ≡ ran n → Netted m n [] 0)
+    → ((n : Machine) → exec L (f ∷ []) n ≡ ran m′ → Netted n m′ [] 0) → exec L (e ∷ f ∷ []) m ≡ ran m′ → Netted m m′ [] 0
 two-net L e f m m′ p q h =
     let c = between L (e ∷ []) (f ∷ []) m m′ h in
     both-net m (c .mid) m′ [] [] 0 0 (p (c .mid) (c .left)) (q (c .mid) (c .right))
@@ -186,7 +187,9 @@ net-expand s L m m′ h = expand-net L m m′ h
 
 net-entered : (b x : M Done) → Net Done b b → Net Done x x → Net Done (entered b x) (entered b x)
 unfolding entered
-net-entered b x g h = net-bind enter (λ go. onlyIf go (b >> (emit expand >> x))) net-enter (λ go. net-only (b >> (emit expand >> x)) (net-then b (emit expand >> x) g (net-then (emit expand) x net-expand h)) go)
+net-entered b x g h =
+    let n = net-then b (emit expand >> x) g (net-then (emit expand) x net-expand h) in
+    net-bind enter (λ go. onlyIf go (b >> (emit expand >> x))) net-enter (λ go. net-only (b >> (emit expand >> x)) n go)
 
 net-closed : Closed (λ k. Net)
 unfolding ret emit isDirty getLocals setLocals

@@ -37,7 +37,8 @@ module _ (b : Buffers) (t e k u w : ℕ) where
   run-ended (ran m) h = (m, refl)
   run-ended (refused n) h = absurd (not-running n t e k u w h)
 
-  pattern-ran : (store : Store) (p : Pattern) (args : List (Bytes × Argument)) → formatWith store p args b .answer ≡ finished t e k u w → (leb listHeader (length (b .list)) ≡ true) × (m : Machine) × (runPattern (settingOf store args) (findIn (store .items)) (limitsOf b) p ≡ ran m)
+  pattern-ran : (store : Store) (p : Pattern) (args : List (Bytes × Argument)) → formatWith store p args b .answer ≡ finished t e k u w
+      → (leb listHeader (length (b .list)) ≡ true) × (m : Machine) × (runPattern (settingOf store args) (findIn (store .items)) (limitsOf b) p ≡ ran m)
   unfolding formatWith
   pattern-ran store p args h =
       let r : Ran = runPattern (settingOf store args) (findIn (store .items)) (limitsOf b) p in
@@ -45,23 +46,27 @@ module _ (b : Buffers) (t e k u w : ℕ) where
       let m = run-ended r (l .1) in
       (l .0, m .0, m .1)
 
-  arguments-read : (store : Store) (p : Pattern) (g : Got (List (Bytes × Argument))) → formatArguments store p g b .answer ≡ finished t e k u w → (args : List (Bytes × Argument)) × (z : ℕ) × (g ≡ got args z) × (formatWith store p args b .answer ≡ finished t e k u w)
+  arguments-read : (store : Store) (p : Pattern) (g : Got (List (Bytes × Argument))) → formatArguments store p g b .answer ≡ finished t e k u w
+      → (args : List (Bytes × Argument)) × (z : ℕ) × (g ≡ got args z) × (formatWith store p args b .answer ≡ finished t e k u w)
   unfolding formatArguments refuse
   arguments-read store p (got args z) h = (args, z, refl, h)
   arguments-read store p bad h = absurd (not-before 13 t e k u w h)
 
   module _ (image : Bytes) where
-    part-found : (store : Store) (o : Option Pattern) → formatPart store o image b .answer ≡ finished t e k u w → (p : Pattern) × (o ≡ some p) × (formatArguments store p (argumentsOf image) b .answer ≡ finished t e k u w)
+    part-found : (store : Store) (o : Option Pattern) → formatPart store o image b .answer ≡ finished t e k u w
+        → (p : Pattern) × (o ≡ some p) × (formatArguments store p (argumentsOf image) b .answer ≡ finished t e k u w)
     unfolding formatPart refuse
     part-found store (some p) h = (p, refl, h)
     part-found store none h = absurd (not-before 12 t e k u w h)
 
-    entry-found : (store : Store) (a : Option Bytes) (o : Option Entry) → formatEntry store o a image b .answer ≡ finished t e k u w → (x : Entry) × (o ≡ some x) × (formatPart store (partOf a x) image b .answer ≡ finished t e k u w)
+    entry-found : (store : Store) (a : Option Bytes) (o : Option Entry) → formatEntry store o a image b .answer ≡ finished t e k u w
+        → (x : Entry) × (o ≡ some x) × (formatPart store (partOf a x) image b .answer ≡ finished t e k u w)
     unfolding formatEntry refuse
     entry-found store a (some x) h = (x, refl, h)
     entry-found store a none h = absurd (not-before 11 t e k u w h)
 
-    store-read : (id : Bytes) (a : Option Bytes) (g : Got Store) → formatStore g id a image b .answer ≡ finished t e k u w → (store : Store) × (z : ℕ) × (g ≡ got store z) × (orRefuse (isId id && isIdOrNone a) 8 b (formatEntry store (asMessage (findIn (store .items) id)) a image b) .answer ≡ finished t e k u w)
+    store-read : (id : Bytes) (a : Option Bytes) (g : Got Store) → formatStore g id a image b .answer ≡ finished t e k u w
+        → (store : Store) × (z : ℕ) × (g ≡ got store z) × (orRefuse (isId id && isIdOrNone a) 8 b (formatEntry store (asMessage (findIn (store .items) id)) a image b) .answer ≡ finished t e k u w)
     unfolding formatStore refuse
     store-read id a (got store z) h = (store, z, refl, h)
     store-read id a bad h = absurd (not-before 4 t e k u w h)

@@ -1,5 +1,5 @@
 -- Laws of runs: a run of two traces, and what a run that is not refused has counted and listed.
-use mathlib.Core.Path.{_≡_, refl, sym, _∙_, subst}
+use mathlib.Core.Path.{_≡_, refl, ap, sym, _∙_, subst}
 use mathlib.Core.List.{[], _∷_, _++_, append-assoc, append-nil}
 use mathlib.Core.Bool.{Bool, true, false}
 use Prim.Native.Nat.{ℕ, zero, suc, _+_}
@@ -30,7 +30,8 @@ unfolding exec andThen
 exec-append L [] b m = refl
 exec-append L (e ∷ a) b m = go (step L e m) (λ n. exec-append L a b n)
   where
-    go : (r : Ran) → ((n : Machine) → exec L (a ++ b) n ≡ andThen (exec L a n) (λ n. exec L b n)) → andThen r (λ n. exec L (a ++ b) n) ≡ andThen (andThen r (λ n. exec L a n)) (λ n. exec L b n)
+    go : (r : Ran) → ((n : Machine) → exec L (a ++ b) n ≡ andThen (exec L a n) (λ n. exec L b n))
+        → andThen r (λ n. exec L (a ++ b) n) ≡ andThen (andThen r (λ n. exec L a n)) (λ n. exec L b n)
     go (ran n) ih = ih n
     go (refused n) ih = refl
 
@@ -77,22 +78,31 @@ record Counted (e : Effect) (m m′ : Machine) : Type 0 where
   unfounds : m′ .unfounds ≡ isUnfound e + m .unfounds
   errors : m′ .errors ≡ m .errors ++ reported e
 
+-- an effect that lists nothing
+unlisted : (e : Effect) (m n m′ : Machine) → n ≡ m′ → reported e ≡ [] → n .errors ≡ m .errors
+    → n .begun ≡ isBegin e + m .begun → n .expanded ≡ isExpand e + m .expanded → n .unfounds ≡ isUnfound e + m .unfounds → Counted e m m′
+unlisted e m n m′ q r l b x u =
+    subst (λ z. Counted e m z) q
+    (record { begun = b; expanded = x; unfounds = u; errors = l ∙ sym (append-nil (m .errors)) ∙ ap (λ y. m .errors ++ y) (sym r) })
+
 put-counted : (L : Limits) (b : Bytes) (n : ℕ) (m m′ : Machine) → putAt L b m n ≡ ran m′ → Counted (put b) m m′
 unfolding putAt putText putWork
-put-counted L b zero m m′ h = subst (λ x. Counted (put b) m x) (allowed _ _ _ _ m′ h) (record { begun = omega arith; expanded = omega arith; unfounds = omega arith; errors = sym (append-nil _) })
-put-counted L b (suc n) m m′ h = subst (λ x. Counted (put b) m x) (allowed _ _ _ _ m′ h) (record { begun = omega arith; expanded = omega arith; unfounds = omega arith; errors = sym (append-nil _) })
+put-counted L b zero m m′ h = unlisted _ m _ m′ (allowed _ _ _ _ m′ h) refl refl (omega arith) (omega arith) (omega arith)
+put-counted L b (suc n) m m′ h = unlisted _ m _ m′ (allowed _ _ _ _ m′ h) refl refl (omega arith) (omega arith) (omega arith)
 
 step-counted : (L : Limits) (e : Effect) (m m′ : Machine) → step L e m ≡ ran m′ → Counted e m m′
 unfolding step listed
 step-counted L (put b) m m′ h = put-counted L b (m .nest) m m′ h
-step-counted L (report e) m m′ h = subst (λ x. Counted (report e) m x) (allowed _ _ _ _ m′ h) (record { begun = omega arith; expanded = omega arith; unfounds = omega arith; errors = refl })
-step-counted L begin m m′ h = subst (λ x. Counted begin m x) (same-machine _ m′ h) (record { begun = omega arith; expanded = omega arith; unfounds = omega arith; errors = sym (append-nil _) })
-step-counted L expand m m′ h = subst (λ x. Counted expand m x) (same-machine _ m′ h) (record { begun = omega arith; expanded = omega arith; unfounds = omega arith; errors = sym (append-nil _) })
-step-counted L unfound m m′ h = subst (λ x. Counted unfound m x) (same-machine _ m′ h) (record { begun = omega arith; expanded = omega arith; unfounds = omega arith; errors = sym (append-nil _) })
-step-counted L open-text m m′ h = subst (λ x. Counted open-text m x) (same-machine _ m′ h) (record { begun = omega arith; expanded = omega arith; unfounds = omega arith; errors = sym (append-nil _) })
-step-counted L keep-text m m′ h = subst (λ x. Counted keep-text m x) (same-machine _ m′ h) (record { begun = omega arith; expanded = omega arith; unfounds = omega arith; errors = sym (append-nil _) })
-step-counted L (free n) m m′ h = subst (λ x. Counted (free n) m x) (same-machine _ m′ h) (record { begun = omega arith; expanded = omega arith; unfounds = omega arith; errors = sym (append-nil _) })
-step-counted L (merged n) m m′ h = subst (λ x. Counted (merged n) m x) (allowed _ _ _ _ m′ h) (record { begun = omega arith; expanded = omega arith; unfounds = omega arith; errors = sym (append-nil _) })
+step-counted L (report e) m m′ h =
+    subst (λ z. Counted (report e) m z) (allowed _ _ _ _ m′ h)
+    (record { begun = omega arith; expanded = omega arith; unfounds = omega arith; errors = refl })
+step-counted L begin m m′ h = unlisted _ m _ m′ (same-machine _ m′ h) refl refl (omega arith) (omega arith) (omega arith)
+step-counted L expand m m′ h = unlisted _ m _ m′ (same-machine _ m′ h) refl refl (omega arith) (omega arith) (omega arith)
+step-counted L unfound m m′ h = unlisted _ m _ m′ (same-machine _ m′ h) refl refl (omega arith) (omega arith) (omega arith)
+step-counted L open-text m m′ h = unlisted _ m _ m′ (same-machine _ m′ h) refl refl (omega arith) (omega arith) (omega arith)
+step-counted L keep-text m m′ h = unlisted _ m _ m′ (same-machine _ m′ h) refl refl (omega arith) (omega arith) (omega arith)
+step-counted L (free n) m m′ h = unlisted _ m _ m′ (same-machine _ m′ h) refl refl (omega arith) (omega arith) (omega arith)
+step-counted L (merged n) m m′ h = unlisted _ m _ m′ (allowed _ _ _ _ m′ h) refl refl (omega arith) (omega arith) (omega arith)
 
 -- what a run counts and lists: the trace's own
 pub record Tallied (t : Trace) (m m′ : Machine) : Type 0 where
@@ -104,7 +114,9 @@ pub record Tallied (t : Trace) (m m′ : Machine) : Type 0 where
 -- counts are those of the trace; the errors listed are the trace's reports, in order
 pub exec-tallied : (L : Limits) (t : Trace) (m m′ : Machine) → exec L t m ≡ ran m′ → Tallied t m m′
 unfolding exec
-exec-tallied L [] m m′ h = subst (λ x. Tallied [] m x) (same-machine m m′ h) (record { begun = omega arith; expanded = omega arith; unfounds = omega arith; errors = sym (append-nil _) })
+exec-tallied L [] m m′ h =
+    subst (λ x. Tallied [] m x) (same-machine m m′ h)
+    (record { begun = omega arith; expanded = omega arith; unfounds = omega arith; errors = sym (append-nil _) })
 exec-tallied L (e ∷ t) m m′ h =
     let o : Onward L e t m m′ = onward L e t m m′ h in
     let c : Counted e m (o .mid) = step-counted L e m (o .mid) (o .first) in

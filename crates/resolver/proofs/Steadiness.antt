@@ -86,17 +86,20 @@ one-sized : (x : Addition) → InBytes x → (s : Bytes) → Octets s → (lengt
 unfolding sliceAfter refuse
 one-sized (Addition.resource image list) b s oct = go (addResource s image list .answer) refl
   where
-    go : (a : adding.Answer) → addResource s image list .answer ≡ a → (length (addResource s image list .slice) ≡ length s) × Octets (addResource s image list .slice)
+    go : (a : adding.Answer) → addResource s image list .answer ≡ a
+        → (length (addResource s image list .slice) ≡ length s) × Octets (addResource s image list .slice)
     go (adding.done n) q = let r = resource-accepted s image oct b list n q .accepted .grown in (r .size, r .octets)
     go (adding.refused k) q = rw (resource-refused s image list k q) (refl, oct)
 one-sized (Addition.function id code) b s oct = go (addFunction s id code .answer) refl
   where
-    go : (a : adding.Answer) → addFunction s id code .answer ≡ a → (length (addFunction s id code .slice) ≡ length s) × Octets (addFunction s id code .slice)
+    go : (a : adding.Answer) → addFunction s id code .answer ≡ a
+        → (length (addFunction s id code .slice) ≡ length s) × Octets (addFunction s id code .slice)
     go (adding.done n) q = let r = function-accepted s id oct code n q .grown in (r .size, r .octets)
     go (adding.refused k) q = rw (function-refused s id code k q) (refl, oct)
 
 -- the whole list
-all-extend : (xs : List Addition) → AllInBytes xs → (v : Store) (used : ℕ) (s : Bytes) → Octets s → storeOf s ≡ got v used → Extended v (slicesAfter xs s)
+all-extend : (xs : List Addition) → AllInBytes xs → (v : Store) (used : ℕ) (s : Bytes) → Octets s → storeOf s ≡ got v used
+    → Extended v (slicesAfter xs s)
 unfolding slicesAfter
 all-extend [] b v used s oct h = unchanged v s used h
 all-extend (x ∷ xs) b v used s oct h =
@@ -118,7 +121,8 @@ held none x q = absurd (let z : _≡_ {A = ℕ} 0 1 = cc in omega arith)
 held (some h) x q = (h, refl)
 
 -- what a machine leaves in the front of two buffers
-same-end : (m : Machine) (b b′ : Buffers) → length (encErrors (m .errors)) ≤ 4294967295 → Same (length (m .written)) (ended (ran m) b) (ended (ran m) b′)
+same-end : (m : Machine) (b b′ : Buffers) → length (encErrors (m .errors)) ≤ 4294967295
+    → Same (length (m .written)) (ended (ran m) b) (ended (ran m) b′)
 unfolding ended atFront
 same-end m b b′ h = record {
   answer = refl;
@@ -157,7 +161,8 @@ module _ (s : Bytes) (oct : Octets s) (xs : List Addition) (bytes : AllInBytes x
         refl,
       )
 
-  same-again : (f : Finished s id a image b) → f .machine .unfounds ≡ 0 → Same (length (f .machine .written)) (format s id a image b) (format (slicesAfter xs s) id a image b′)
+  same-again : (f : Finished s id a image b) → f .machine .unfounds ≡ 0
+      → Same (length (f .machine .written)) (format s id a image b) (format (slicesAfter xs s) id a image b′)
   same-again f z =
       let m : Machine = f .machine in
       let g = again f z in

@@ -68,5 +68,6 @@ steady-look find find′ ext i s = go (find i) refl
     go (some x) e cl = rw (ext i x e)
 
 -- lookups enter a resolution only where they are unfound or give what was found
-pub steady : (st : Setting) (find find′ : Find) → Extends find find′ → (n : ℕ) (p : Pattern) (t : Trail) (s : State) → tally isUnfound (resolve st find n p t s .trace) ≡ 0 → resolve st find′ n p t s ≡ resolve st find n p t s
+pub steady : (st : Setting) (find find′ : Find) → Extends find find′ → (n : ℕ) (p : Pattern) (t : Trail) (s : State)
+    → tally isUnfound (resolve st find n p t s .trace) ≡ 0 → resolve st find′ n p t s ≡ resolve st find n p t s
 steady st find find′ ext n p t = rResolve Steady steady-closed find find′ (steady-look find find′ ext) st n p t

@@ -176,7 +176,8 @@ module _ (R : Rels) (c : Closed R) where
         rOnPart e h t none = rRefError e h t
         rOnPart e h t (some p) = rTrack t p
 
-        rMessageFound : (i : Bytes) (a : Option Bytes) (o : Option Entry) → R k Done (messageFound cross trail i a o) (messageFound cross′ trail i a o)
+        rMessageFound : (i : Bytes) (a : Option Bytes) (o : Option Entry)
+            → R k Done (messageFound cross trail i a o) (messageFound cross′ trail i a o)
         unfolding messageFound missingPart
         rMessageFound i none none = rRefError _ tt _
         rMessageFound i (some a) none = rRefError _ tt _
@@ -192,7 +193,8 @@ module _ (R : Rels) (c : Closed R) where
         unfolding writeMessage
         rMessage i a = c .rBind (rLook k i) (λ o. rMessageFound i a (asMessage o))
 
-        rTerm : (i : Bytes) (a : Option Bytes) (ns : List (Bytes × Value)) → R k Done (writeTerm cross trail find i a ns) (writeTerm cross′ trail find′ i a ns)
+        rTerm : (i : Bytes) (a : Option Bytes) (ns : List (Bytes × Value))
+            → R k Done (writeTerm cross trail find i a ns) (writeTerm cross′ trail find′ i a ns)
         unfolding writeTerm
         rTerm i a ns = rThen (c .rSet _) (c .rBind (rLook k i) (λ o. rThen (rTermFound i a (asTerm o)) (c .rSet _)))
 
@@ -203,11 +205,13 @@ module _ (R : Rels) (c : Closed R) where
           pWalk : (p : Pattern) (k : ℕ) → k₀ ≤ k → R k Done (writePattern st find cross trail p) (writePattern st find′ cross′ trail p)
           pWalk (pattern b es) k q = esWalk es _ k q
 
-          esWalk : (es : Elements) (iso : Bool) (k : ℕ) → k₀ ≤ k → R k Done (writeElements st find cross trail es iso) (writeElements st find′ cross′ trail es iso)
+          esWalk : (es : Elements) (iso : Bool) (k : ℕ) → k₀ ≤ k
+              → R k Done (writeElements st find cross trail es iso) (writeElements st find′ cross′ trail es iso)
           esWalk no-more iso k q = c .rRet tt
           esWalk (more e es) iso k q = rThen (eWalk e iso k q) (esWalk es iso k q)
 
-          eWalk : (e : Element) (iso : Bool) (k : ℕ) → k₀ ≤ k → R k Done (writeElement st find cross trail e iso) (writeElement st find′ cross′ trail e iso)
+          eWalk : (e : Element) (iso : Bool) (k : ℕ) → k₀ ≤ k
+              → R k Done (writeElement st find cross trail e iso) (writeElement st find′ cross′ trail e iso)
           eWalk (text t) iso k q = c .rBind (c .rDirty) (λ d. rOnlyIf _ (c .rWrite t))
           eWalk (placeable x) iso k q = c .rEntered (rMark _ _) (rThen (xWalk x (suc k) (omega arith)) (rThen (rCutShort _) (rMark _ _)))
 
@@ -247,7 +251,8 @@ module _ (R : Rels) (c : Closed R) where
           aWalk without k q = c .rRet _
           aWalk (with-args xs ns) k q = gWalk xs ns k q
 
-          gWalk : (xs : Inlines) (ns : Named) (k : ℕ) → k₀ < k → R k Given (getArguments st find cross trail xs ns) (getArguments st find′ cross′ trail xs ns)
+          gWalk : (xs : Inlines) (ns : Named) (k : ℕ) → k₀ < k
+              → R k Given (getArguments st find cross trail xs ns) (getArguments st find′ cross′ trail xs ns)
           gWalk no-inline ns k q = c .rBind (rNamed ns) (λ n. c .rRet _)
           gWalk (and x xs) ns k q = c .rBind (hWalk x k q) (λ v. c .rBind (gWalk xs ns k q) (λ g. c .rRet _))
 
@@ -256,7 +261,8 @@ module _ (R : Rels) (c : Closed R) where
         rPattern p = pWalk p k₀ (le-refl _)
 
 -- all resolution keeps a relation that does not depend on the placeables begun
-pub rResolve : (R : Rel) → Closed (λ k. R) → (find find′ : Find) → ((i : Bytes) → R (Option Holder) (lookUp find i) (lookUp find′ i)) → (st : Setting) (n : ℕ) (p : Pattern) (t : Trail) → R Done (resolve st find n p t) (resolve st find′ n p t)
+pub rResolve : (R : Rel) → Closed (λ k. R) → (find find′ : Find) → ((i : Bytes) → R (Option Holder) (lookUp find i) (lookUp find′ i))
+    → (st : Setting) (n : ℕ) (p : Pattern) (t : Trail) → R Done (resolve st find n p t) (resolve st find′ n p t)
 unfolding resolve
 rResolve R c find find′ look st zero p t = c .rRet {k = 0} tt
 rResolve R c find find′ look st (suc n) p t =

@@ -107,6 +107,8 @@ module _ (L : Limits) (w : ℕ) where
       let o : Onward L e t m m′ = onward L e t m m′ h in
       go o (leb (o .mid .high) w) refl (exec-short t (o .mid) m′)
     where
-      go : (o : Onward L e t m m′) (b : Bool) → leb (o .mid .high) w ≡ b → (o .mid .high ≤ w → w < m′ .high → exec L t (o .mid) ≡ ran m′ → exec (withWork L w) t (o .mid) ≡ refused 16) → exec (withWork L w) (e ∷ t) m ≡ refused 16
+      go : (o : Onward L e t m m′) (b : Bool) → leb (o .mid .high) w ≡ b
+          → (o .mid .high ≤ w → w < m′ .high → exec L t (o .mid) ≡ ran m′ → exec (withWork L w) t (o .mid) ≡ refused 16)
+          → exec (withWork L w) (e ∷ t) m ≡ refused 16
       go o true q ih = exec-step (withWork L w) e t m (o .mid) (step-fits e m (o .mid) (leb-true _ _ q) (o .first)) ∙ ih (leb-true _ _ q) lt (o .rest)
       go o false q ih = exec-refused e t m 16 (step-short e m (o .mid) le (leb-false _ _ q) (o .first))

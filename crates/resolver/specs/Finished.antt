@@ -14,7 +14,7 @@ use Rattle.records.specs.Images.{Entry, Store, Argument, storeOf, argumentsOf}
 use Rattle.records.specs.Errors.{Error, overriding, reference, noValue, missingDefault, cyclic, tooManyPlaceables, encErrors, listHeader}
 use Rattle.bundle.specs.Lookup.{Find, findIn, partOf}
 use Rattle.bundle.specs.Additions.{atFront}
-use Rattle.resolver.specs.Effect.{Bytes, Effect, put, report, begin, expand, unfound, open-text, keep-text, free, merged, Trace}
+use Rattle.resolver.specs.Effect.{Bytes, Effect, put, report, begin, expand, unfound, open-text, keep-text, free, merged, Trace, Out, Done}
 use Rattle.resolver.specs.Resolve.{Setting, bytesOf, asMessage, resolve}
 use Rattle.resolver.specs.Exec.{Machine, ran}
 use Rattle.resolver.specs.Format.{Buffers, valuesOf, limitsOf, isIdOrNone, maxPatterns, fresh, runPattern, format}
@@ -92,15 +92,19 @@ pub record Says (m : Machine) (t e k u w : ℕ) : Type 0 where
 unfoldable pub listOf : Bytes → Bytes
 listOf l = take (be (take 4 l)) l
 
+-- what resolution gives for a formatting that finishes
+abbrev pub outOf : {s id : Bytes} {a : Option Bytes} {image : Bytes} {b : Buffers} → Finished s id a image b → Out Done
+outOf f = resolve (settingOf (f .store) (f .arguments)) (findIn (f .store .items)) maxPatterns (f .part) (bytesOf (f .part) ∷ []) fresh
+
 -- What is so of every formatting that answers finished with five numbers: it has its parts; the numbers are its machine's; the text is what
 -- resolution wrote; the list is that of the errors that resolution reported, in order, and its header states its length; placeables.
 pub record Sound (s : Bytes) (id : Bytes) (a : Option Bytes) (image : Bytes) (b : Buffers) (t e k u w : ℕ) : Type 0 where
   pub parts : Finished s id a image b
   pub says : Says (parts .machine) t e k u w
-  pub text : format s id a image b .buffers .text ≡ atFront (resolve (settingOf (parts .store) (parts .arguments)) (findIn (parts .store .items)) maxPatterns (parts .part) (bytesOf (parts .part) ∷ []) fresh .text) (b .text)
-  pub list : format s id a image b .buffers .list ≡ atFront (encErrors (reports (traceOf (settingOf (parts .store) (parts .arguments)) (findIn (parts .store .items)) (parts .part)))) (b .list)
-  pub listed : listOf (format s id a image b .buffers .list) ≡ encErrors (parts .machine .errors)
-  pub errors : parts .machine .errors ≡ reports (traceOf (settingOf (parts .store) (parts .arguments)) (findIn (parts .store .items)) (parts .part))
+  pub text : format s id a image b .buffers .text ≡ atFront (outOf parts .text) (b .text)
+  pub list : format s id a image b .buffers .list ≡ atFront (encErrors (reports (outOf parts .trace))) (b .list)
+  pub listed : listOf (format s id a image b .buffers .list) ≡ encErrors (reports (outOf parts .trace))
+  pub errors : parts .machine .errors ≡ reports (outOf parts .trace)
   pub placeables : Placeables (parts .machine)
 
 -- the same text and list buffers, another workspace
