@@ -4,24 +4,24 @@ use mathlib.Core.List.{List, [], _∷_, _++_}
 use mathlib.Core.Bool.{Bool, true, false, not}
 use Prim.Native.Nat.{ℕ, _+_, _≤_}
 use native.Mathlib.Omega.{arith}
-use lib.ListN.{length, length-append}
+use lib.ListN.{length, drop, length-append, length-drop}
 use lib.Dec.{leb, eqb}
 use borrow.Author.Tests.{leb-true}
 use Rattle.records.specs.Got.{Got, got, bad}
 use Rattle.records.specs.Bytes.{toBe, run}
 use Rattle.records.specs.Rules.{idStep, isId}
-use Rattle.records.specs.Images.{Entry, Item, Store, isSome, storeOf, resourceOf}
-use Rattle.records.specs.Encode.{encStr, encWhole, encFunction, encItem}
+use Rattle.records.specs.Images.{Entry, Item, Store, isSome, maxStore, maxItems, maxLocale, storeOf, resourceOf}
+use Rattle.records.specs.Encode.{encStr, encWhole, encFunction, encItem, encAll, encStore}
 use Rattle.records.specs.Errors.{Error, encErrors}
-use Rattle.records.specs.Valid.{ValidItem}
+use Rattle.records.specs.Valid.{ValidItem, ValidStore}
 use Rattle.layout.specs.Exact.{Octets}
 use Rattle.layout.proofs.Numbers.{length-toBe}
-use Rattle.layout.proofs.Octets.{and-right}
-use Rattle.layout.proofs.Theorems.{resource-sound}
+use Rattle.layout.proofs.Octets.{octets-append, and-right}
+use Rattle.layout.proofs.Theorems.{resource-sound, store-complete, store-octets}
 use Rattle.bundle.specs.Lookup.{findIn}
-use Rattle.bundle.specs.Additions.{done, refused, Added, refuse, succeed, orRefuse, atFront, withItem, hasRoom, repeats, listed, addPlainTo, addResource, addOverridingTo, addResourceOverriding, addFunctionTo, addFunction}
-use Rattle.bundle.specs.Growth.{Grown, Accepted, AcceptedResource}
-use Rattle.bundle.proofs.Grown.{grown}
+use Rattle.bundle.specs.Additions.{done, refused, Added, refuse, succeed, orRefuse, atFront, withItem, hasRoom, repeats, listed, addPlainTo, addResource, addOverridingTo, addResourceOverriding, addFunctionTo, addFunction, newBundle}
+use Rattle.bundle.specs.Growth.{Grown, Accepted, AcceptedResource, Founded}
+use Rattle.bundle.proofs.Grown.{store-length, octets-drop, grown}
 
 not-done : (r n : ℕ) → refused r ≡ done n → ⊥
 not-done r n h = let z : _≡_ {A = ℕ} 0 1 = cc in omega arith
@@ -156,6 +156,20 @@ succeeds : (n : ℕ) (s s′ l l′ : List ℕ) (k : ℕ) → succeed n s′ l�
 unfolding succeed
 succeeds n s s′ l l′ k h = absurd (not-refused k n h)
 
+founded : (s : List ℕ) → Octets s → (locale isolating : ℕ) → 9 ≤ length s → locale ≤ maxLocale
+    → Founded s (atFront (encStore (record { locale = locale; isolating = eqb isolating 1; items = [] })) s) locale isolating
+unfolding atFront ValidStore maxStore maxItems encAll
+founded s oct locale isolating room l =
+    let v : Store = record { locale = locale; isolating = eqb isolating 1; items = [] } in
+    let n : length (encStore v) ≡ 9 = store-length v in
+    let ok : ValidStore v = (l, tt, omega arith, omega arith) in
+    let r : List ℕ = drop (length (encStore v)) s in
+    record {
+      reads = store-complete r ok ∙ ap (got v) n;
+      size = omega (arith, length-append (encStore v) r, length-drop (length (encStore v)) s, n);
+      octets = octets-append (encStore v) r (store-octets v ok) (octets-drop (length (encStore v)) s oct);
+    }
+
 -- a refused addition has changed neither the slice nor the list
 pub resource-refused : (s image l : List ℕ) (k : ℕ) → addResource s image l .answer ≡ refused k → addResource s image l ≡ refuse k s l
 unfolding addResource addPlainTo listed
@@ -183,3 +197,23 @@ function-refused s id code k = go (storeOf s)
     go : (g : Got Store) → addFunctionTo s id code g .answer ≡ refused k → addFunctionTo s id code g ≡ refuse k s []
     go bad h = refuses 4 k s [] h
     go (got v used) h = stopped _ 8 s [] _ (λ k₁ h₁. stopped _ 9 s [] _ (λ k₂ h₂. stopped _ 10 s [] _ (λ k₃ h₃. stopped _ 6 s [] _ (λ k₄ h₄. succeeds _ s _ [] _ k₄ h₄) k₃ h₃) k₂ h₂) k₁ h₁) k h
+
+-- an accepted new bundle is a store with no item
+pub new-accepted : (s : List ℕ) → Octets s → (locale isolating n : ℕ) → newBundle s locale isolating .answer ≡ done n
+    → Founded s (newBundle s locale isolating .slice) locale isolating
+unfolding newBundle succeed
+new-accepted s oct locale isolating n h =
+    let v : Store = record { locale = locale; isolating = eqb isolating 1; items = [] } in
+    let end : Added = succeed 0 (atFront (encStore v) s) [] in
+    let flag : Added = orRefuse (leb isolating 1) 3 s [] end in
+    let place : Added = orRefuse (leb locale maxLocale) 2 s [] flag in
+    let a = passed (leb 9 (length s)) 1 s [] place n h in
+    let b = passed (leb locale maxLocale) 2 s [] flag n (ap (λ (x : Added). x .answer) (sym (a .1)) ∙ h) in
+    let c = passed (leb isolating 1) 3 s [] end n (ap (λ (x : Added). x .answer) (sym (a .1 ∙ b .1)) ∙ h) in
+    rw (a .1 ∙ b .1 ∙ c .1) (founded s oct locale isolating (leb-true 9 (length s) (a .0)) (leb-true locale maxLocale (b .0)))
+
+-- a refused one has changed nothing
+pub new-refused : (s : List ℕ) (locale isolating k : ℕ) → newBundle s locale isolating .answer ≡ refused k
+    → newBundle s locale isolating ≡ refuse k s []
+unfolding newBundle
+new-refused s locale isolating k h = stopped _ 1 s [] _ (λ k₁ h₁. stopped _ 2 s [] _ (λ k₂ h₂. stopped _ 3 s [] _ (λ k₃ h₃. succeeds _ s _ [] _ k₃ h₃) k₂ h₂) k₁ h₁) k h

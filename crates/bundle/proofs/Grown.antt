@@ -56,13 +56,13 @@ store-shape v =
     let q : 4 + length (front v ++ (toBe 2 n ++ e)) ≡ 9 + length e = omega (arith, length-append (front v) (toBe 2 n ++ e), length-append (toBe 2 n) e, length-toBe 2 n, front-length v) in
     ap (λ (j : ℕ). toBe 4 j ++ (front v ++ (toBe 2 n ++ e))) q
 
-store-length : (v : Store) → length (encStore v) ≡ 9 + length (encAll encItem (v .items))
+pub store-length : (v : Store) → length (encStore v) ≡ 9 + length (encAll encItem (v .items))
 store-length v =
     let n : ℕ = length (v .items) in
     let e : List ℕ = encAll encItem (v .items) in
     ap length (store-shape v) ∙ omega (arith, length-append (toBe 4 (9 + length e)) (front v ++ (toBe 2 n ++ e)), length-toBe 4 (9 + length e), length-append (front v) (toBe 2 n ++ e), length-append (toBe 2 n) e, length-toBe 2 n, front-length v)
 
-octets-drop : (n : ℕ) (s : List ℕ) → Octets s → Octets (drop n s)
+pub octets-drop : (n : ℕ) (s : List ℕ) → Octets s → Octets (drop n s)
 octets-drop n s h = subst Octets (take-length (drop n s)) (octets-part s n (length (drop n s)) h)
 
 -- what "6" asks

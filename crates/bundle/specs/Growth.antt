@@ -3,6 +3,7 @@ use mathlib.Core.Path.{_≡_}
 use mathlib.Core.List.{List, [], _∷_, _++_}
 use Prim.Native.Nat.{ℕ, _+_}
 use lib.ListN.{length}
+use lib.Dec.{eqb}
 use Rattle.records.specs.Got.{got}
 use Rattle.records.specs.Images.{Entry, Item, Store, storeOf, resourceOf}
 use Rattle.records.specs.Encode.{encItem}
@@ -31,3 +32,9 @@ pub record AcceptedResource (s image s′ : List ℕ) (mode : List Entry → Ite
   pub end : ℕ
   pub read : resourceOf image ≡ got entries end
   pub accepted : Accepted s s′ (mode entries)
+
+-- an accepted new bundle: a store with no item, in a slice of the same length
+pub record Founded (s s′ : List ℕ) (locale isolating : ℕ) : Type 0 where
+  pub reads : storeOf s′ ≡ got (record { locale = locale; isolating = eqb isolating 1; items = [] }) 9
+  pub size : length s′ ≡ length s
+  pub octets : Octets s′

@@ -14,3 +14,4 @@ pub mod Whole
 pub mod Formattings
 pub mod Lists
 pub mod Steadiness
+pub mod Refusals

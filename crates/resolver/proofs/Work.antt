@@ -95,9 +95,9 @@ module _ (L : Limits) (w : ℕ) where
   step-short (free n) m m′ le lt h = absurd (omega (arith, same-high _ m′ (same-machine _ m′ h)))
   step-short (merged n) m m′ le lt h = absurd (omega (arith, same-high _ m′ (allowed _ _ _ _ m′ h)))
 
-  exec-refused : (e : Effect) (t : Trace) (m : Machine) (r : ℕ) → step (withWork L w) e m ≡ refused r → exec (withWork L w) (e ∷ t) m ≡ refused r
+  step-stops : (e : Effect) (t : Trace) (m : Machine) (r : ℕ) → step (withWork L w) e m ≡ refused r → exec (withWork L w) (e ∷ t) m ≡ refused r
   unfolding exec andThen
-  exec-refused e t m r h = rw h
+  step-stops e t m r h = rw h
 
   -- a workspace that does not hold the highest use: 16
   pub exec-short : (t : Trace) (m m′ : Machine) → m .high ≤ w → w < m′ .high → exec L t m ≡ ran m′ → exec (withWork L w) t m ≡ refused 16
@@ -111,4 +111,4 @@ module _ (L : Limits) (w : ℕ) where
           → (o .mid .high ≤ w → w < m′ .high → exec L t (o .mid) ≡ ran m′ → exec (withWork L w) t (o .mid) ≡ refused 16)
           → exec (withWork L w) (e ∷ t) m ≡ refused 16
       go o true q ih = exec-step (withWork L w) e t m (o .mid) (step-fits e m (o .mid) (leb-true _ _ q) (o .first)) ∙ ih (leb-true _ _ q) lt (o .rest)
-      go o false q ih = exec-refused e t m 16 (step-short e m (o .mid) le (leb-false _ _ q) (o .first))
+      go o false q ih = step-stops e t m 16 (step-short e m (o .mid) le (leb-false _ _ q) (o .first))

@@ -17,7 +17,7 @@ use Rattle.bundle.specs.Additions.{atFront}
 use Rattle.resolver.specs.Effect.{Bytes, Effect, put, report, begin, expand, unfound, open-text, keep-text, free, merged, Trace, Out, Done}
 use Rattle.resolver.specs.Resolve.{Setting, bytesOf, asMessage, resolve}
 use Rattle.resolver.specs.Exec.{Machine, ran}
-use Rattle.resolver.specs.Format.{Buffers, valuesOf, limitsOf, isIdOrNone, maxPatterns, fresh, runPattern, format}
+use Rattle.resolver.specs.Format.{Answer, finished, refusedBefore, refusedRunning, Buffers, valuesOf, limitsOf, isIdOrNone, maxPatterns, fresh, runPattern, format}
 
 -- the errors that a trace reports, in order
 abbrev pub reported : Effect → List Error
@@ -116,3 +116,24 @@ pub record Sized (b b′ : Buffers) : Type 0 where
   pub text : length (b′ .text) ≡ length (b .text)
   pub list : length (b′ .list) ≡ length (b .list)
   pub work : length (b′ .work) ≡ length (b .work)
+
+-- the refusals that change nothing, and those that the run meets
+pub data Before : ℕ → Type 0 where
+  store : Before 4
+  ids : Before 8
+  message : Before 11
+  part : Before 12
+  arguments : Before 13
+  header : Before 7
+
+pub data Running : ℕ → Type 0 where
+  text : Running 15
+  list : Running 7
+  work : Running 16
+  merge : Running 17
+
+-- each refusal in its place
+abbrev pub Numbered : Answer → Type 0
+Numbered (finished t e k u w) = Unit {0}
+Numbered (refusedBefore n) = Before n
+Numbered (refusedRunning n) = Running n
