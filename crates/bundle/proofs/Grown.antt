@@ -60,7 +60,9 @@ pub store-length : (v : Store) → length (encStore v) ≡ 9 + length (encAll en
 store-length v =
     let n : ℕ = length (v .items) in
     let e : List ℕ = encAll encItem (v .items) in
-    ap length (store-shape v) ∙ omega (arith, length-append (toBe 4 (9 + length e)) (front v ++ (toBe 2 n ++ e)), length-toBe 4 (9 + length e), length-append (front v) (toBe 2 n ++ e), length-append (toBe 2 n) e, length-toBe 2 n, front-length v)
+    let r : List ℕ = toBe 2 n ++ e in
+    let q : length (front v ++ r) ≡ 5 + length e = omega (arith, length-append (front v) r, length-append (toBe 2 n) e, length-toBe 2 n, front-length v) in
+    ap length (store-shape v) ∙ omega (arith, length-append (toBe 4 (9 + length e)) (front v ++ r), length-toBe 4 (9 + length e), q)
 
 pub octets-drop : (n : ℕ) (s : List ℕ) → Octets s → Octets (drop n s)
 octets-drop n s h = subst Octets (take-length (drop n s)) (octets-part s n (length (drop n s)) h)
@@ -105,7 +107,8 @@ module _ (s : List ℕ) (oct : Octets s) (v : Store) (used : ℕ) (h : storeOf s
       let n : List ℕ = toBe 2 (length (v .items)) in
       let e : List ℕ = encAll encItem (v .items) in
       let q : a ++ (front v ++ (n ++ (e ++ drop used s))) ≡ (a ++ (front v ++ n)) ++ (e ++ drop used s) = simp append-assoc in
-      let l : length (a ++ (front v ++ n)) ≡ 9 = omega (arith, length-append a (front v ++ n), length-append (front v) n, length-toBe 4 (9 + length e), length-toBe 2 (length (v .items)), front-length v) in
+      let k : length (front v ++ n) ≡ 5 = omega (arith, length-append (front v) n, length-toBe 2 (length (v .items)), front-length v) in
+      let l : length (a ++ (front v ++ n)) ≡ 9 = omega (arith, length-append a (front v ++ n), length-toBe 4 (9 + length e), k) in
       let m : length e ≡ used - 9 = omega (arith, used-is) in
       ap (λ (l : List ℕ). part l 9 (used - 9)) (slice-shape ∙ q) ∙ ap (take (used - 9)) (drop-at (a ++ (front v ++ n)) (e ++ drop used s) 9 l) ∙ take-at e (drop used s) (used - 9) m
 

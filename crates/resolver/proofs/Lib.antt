@@ -1,7 +1,8 @@
 pub mod Walk
 pub mod Tally
-pub mod Steady
 pub mod Runs
+pub mod Held
+pub mod Steady
 pub mod Wider
 pub mod Work
 pub mod Within
@@ -9,9 +10,11 @@ pub mod Counts
 pub mod Fuel
 pub mod Net
 pub mod Kept
+pub mod Costs
+pub mod Bounded
+pub mod Lists
 pub mod Parts
 pub mod Whole
 pub mod Formattings
-pub mod Lists
-pub mod Steadiness
 pub mod Refusals
+pub mod Steadiness

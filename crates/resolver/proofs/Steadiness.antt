@@ -1,14 +1,14 @@
 -- Demand 3: additions change no formatting that finished with nothing unfound.
 use mathlib.Core.Path.{_≡_, refl, ap, sym, subst, _∙_}
 use mathlib.Core.List.{List, [], _∷_, _++_, append-assoc, append-nil}
-use mathlib.Core.Option.{Option, none, some}
+use mathlib.Core.Option.{Option, some}
 use Prim.Native.Nat.{ℕ, _+_, _≤_}
 use native.Mathlib.Omega.{arith}
 use lib.ListN.{length}
 use lib.Seq.{take-append-seam}
 use borrow.Author.Tests.{leb-true, le-leb}
 use Rattle.records.specs.Got.{got}
-use Rattle.records.specs.Images.{Entry, Item, Store, storeOf}
+use Rattle.records.specs.Images.{Item, Store, storeOf}
 use Rattle.records.specs.Encode.{encItem}
 use Rattle.records.specs.Errors.{encErrors, listHeader}
 use Rattle.layout.specs.Exact.{Octets}
@@ -24,6 +24,7 @@ use Rattle.resolver.specs.Exec.{Machine, ran}
 use Rattle.resolver.specs.Format.{Answer, Buffers, limitsOf, ended, format}
 use Rattle.resolver.specs.Finished.{settingOf, Finished, Says}
 use Rattle.resolver.specs.Steadiness.{Addition, InBytes, AllInBytes, sliceAfter, slicesAfter, Longer, Same, Steadiness}
+use Rattle.resolver.proofs.Held.{message-held}
 use Rattle.resolver.proofs.Wider.{Wider}
 use Rattle.resolver.proofs.Parts.{parts, finish, says}
 use Rattle.resolver.proofs.Whole.{whole-steady}
@@ -114,12 +115,6 @@ slices-sized (x ∷ xs) b s oct =
     let r = one-sized x (b .0) s oct in
     slices-sized xs (b .1) (sliceAfter x s) (r .1) ∙ r .0
 
--- a message is held by something
-held : (o : Option Holder) (x : Entry) → asMessage o ≡ some x → (h : Holder) × (o ≡ some h)
-unfolding asMessage
-held none x q = absurd (let z : _≡_ {A = ℕ} 0 1 = cc in omega arith)
-held (some h) x q = (h, refl)
-
 -- what a machine leaves in the front of two buffers
 same-end : (m : Machine) (b b′ : Buffers) → length (encErrors (m .errors)) ≤ 4294967295
     → Same (length (m .written)) (ended (ran m) b) (ended (ran m) b′)
@@ -138,8 +133,8 @@ module _ (s : Bytes) (oct : Octets s) (xs : List Addition) (bytes : AllInBytes x
       let v : Store = f .store in
       let e : Extended v (slicesAfter xs s) = all-extend xs bytes v (f .storeEnd) s oct (f .stored) in
       let more : Extends (findIn (v .items)) (findIn (v .items ++ e .new)) = extends (v .items) (e .new) (e .firsts) in
-      let h = held (findIn (v .items) id) (f .entry) (f .found) in
-      let same : findIn (v .items ++ e .new) id ≡ findIn (v .items) id = more id (h .0) (h .1) ∙ sym (h .1) in
+      let h : findIn (v .items) id ≡ some (Holder.entry (f .entry)) = message-held (findIn (v .items) id) (f .entry) (f .found) in
+      let same : findIn (v .items ++ e .new) id ≡ findIn (v .items) id = more id _ h ∙ sym h in
       let wider : Wider (limitsOf b) (limitsOf b′) = record { text = longer .text; list = longer .list; work = longer .work } in
       let room : listHeader ≤ length (b′ .list) = omega (arith, leb-true listHeader (length (b .list)) (f .header), longer .list) in (
         record {

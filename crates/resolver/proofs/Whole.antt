@@ -7,7 +7,7 @@ use native.Mathlib.Omega.{arith}
 use Rattle.records.specs.Tree.{Pattern}
 use Rattle.bundle.specs.Lookup.{Find}
 use Rattle.bundle.proofs.Holders.{Extends}
-use Rattle.resolver.specs.Effect.{put, report, begin, expand, unfound, open-text, keep-text, free, merged, Trace}
+use Rattle.resolver.specs.Effect.{put, report, begin, expand, unfound, open-text, keep-text, free, merged, Trace, Out, Done}
 use Rattle.resolver.specs.Resolve.{Setting, bytesOf, resolve}
 use Rattle.resolver.specs.Exec.{Machine, Limits, ran, refused, exec, start}
 use Rattle.resolver.specs.Format.{maxPatterns, fresh, runPattern}
@@ -65,7 +65,8 @@ module _ (st : Setting) (find : Find) (p : Pattern) where
     pub nothing-left : (m .written ≡ resolve st find maxPatterns p (bytesOf p ∷ []) fresh .text) × (m .nest ≡ 0) × (m .used ≡ 0)
     unfolding runPattern start
     nothing-left =
-        let r : Netted start m (resolve st find maxPatterns p (bytesOf p ∷ []) fresh .text) (resolve st find maxPatterns p (bytesOf p ∷ []) fresh .kept) = netted st find maxPatterns p (bytesOf p ∷ []) fresh L start m h in
+        let out : Out Done = resolve st find maxPatterns p (bytesOf p ∷ []) fresh in
+        let r : Netted start m (out .text) (out .kept) = netted st find maxPatterns p (bytesOf p ∷ []) fresh L start m h in
         (r .made, r .level, omega (arith, r .used, keeps-none st find maxPatterns p (bytesOf p ∷ []) fresh))
 
     -- with a workspace of the highest use, or any longer one, the run is the same
