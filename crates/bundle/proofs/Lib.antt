@@ -1,0 +1,4 @@
+pub mod Holders
+pub mod Grown
+pub mod Accepted
+pub mod Sizes

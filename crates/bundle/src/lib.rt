@@ -1,0 +1,1 @@
+// The bundle: new, additions, lookup.
