@@ -14,10 +14,10 @@ use Rattle.records.specs.Images.{Entry, Store, Argument, storeOf, argumentsOf}
 use Rattle.records.specs.Errors.{Error, overriding, reference, noValue, missingDefault, cyclic, tooManyPlaceables, encErrors, listHeader}
 use Rattle.bundle.specs.Lookup.{Find, findIn, partOf}
 use Rattle.bundle.specs.Additions.{atFront}
-use Rattle.resolver.specs.Effect.{Bytes, Effect, put, report, begin, expand, unfound, open-text, keep-text, free, merged, Trace, Out, Done}
-use Rattle.resolver.specs.Resolve.{Setting, bytesOf, asMessage, resolve}
-use Rattle.resolver.specs.Exec.{Machine, ran}
-use Rattle.resolver.specs.Format.{Answer, finished, refusedBefore, refusedRunning, Buffers, valuesOf, limitsOf, isIdOrNone, maxPatterns, fresh, runPattern, format}
+use Rattle.resolution.specs.Effect.{Bytes, Effect, put, report, begin, expand, unfound, open-text, keep-text, free, merged, Trace, Out, Done}
+use Rattle.resolution.specs.Resolve.{Setting, bytesOf, asMessage, resolve}
+use Rattle.resolution.specs.Exec.{Machine, ran}
+use Rattle.resolution.specs.Format.{Answer, finished, refusedBefore, refusedRunning, Buffers, valuesOf, limitsOf, isIdOrNone, maxPatterns, fresh, runPattern, format}
 
 -- the errors that a trace reports, in order
 abbrev pub reported : Effect → List Error

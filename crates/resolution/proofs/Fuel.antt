@@ -8,11 +8,11 @@ use lib.Dec.{ltb}
 use borrow.Author.Tests.{lt-ltb}
 use Rattle.records.specs.Tree.{Pattern, pattern, Elements, no-more, more, Element, text, placeable}
 use Rattle.bundle.specs.Lookup.{Holder, Find}
-use Rattle.resolver.specs.Effect.{Bytes, expand, State, M, Done, ret, _>>=_, _>>_, emit, write, isDirty, getLocals, setLocals, maxPlaceables, enterIf, enter, onlyIf, entered, capture, release}
-use Rattle.resolver.specs.Resolve.{Setting, Trail, lookFor, lookUp, writePattern, writeElements, writeElement, resolve}
-use Rattle.resolver.specs.Format.{maxPatterns, fresh}
-use Rattle.resolver.proofs.Walk.{Rels, Closed, rPattern}
-use Rattle.resolver.proofs.Counts.{Ok, ok-entered, ok-over}
+use Rattle.resolution.specs.Effect.{Bytes, expand, State, M, Done, ret, _>>=_, _>>_, emit, write, isDirty, getLocals, setLocals, maxPlaceables, enterIf, enter, onlyIf, entered, capture, release}
+use Rattle.resolution.specs.Resolve.{Setting, Trail, lookFor, lookUp, writePattern, writeElements, writeElement, resolve}
+use Rattle.resolution.specs.Format.{maxPatterns, fresh}
+use Rattle.resolution.proofs.Walk.{Rels, Closed, rPattern}
+use Rattle.resolution.proofs.Counts.{Ok, ok-entered, ok-over}
 
 -- two actions do the same from a state, and no fewer placeables are begun after
 pub record Meet (A : Type 0) (m m′ : M A) (s : State) : Type 0 where

@@ -11,8 +11,8 @@ use Rattle.records.specs.Tree.{Pattern, pattern, Elements, no-more, more, Eleme
 use Rattle.records.specs.Images.{Entry}
 use Rattle.records.specs.Errors.{Error}
 use Rattle.bundle.specs.Lookup.{Holder, Find}
-use Rattle.resolver.specs.Effect.{Bytes, Effect, report, expand, Locals, State, M, Done, ret, _>>=_, _>>_, emit, write, isDirty, getLocals, setLocals, maxPlaceables, enterIf, enter, onlyIf, entered, release}
-use Rattle.resolver.specs.Resolve.{Setting, Trail, mark, cutShort, writeRefError, lookFor, lookUp, asMessage, trackIf, track, onPart, messageFound, termFound, writeMessage, writeResult, foundOr, variableIn, getVariable, writeVariable, writePattern, writeElements, writeElement, writeExpression, writeNth, writeVariant, writeInline, resolve}
+use Rattle.resolution.specs.Effect.{Bytes, Effect, report, expand, Locals, State, M, Done, ret, _>>=_, _>>_, emit, write, isDirty, getLocals, setLocals, maxPlaceables, enterIf, enter, onlyIf, entered, release}
+use Rattle.resolution.specs.Resolve.{Setting, Trail, mark, cutShort, writeRefError, lookFor, lookUp, asMessage, trackIf, track, onPart, messageFound, termFound, writeMessage, writeResult, foundOr, variableIn, getVariable, writeVariable, writePattern, writeElements, writeElement, writeExpression, writeNth, writeVariant, writeInline, resolve}
 
 -- an action that keeps nothing
 abbrev pub Keepless : (A : Type 0) → M A → Type 0

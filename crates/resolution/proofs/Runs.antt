@@ -5,10 +5,10 @@ use mathlib.Core.Bool.{Bool, true, false}
 use Prim.Native.Nat.{ℕ, zero, suc, _+_}
 use native.Mathlib.Omega.{arith}
 use lib.Dec.{leb}
-use Rattle.resolver.specs.Effect.{Bytes, Effect, put, report, begin, expand, unfound, open-text, keep-text, free, merged, Trace}
-use Rattle.resolver.specs.Exec.{Machine, Limits, Ran, ran, refused, allowIf, allow, putText, putWork, putAt, listed, step, andThen, exec}
-use Rattle.resolver.specs.Finished.{reported, reports}
-use Rattle.resolver.proofs.Tally.{isBegin, isExpand, isUnfound, tally}
+use Rattle.resolution.specs.Effect.{Bytes, Effect, put, report, begin, expand, unfound, open-text, keep-text, free, merged, Trace}
+use Rattle.resolution.specs.Exec.{Machine, Limits, Ran, ran, refused, allowIf, allow, putText, putWork, putAt, listed, step, andThen, exec}
+use Rattle.resolution.specs.Finished.{reported, reports}
+use Rattle.resolution.proofs.Tally.{isBegin, isExpand, isUnfound, tally}
 
 pub not-refused : (r : ℕ) (m : Machine) → refused r ≡ ran m → ⊥
 not-refused r m h = let z : _≡_ {A = ℕ} 0 1 = cc in omega arith

@@ -6,9 +6,9 @@ use Prim.Native.Nat.{ℕ, zero, suc, _≤_}
 use native.Mathlib.Omega.{arith}
 use lib.Dec.{leb}
 use borrow.Author.Tests.{leb-true, le-leb}
-use Rattle.resolver.specs.Effect.{Bytes, Effect, put, report, begin, expand, unfound, open-text, keep-text, free, merged, Trace}
-use Rattle.resolver.specs.Exec.{Machine, Limits, ran, allowIf, allow, listLimit, putText, putWork, putAt, step, exec}
-use Rattle.resolver.proofs.Runs.{not-refused, Onward, onward, exec-step}
+use Rattle.resolution.specs.Effect.{Bytes, Effect, put, report, begin, expand, unfound, open-text, keep-text, free, merged, Trace}
+use Rattle.resolution.specs.Exec.{Machine, Limits, ran, allowIf, allow, listLimit, putText, putWork, putAt, step, exec}
+use Rattle.resolution.proofs.Runs.{not-refused, Onward, onward, exec-step}
 
 -- text, list and workspace each at least as long
 pub record Wider (L L′ : Limits) : Type 0 where

@@ -10,10 +10,10 @@ use borrow.Author.Tests.{ltb-true, ltb-false, lt-ltb, le-ltb}
 use Rattle.records.specs.Tree.{Pattern}
 use Rattle.records.specs.Errors.{Error, overriding, reference, noValue, missingDefault, cyclic, tooManyPlaceables}
 use Rattle.bundle.specs.Lookup.{Holder, Find}
-use Rattle.resolver.specs.Effect.{Bytes, Effect, report, expand, unfound, open-text, keep-text, free, Trace, State, M, Done, ret, _>>=_, _>>_, emit, write, isDirty, getLocals, setLocals, maxPlaceables, enterIf, enter, onlyIf, entered, capture, release}
-use Rattle.resolver.specs.Resolve.{Setting, Trail, lookFor, lookUp, resolve}
-use Rattle.resolver.proofs.Walk.{Rel, Closed, Plain, rResolve}
-use Rattle.resolver.proofs.Tally.{isBegin, isExpand, isOver, tally, tally-append}
+use Rattle.resolution.specs.Effect.{Bytes, Effect, report, expand, unfound, open-text, keep-text, free, Trace, State, M, Done, ret, _>>=_, _>>_, emit, write, isDirty, getLocals, setLocals, maxPlaceables, enterIf, enter, onlyIf, entered, capture, release}
+use Rattle.resolution.specs.Resolve.{Setting, Trail, lookFor, lookUp, resolve}
+use Rattle.resolution.proofs.Walk.{Rel, Closed, Plain, rResolve}
+use Rattle.resolution.proofs.Tally.{isBegin, isExpand, isOver, tally, tally-append}
 
 -- the states that a formatting passes through: at most 101 begun, and dirty from the 101st on
 pub record Ok (s : State) : Type 0 where

@@ -13,7 +13,7 @@ use Rattle.records.specs.Tree.{Literal, Key, Named, Pattern, pattern, Elements,
 use Rattle.records.specs.Images.{Kind, Entry}
 use Rattle.records.specs.Errors.{Error, Referred, reference, noValue, missingDefault, cyclic}
 use Rattle.bundle.specs.Lookup.{Holder, Find, orElse, onlyNamed, partOf}
-use Rattle.resolver.specs.Effect.{Bytes, Effect, report, unfound, merged, Locals, State, M, Done, ret, _>>=_, _>>_, emit, write, isDirty, getLocals, setLocals, onlyIf, entered, capture, release}
+use Rattle.resolution.specs.Effect.{Bytes, Effect, report, unfound, merged, Locals, State, M, Done, ret, _>>=_, _>>_, emit, write, isDirty, getLocals, setLocals, onlyIf, entered, capture, release}
 
 -- what does not change while a message is formatted: locale, isolating Flag, arguments
 pub record Setting : Type 0 where

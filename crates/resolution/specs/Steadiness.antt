@@ -6,9 +6,9 @@ use Prim.Native.Nat.{ℕ, _≤_}
 use lib.ListN.{length, take}
 use Rattle.layout.specs.Exact.{Octets}
 use Rattle.bundle.specs.Additions.{addResource, addFunction}
-use Rattle.resolver.specs.Effect.{Bytes}
-use Rattle.resolver.specs.Format.{finished, Buffers, Formatted, format}
-use Rattle.resolver.specs.Finished.{listOf}
+use Rattle.resolution.specs.Effect.{Bytes}
+use Rattle.resolution.specs.Format.{finished, Buffers, Formatted, format}
+use Rattle.resolution.specs.Finished.{listOf}
 
 -- "Its calls are Add resource, plain, with any image and list buffer, and Add function, with any id and code."
 pub data Addition : Type 0 where

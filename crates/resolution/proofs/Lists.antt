@@ -10,8 +10,8 @@ use Rattle.records.specs.Encode.{encAll, encWhole}
 use Rattle.records.specs.Errors.{Error, encError, encErrors}
 use Rattle.layout.proofs.Numbers.{length-toBe, be-toBe}
 use Rattle.bundle.specs.Additions.{atFront}
-use Rattle.resolver.specs.Effect.{Bytes}
-use Rattle.resolver.specs.Finished.{listOf}
+use Rattle.resolution.specs.Effect.{Bytes}
+use Rattle.resolution.specs.Finished.{listOf}
 
 -- a list at the front of a buffer is found again by its header
 pub list-of-front : (es : List Error) (l : Bytes) → length (encErrors es) ≤ 4294967295 → listOf (atFront (encErrors es) l) ≡ encErrors es

@@ -7,20 +7,20 @@ use native.Mathlib.Omega.{arith}
 use Rattle.records.specs.Tree.{Pattern}
 use Rattle.bundle.specs.Lookup.{Find}
 use Rattle.bundle.proofs.Holders.{Extends}
-use Rattle.resolver.specs.Effect.{put, report, begin, expand, unfound, open-text, keep-text, free, merged, Trace, Out, Done}
-use Rattle.resolver.specs.Resolve.{Setting, bytesOf, resolve}
-use Rattle.resolver.specs.Exec.{Machine, Limits, ran, refused, exec, start}
-use Rattle.resolver.specs.Format.{maxPatterns, fresh, runPattern}
-use Rattle.resolver.specs.Finished.{reports, tooManyIn, traceOf, Placeables}
-use Rattle.resolver.proofs.Tally.{isOver, tally}
-use Rattle.resolver.proofs.Runs.{Tallied, exec-tallied}
-use Rattle.resolver.proofs.Steady.{steady}
-use Rattle.resolver.proofs.Wider.{Wider, exec-wider}
-use Rattle.resolver.proofs.Work.{withWork, exec-fits, exec-short}
-use Rattle.resolver.proofs.Counts.{Counted, counted}
-use Rattle.resolver.proofs.Fuel.{ok-fresh, deep-enough}
-use Rattle.resolver.proofs.Net.{Netted, netted}
-use Rattle.resolver.proofs.Kept.{keeps-none}
+use Rattle.resolution.specs.Effect.{put, report, begin, expand, unfound, open-text, keep-text, free, merged, Trace, Out, Done}
+use Rattle.resolution.specs.Resolve.{Setting, bytesOf, resolve}
+use Rattle.resolution.specs.Exec.{Machine, Limits, ran, refused, exec, start}
+use Rattle.resolution.specs.Format.{maxPatterns, fresh, runPattern}
+use Rattle.resolution.specs.Finished.{reports, tooManyIn, traceOf, Placeables}
+use Rattle.resolution.proofs.Tally.{isOver, tally}
+use Rattle.resolution.proofs.Runs.{Tallied, exec-tallied}
+use Rattle.resolution.proofs.Steady.{steady}
+use Rattle.resolution.proofs.Wider.{Wider, exec-wider}
+use Rattle.resolution.proofs.Work.{withWork, exec-fits, exec-short}
+use Rattle.resolution.proofs.Counts.{Counted, counted}
+use Rattle.resolution.proofs.Fuel.{ok-fresh, deep-enough}
+use Rattle.resolution.proofs.Net.{Netted, netted}
+use Rattle.resolution.proofs.Kept.{keeps-none}
 
 -- the reports of TooManyPlaceables in a trace are those in its errors
 too-many-reports : (t : Trace) → tooManyIn (reports t) ≡ tally isOver t

@@ -14,15 +14,15 @@ use Rattle.records.specs.Images.{Entry, Store, Argument, storeOf}
 use Rattle.records.specs.Errors.{encErrors, listHeader}
 use Rattle.bundle.specs.Lookup.{Find, findIn}
 use Rattle.bundle.specs.Additions.{atFront}
-use Rattle.resolver.specs.Effect.{Bytes}
-use Rattle.resolver.specs.Resolve.{Setting}
-use Rattle.resolver.specs.Exec.{Ran, ran, refused}
-use Rattle.resolver.specs.Format.{finished, refusedRunning, Buffers, Formatted, limitsOf, zeros, refuse, orRefuse, ended, runPattern, formatWith, formatArguments, formatPart, formatEntry, formatStore, format}
-use Rattle.resolver.specs.Finished.{listOf, settingOf, Finished, Sound, withWorkspace, Sized}
-use Rattle.resolver.proofs.Within.{Within, within}
-use Rattle.resolver.proofs.Lists.{list-of-front}
-use Rattle.resolver.proofs.Parts.{parts, finish, says}
-use Rattle.resolver.proofs.Whole.{lists-reports, placeables, nothing-left, work-enough, work-short}
+use Rattle.resolution.specs.Effect.{Bytes}
+use Rattle.resolution.specs.Resolve.{Setting}
+use Rattle.resolution.specs.Exec.{Ran, ran, refused}
+use Rattle.resolution.specs.Format.{finished, refusedRunning, Buffers, Formatted, limitsOf, zeros, refuse, orRefuse, ended, runPattern, formatWith, formatArguments, formatPart, formatEntry, formatStore, format}
+use Rattle.resolution.specs.Finished.{listOf, settingOf, Finished, Sound, withWorkspace, Sized}
+use Rattle.resolution.proofs.Within.{Within, within}
+use Rattle.resolution.proofs.Lists.{list-of-front}
+use Rattle.resolution.proofs.Parts.{parts, finish, says}
+use Rattle.resolution.proofs.Whole.{lists-reports, placeables, nothing-left, work-enough, work-short}
 
 module _ (s id : Bytes) (a : Option Bytes) (image : Bytes) (b : Buffers) where
   -- every finished formatting: its numbers, its text, its list, its placeables

@@ -6,9 +6,9 @@ use Prim.Native.Nat.{ℕ, zero, suc, _≤_, _<_}
 use native.Mathlib.Omega.{arith}
 use lib.Dec.{leb}
 use borrow.Author.Tests.{leb-true, leb-false, le-leb, lt-leb}
-use Rattle.resolver.specs.Effect.{Bytes, Effect, put, report, begin, expand, unfound, open-text, keep-text, free, merged, Trace}
-use Rattle.resolver.specs.Exec.{Machine, Limits, ran, refused, allowIf, allow, putText, putWork, putAt, step, andThen, exec}
-use Rattle.resolver.proofs.Runs.{same-machine, allowed, Onward, onward, exec-step}
+use Rattle.resolution.specs.Effect.{Bytes, Effect, put, report, begin, expand, unfound, open-text, keep-text, free, merged, Trace}
+use Rattle.resolution.specs.Exec.{Machine, Limits, ran, refused, allowIf, allow, putText, putWork, putAt, step, andThen, exec}
+use Rattle.resolution.proofs.Runs.{same-machine, allowed, Onward, onward, exec-step}
 
 -- the same text and list, another workspace
 abbrev pub withWork : Limits → ℕ → Limits

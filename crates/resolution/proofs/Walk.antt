@@ -12,8 +12,8 @@ use Rattle.records.specs.Tree.{Literal, Named, Pattern, pattern, Elements, no-m
 use Rattle.records.specs.Images.{Entry}
 use Rattle.records.specs.Errors.{Error, overriding, reference, noValue, missingDefault, cyclic, tooManyPlaceables}
 use Rattle.bundle.specs.Lookup.{Holder, Find}
-use Rattle.resolver.specs.Effect.{Bytes, report, merged, Locals, M, Done, ret, _>>=_, _>>_, emit, write, isDirty, getLocals, setLocals, onlyIf, entered, capture, release}
-use Rattle.resolver.specs.Resolve.{Setting, Trail, Given, mark, cutShort, held, stringIf, stringValue, literalValue, namedValues, writeRefError, lookUp, asMessage, asTerm, trackIf, track, onPart, missingPart, messageFound, termFound, writeMessage, writeTerm, noteIf, noteOne, noteMerges, mergesOf, call, callFunction, writeResult, orWrong, foundOr, variableIn, getVariable, writeVariable, writePattern, writeElements, writeElement, writeExpression, writeNth, writeVariant, writeInline, resolveInline, termArguments, getArguments, resolve}
+use Rattle.resolution.specs.Effect.{Bytes, report, merged, Locals, M, Done, ret, _>>=_, _>>_, emit, write, isDirty, getLocals, setLocals, onlyIf, entered, capture, release}
+use Rattle.resolution.specs.Resolve.{Setting, Trail, Given, mark, cutShort, held, stringIf, stringValue, literalValue, namedValues, writeRefError, lookUp, asMessage, asTerm, trackIf, track, onPart, missingPart, messageFound, termFound, writeMessage, writeTerm, noteIf, noteOne, noteMerges, mergesOf, call, callFunction, writeResult, orWrong, foundOr, variableIn, getVariable, writeVariable, writePattern, writeElements, writeElement, writeExpression, writeNth, writeVariant, writeInline, resolveInline, termArguments, getArguments, resolve}
 
 -- a relation on actions
 abbrev pub Rel : Type 1

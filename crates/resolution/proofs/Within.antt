@@ -12,12 +12,12 @@ use Rattle.records.specs.Tree.{Pattern}
 use Rattle.records.specs.Encode.{encAll, encWhole}
 use Rattle.records.specs.Errors.{encErrors, listHeader}
 use Rattle.bundle.specs.Lookup.{Find}
-use Rattle.resolver.specs.Effect.{Bytes, Effect, put, report, begin, expand, unfound, open-text, keep-text, free, merged, Trace}
-use Rattle.resolver.specs.Resolve.{Setting}
-use Rattle.resolver.specs.Exec.{Machine, Limits, ran, allowIf, allow, listLimit, putText, putWork, putAt, step, exec, start}
-use Rattle.resolver.specs.Format.{runPattern}
-use Rattle.resolver.specs.Finished.{traceOf}
-use Rattle.resolver.proofs.Runs.{not-refused, same-machine, allowed, Onward, onward}
+use Rattle.resolution.specs.Effect.{Bytes, Effect, put, report, begin, expand, unfound, open-text, keep-text, free, merged, Trace}
+use Rattle.resolution.specs.Resolve.{Setting}
+use Rattle.resolution.specs.Exec.{Machine, Limits, ran, allowIf, allow, listLimit, putText, putWork, putAt, step, exec, start}
+use Rattle.resolution.specs.Format.{runPattern}
+use Rattle.resolution.specs.Finished.{traceOf}
+use Rattle.resolution.proofs.Runs.{not-refused, same-machine, allowed, Onward, onward}
 
 -- the text fits the text buffer, the list the list buffer (if its header does) and a u32, the highest use the workspace; and it is the highest
 pub record Within (L : Limits) (m : Machine) : Type 0 where

@@ -10,11 +10,11 @@ use Rattle.records.specs.Got.{Got, got, bad}
 use Rattle.records.specs.Tree.{Pattern}
 use Rattle.records.specs.Images.{Entry, Store, Argument, storeOf}
 use Rattle.bundle.specs.Lookup.{Find, findIn}
-use Rattle.resolver.specs.Effect.{Bytes, Effect, put, report, begin, expand, unfound, open-text, keep-text, free, merged, Trace}
-use Rattle.resolver.specs.Resolve.{Setting}
-use Rattle.resolver.specs.Exec.{Machine, Limits, Ran, ran, refused, allowIf, allow, putText, putWork, putAt, step, andThen, exec, start}
-use Rattle.resolver.specs.Format.{Buffers, Formatted, limitsOf, refuse, orRefuse, ended, runPattern, formatWith, formatArguments, formatPart, formatEntry, formatStore, format}
-use Rattle.resolver.specs.Finished.{traceOf, settingOf, Before, Running, Numbered}
+use Rattle.resolution.specs.Effect.{Bytes, Effect, put, report, begin, expand, unfound, open-text, keep-text, free, merged, Trace}
+use Rattle.resolution.specs.Resolve.{Setting}
+use Rattle.resolution.specs.Exec.{Machine, Limits, Ran, ran, refused, allowIf, allow, putText, putWork, putAt, step, andThen, exec, start}
+use Rattle.resolution.specs.Format.{Buffers, Formatted, limitsOf, refuse, orRefuse, ended, runPattern, formatWith, formatArguments, formatPart, formatEntry, formatStore, format}
+use Rattle.resolution.specs.Finished.{traceOf, settingOf, Before, Running, Numbered}
 
 not-ran : (m : Machine) (c : ℕ) → ran m ≡ refused c → ⊥
 not-ran m c h = let z : _≡_ {A = ℕ} 0 1 = cc in omega arith

@@ -17,16 +17,16 @@ use Rattle.records.specs.Valid.{ValidStore}
 use Rattle.layout.proofs.Numbers.{length-toBe}
 use Rattle.bundle.specs.Lookup.{findIn, partOf}
 use Rattle.bundle.proofs.Sizes.{entry-size, part-size}
-use Rattle.resolver.specs.Effect.{Bytes, put, report, begin, expand, unfound, open-text, keep-text, free, merged, Trace, Out, Done}
-use Rattle.resolver.specs.Resolve.{Setting, bytesOf, asMessage, resolve}
-use Rattle.resolver.specs.Exec.{listLimit}
-use Rattle.resolver.specs.Format.{maxPatterns, fresh}
-use Rattle.resolver.specs.Finished.{reports, traceOf}
-use Rattle.resolver.proofs.Held.{message-held}
-use Rattle.resolver.proofs.Tally.{tally, tally-append}
-use Rattle.resolver.proofs.Counts.{Counted, counted}
-use Rattle.resolver.proofs.Fuel.{ok-fresh}
-use Rattle.resolver.proofs.Costs.{listing, most, allowance, ImageSized, AllImageSized, resolve-cost}
+use Rattle.resolution.specs.Effect.{Bytes, put, report, begin, expand, unfound, open-text, keep-text, free, merged, Trace, Out, Done}
+use Rattle.resolution.specs.Resolve.{Setting, bytesOf, asMessage, resolve}
+use Rattle.resolution.specs.Exec.{listLimit}
+use Rattle.resolution.specs.Format.{maxPatterns, fresh}
+use Rattle.resolution.specs.Finished.{reports, traceOf}
+use Rattle.resolution.proofs.Held.{message-held}
+use Rattle.resolution.proofs.Tally.{tally, tally-append}
+use Rattle.resolution.proofs.Counts.{Counted, counted}
+use Rattle.resolution.proofs.Fuel.{ok-fresh}
+use Rattle.resolution.proofs.Costs.{listing, most, allowance, ImageSized, AllImageSized, resolve-cost}
 
 -- the bytes of a trace's errors
 listing-length : (t : Trace) → length (encAll encError (reports t)) ≡ tally listing t

@@ -14,9 +14,9 @@ use Rattle.records.specs.Images.{Entry, Store, Argument, storeOf, argumentsOf}
 use Rattle.records.specs.Errors.{encErrors, listHeader}
 use Rattle.bundle.specs.Lookup.{Holder, Find, findIn, partOf}
 use Rattle.bundle.specs.Additions.{atFront}
-use Rattle.resolver.specs.Effect.{Bytes, State}
-use Rattle.resolver.specs.Resolve.{Setting, bytesOf, asMessage, resolve}
-use Rattle.resolver.specs.Exec.{Machine, Limits, Ran, ran, refused, exec, start}
+use Rattle.resolution.specs.Effect.{Bytes, State}
+use Rattle.resolution.specs.Resolve.{Setting, bytesOf, asMessage, resolve}
+use Rattle.resolution.specs.Exec.{Machine, Limits, Ran, ran, refused, exec, start}
 
 -- an argument as the Rust's FluentValue: "arguments have none" of the options
 unfoldable pub valueOf : Argument → Value

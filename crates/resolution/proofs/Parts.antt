@@ -13,11 +13,11 @@ use Rattle.records.specs.Tree.{Pattern}
 use Rattle.records.specs.Images.{Entry, Store, Argument, storeOf, argumentsOf}
 use Rattle.records.specs.Errors.{listHeader}
 use Rattle.bundle.specs.Lookup.{findIn, partOf}
-use Rattle.resolver.specs.Effect.{Bytes}
-use Rattle.resolver.specs.Resolve.{asMessage}
-use Rattle.resolver.specs.Exec.{Machine, Ran, ran, refused}
-use Rattle.resolver.specs.Format.{finished, refusedBefore, refusedRunning, Buffers, Formatted, limitsOf, refuse, orRefuse, ended, isIdOrNone, runPattern, formatWith, formatArguments, formatPart, formatEntry, formatStore, format}
-use Rattle.resolver.specs.Finished.{settingOf, Finished, Says}
+use Rattle.resolution.specs.Effect.{Bytes}
+use Rattle.resolution.specs.Resolve.{asMessage}
+use Rattle.resolution.specs.Exec.{Machine, Ran, ran, refused}
+use Rattle.resolution.specs.Format.{finished, refusedBefore, refusedRunning, Buffers, Formatted, limitsOf, refuse, orRefuse, ended, isIdOrNone, runPattern, formatWith, formatArguments, formatPart, formatEntry, formatStore, format}
+use Rattle.resolution.specs.Finished.{settingOf, Finished, Says}
 
 not-before : (n t e k u w : ℕ) → refusedBefore n ≡ finished t e k u w → ⊥
 not-before n t e k u w h = let z : _≡_ {A = ℕ} 0 1 = cc in omega arith

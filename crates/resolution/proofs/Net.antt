@@ -10,11 +10,11 @@ use lib.Dec.{ltb}
 use Rattle.records.specs.Tree.{Pattern}
 use Rattle.records.specs.Errors.{Error}
 use Rattle.bundle.specs.Lookup.{Holder, Find}
-use Rattle.resolver.specs.Effect.{Bytes, Effect, put, report, begin, expand, unfound, open-text, keep-text, free, merged, State, M, Done, ret, _>>=_, _>>_, emit, write, isDirty, getLocals, setLocals, maxPlaceables, enterIf, enter, onlyIf, entered, capture, release}
-use Rattle.resolver.specs.Resolve.{Setting, Trail, lookFor, lookUp, resolve}
-use Rattle.resolver.specs.Exec.{Machine, Limits, ran, putText, putWork, putAt, step, exec}
-use Rattle.resolver.proofs.Walk.{Rel, Closed, rResolve}
-use Rattle.resolver.proofs.Runs.{same-machine, allowed, Between, between, one-step}
+use Rattle.resolution.specs.Effect.{Bytes, Effect, put, report, begin, expand, unfound, open-text, keep-text, free, merged, State, M, Done, ret, _>>=_, _>>_, emit, write, isDirty, getLocals, setLocals, maxPlaceables, enterIf, enter, onlyIf, entered, capture, release}
+use Rattle.resolution.specs.Resolve.{Setting, Trail, lookFor, lookUp, resolve}
+use Rattle.resolution.specs.Exec.{Machine, Limits, ran, putText, putWork, putAt, step, exec}
+use Rattle.resolution.proofs.Walk.{Rel, Closed, rResolve}
+use Rattle.resolution.proofs.Runs.{same-machine, allowed, Between, between, one-step}
 
 -- the part of a text that goes to the text buffer, and the bytes of it that go to the workspace, where so many workspace texts are open
 abbrev pub outward : ℕ → Bytes → Bytes

@@ -8,7 +8,7 @@ use lib.ListN.{length}
 use lib.Dec.{leb}
 use Rattle.numbers.specs.Number.{fractionLimit}
 use Rattle.records.specs.Errors.{Error, encErrors}
-use Rattle.resolver.specs.Effect.{Bytes, Effect, put, report, begin, expand, unfound, open-text, keep-text, free, merged, Trace}
+use Rattle.resolution.specs.Effect.{Bytes, Effect, put, report, begin, expand, unfound, open-text, keep-text, free, merged, Trace}
 
 -- The text, the errors listed, how many workspace texts are open, the workspace bytes in use ("Use is the bytes of both") and the most there were,
 -- placeables begun and expanded, lookups unfound.

@@ -8,10 +8,10 @@ use native.Mathlib.Omega.{arith}
 use Rattle.records.specs.Tree.{Pattern}
 use Rattle.bundle.specs.Lookup.{Holder, Find}
 use Rattle.bundle.proofs.Holders.{Extends}
-use Rattle.resolver.specs.Effect.{Bytes, keep-text, free, State, M, Done, _>>=_, _>>_, onlyIf, entered, capture, release}
-use Rattle.resolver.specs.Resolve.{Setting, Trail, lookFor, lookUp, resolve}
-use Rattle.resolver.proofs.Walk.{Rel, Closed, rResolve}
-use Rattle.resolver.proofs.Tally.{isUnfound, tally, tally-append}
+use Rattle.resolution.specs.Effect.{Bytes, keep-text, free, State, M, Done, _>>=_, _>>_, onlyIf, entered, capture, release}
+use Rattle.resolution.specs.Resolve.{Setting, Trail, lookFor, lookUp, resolve}
+use Rattle.resolution.proofs.Walk.{Rel, Closed, rResolve}
+use Rattle.resolution.proofs.Tally.{isUnfound, tally, tally-append}
 
 -- the second does what the first does, where that leaves no id unfound
 abbrev pub Steady : Rel

@@ -18,18 +18,18 @@ use Rattle.bundle.specs.Additions.{refuse, atFront, addResource, addFunction}
 use Rattle.bundle.specs.Growth.{Accepted}
 use Rattle.bundle.proofs.Holders.{Extends, FirstWins, AllFirstWins, extends}
 use Rattle.bundle.proofs.Accepted.{resource-accepted, resource-refused, function-accepted, function-refused}
-use Rattle.resolver.specs.Effect.{Bytes}
-use Rattle.resolver.specs.Resolve.{asMessage}
-use Rattle.resolver.specs.Exec.{Machine, ran}
-use Rattle.resolver.specs.Format.{Answer, Buffers, limitsOf, ended, format}
-use Rattle.resolver.specs.Finished.{settingOf, Finished, Says}
-use Rattle.resolver.specs.Steadiness.{Addition, InBytes, AllInBytes, sliceAfter, slicesAfter, Longer, Same, Steadiness}
-use Rattle.resolver.proofs.Held.{message-held}
-use Rattle.resolver.proofs.Wider.{Wider}
-use Rattle.resolver.proofs.Parts.{parts, finish, says}
-use Rattle.resolver.proofs.Whole.{whole-steady}
-use Rattle.resolver.proofs.Lists.{list-of-front}
-use Rattle.resolver.proofs.Within.{within}
+use Rattle.resolution.specs.Effect.{Bytes}
+use Rattle.resolution.specs.Resolve.{asMessage}
+use Rattle.resolution.specs.Exec.{Machine, ran}
+use Rattle.resolution.specs.Format.{Answer, Buffers, limitsOf, ended, format}
+use Rattle.resolution.specs.Finished.{settingOf, Finished, Says}
+use Rattle.resolution.specs.Steadiness.{Addition, InBytes, AllInBytes, sliceAfter, slicesAfter, Longer, Same, Steadiness}
+use Rattle.resolution.proofs.Held.{message-held}
+use Rattle.resolution.proofs.Wider.{Wider}
+use Rattle.resolution.proofs.Parts.{parts, finish, says}
+use Rattle.resolution.proofs.Whole.{whole-steady}
+use Rattle.resolution.proofs.Lists.{list-of-front}
+use Rattle.resolution.proofs.Within.{within}
 
 -- a store with more items, behind the others
 abbrev withItems : Store → List Item → Store
