@@ -1,0 +1,4 @@
+pub mod Opened
+pub mod Text
+pub mod Case
+pub mod Sentences
