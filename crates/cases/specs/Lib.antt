@@ -2,3 +2,4 @@ pub mod Opened
 pub mod Text
 pub mod Case
 pub mod Sentences
+pub mod Misreadings
