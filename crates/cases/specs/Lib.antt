@@ -3,3 +3,4 @@ pub mod Text
 pub mod Case
 pub mod Sentences
 pub mod Misreadings
+pub mod Refusals
