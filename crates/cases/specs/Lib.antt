@@ -4,3 +4,4 @@ pub mod Case
 pub mod Sentences
 pub mod Misreadings
 pub mod Refusals
+pub mod Vectors
