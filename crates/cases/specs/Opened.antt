@@ -24,7 +24,7 @@ use Rattle.resolver.specs.Exec as resolver-exec
 use Rattle.resolver.specs.Format as resolver-format
 
 unfoldable pub numbersBytes : Unit {0}
-unfolding numbers-bytes.sameBytes numbers-bytes.run numbers-bytes.digit
+unfolding numbers-bytes.sameBytes
 numbersBytes = tt
 
 unfoldable pub numbersDecimal : Unit {0}
