@@ -88,7 +88,7 @@ filled n x b = b ++ replicate (n - length b) x
 
 -- what is lent: no byte of it is zero
 unfoldable pub lentSlice : Bytes
-lentSlice = filled 600 0x77 []
+lentSlice = filled 600 0xDD []
 
 unfoldable pub lentList : Bytes
 lentList = filled 24 0xBB []
@@ -122,7 +122,7 @@ outcome c = record {
 
 -- a store of such items in the slice: "an accepted one has put its item after the others"
 unfoldable pub stored : List Item → Bytes
-stored items = filled 600 0x77 (encStore (record { locale = 0; isolating = true; items = items }))
+stored items = filled 600 0xDD (encStore (record { locale = 0; isolating = true; items = items }))
 
 -- a formatting that ends in success: "text and list at the front, later bytes as before; workspace zero"
 unfoldable pub success : Case → Formatted

@@ -109,7 +109,7 @@ helloImage = encResource (a-message "a" (say "Hello" no-more) ∷ [])
 
 -- a new bundle in a slice of n bytes
 unfoldable pub newIn : ℕ → Bytes
-newIn n = newBundle (replicate n 0x77) 0 1 .slice
+newIn n = newBundle (replicate n 0xDD) 0 1 .slice
 
 -- "Nothing changes."
 unfoldable pub refusal : ℕ → Bytes → Bytes → Added
@@ -118,17 +118,17 @@ refusal n s l = record { answer = bundle.refused n; slice = s; list = l }
 -- New bundle: "1 slice under 9 bytes; 2 locale above 3; 3 isolating byte above 1". Add resource: "4 malformed store; 5 malformed image; 6 used length plus
 -- item above the slice; 7 (plain) list buffer too short". Add function: "4; 8 not an Id; 9 code not 1; 10 the id has an entry; 6".
 pub record AdditionRefusals : Type 0 where
-  pub short-slice : newBundle (replicate 8 0x77) 4 2 ≡ refusal 1 (replicate 8 0x77) []
-  pub bad-locale : newBundle (replicate 9 0x77) 4 2 ≡ refusal 2 (replicate 9 0x77) []
-  pub bad-isolating : newBundle (replicate 9 0x77) 3 2 ≡ refusal 3 (replicate 9 0x77) []
-  pub resource-bad-store : addResource (replicate 9 0x77) [] [] ≡ refusal 4 (replicate 9 0x77) []
+  pub short-slice : newBundle (replicate 8 0xDD) 4 2 ≡ refusal 1 (replicate 8 0xDD) []
+  pub bad-locale : newBundle (replicate 9 0xDD) 4 2 ≡ refusal 2 (replicate 9 0xDD) []
+  pub bad-isolating : newBundle (replicate 9 0xDD) 3 2 ≡ refusal 3 (replicate 9 0xDD) []
+  pub resource-bad-store : addResource (replicate 9 0xDD) [] [] ≡ refusal 4 (replicate 9 0xDD) []
   pub resource-bad-image : addResource (newIn 9) [] [] ≡ refusal 5 (newIn 9) []
   pub resource-no-room : addResource (newIn 37) helloImage [] ≡ refusal 6 (newIn 37) []
   pub resource-no-list : addResource (newIn 38) helloImage (replicate 4 0xBB) ≡ refusal 7 (newIn 38) (replicate 4 0xBB)
-  pub overriding-bad-store : addResourceOverriding (replicate 9 0x77) [] ≡ refusal 4 (replicate 9 0x77) []
+  pub overriding-bad-store : addResourceOverriding (replicate 9 0xDD) [] ≡ refusal 4 (replicate 9 0xDD) []
   pub overriding-bad-image : addResourceOverriding (newIn 9) [] ≡ refusal 5 (newIn 9) []
   pub overriding-no-room : addResourceOverriding (newIn 37) helloImage ≡ refusal 6 (newIn 37) []
-  pub function-bad-store : addFunction (replicate 9 0x77) [] 2 ≡ refusal 4 (replicate 9 0x77) []
+  pub function-bad-store : addFunction (replicate 9 0xDD) [] 2 ≡ refusal 4 (replicate 9 0xDD) []
   pub function-bad-id : addFunction (newIn 9) [] 2 ≡ refusal 8 (newIn 9) []
   pub function-bad-code : addFunction bundleOf (ascii "NUMBER") 2 ≡ refusal 9 bundleOf []
   pub function-has-entry : addFunction bundleOf (ascii "t") 1 ≡ refusal 10 bundleOf []

@@ -6,8 +6,9 @@ use Prim.Native.Nat.{ℕ, zero, suc}
 use lib.ListN.{replicate}
 use Rattle.records.specs.Tree.{Literal, Elements, no-more, Inlines, no-inline, and, no-variant}
 use Rattle.records.specs.Encode.{encResource}
+use Rattle.bundle.specs.Additions.{done, newBundle}
 use Rattle.cases.specs.Text.{Bytes, ascii, ⟨, ⟩}
-use Rattle.cases.specs.Case.{a-message, a-term, say, put, choice, named, numbered, default, var, quoted, numeral, ref, term-ref, call, whole, Case, noErrors, Holds, computed}
+use Rattle.cases.specs.Case.{a-message, a-term, say, put, choice, named, numbered, default, var, quoted, numeral, ref, term-ref, call, whole, Case, lentSlice, noErrors, stored, Holds, computed}
 
 -- `a = Hello`: Hello.
 unfoldable pub hello : Case
@@ -163,7 +164,7 @@ oneDotZero = record {
   work = 0;
 }
 
--- n elements `{ "w" }`
+-- n elements `{ "w" }`; 0x77 is w
 unfoldable pub ws : ℕ → Elements
 ws zero = no-more
 ws (suc n) = put (quoted "w") (ws n)
@@ -196,8 +197,9 @@ hundredOne = record {
   work = 0;
 }
 
--- The lines marked P; and the first one's image is the document's, "in hexadecimal: 00 00 00 1C 01 00 01 …".
+-- The lines marked P. Before them, the bundle that each starts from, and the first one's image: "in hexadecimal: 00 00 00 1C 01 00 01 …".
 pub record PCases : Type 0 where
+  pub new-bundle : newBundle lentSlice 0 1 ≡ record { answer = done 0; slice = stored []; list = [] }
   pub hello-image : encResource (hello .entries) ≡ 0x00 ∷ 0x00 ∷ 0x00 ∷ 0x1C ∷ 0x01 ∷ 0x00 ∷ 0x01 ∷ 0x01 ∷ 0x00 ∷ 0x01 ∷ 0x61 ∷ 0x01 ∷ 0x00 ∷ 0x00 ∷ 0x00 ∷ 0x0A ∷ 0x00 ∷ 0x01 ∷ 0x01 ∷ 0x00 ∷ 0x05 ∷ 0x48 ∷ 0x65 ∷ 0x6C ∷ 0x6C ∷ 0x6F ∷ 0x00 ∷ 0x00 ∷ []
   pub hello-holds : Holds hello
   pub whales-holds : Holds whales
@@ -216,6 +218,7 @@ pub record PCases : Type 0 where
 pub p-cases : PCases
 unfolding computed hello whales whalesWithout lone itself termFirst termInTerm fiveDot numberOfNone noFunction oneDotZero ws hundred hundredOne
 p-cases = record {
+  new-bundle = refl;
   hello-image = refl;
   hello-holds = refl;
   whales-holds = refl;
