@@ -1,0 +1,7 @@
+pub mod Opened
+pub mod Text
+pub mod Case
+pub mod Sentences
+pub mod Misreadings
+pub mod Refusals
+pub mod Vectors
