@@ -11,7 +11,7 @@ use Rattle.records.specs.Tree.{Key, Named, Pattern, pattern, Elements, no-more,
 use Rattle.records.specs.Images.{Kind, Entry, Item, Store, Argument}
 use Rattle.records.specs.Encode.{encPattern, encResource, encStore, encArgumentsImage}
 use Rattle.bundle.specs.Additions.{Added, done, newBundle, addResource, addFunction}
-use Rattle.resolver.specs.Format.{Answer, finished, Buffers, Formatted, format}
+use Rattle.resolution.specs.Format.{Answer, finished, Buffers, Formatted, format}
 use Rattle.cases.specs.Opened.{opened}
 use Rattle.cases.specs.Text.{Bytes, ascii}
 

@@ -9,7 +9,7 @@ use Rattle.records.specs.Tree.{Literal, Elements, no-more, Expression, inline, 
 use Rattle.records.specs.Images.{Item}
 use Rattle.records.specs.Encode.{encResource, encArgumentsImage}
 use Rattle.bundle.specs.Additions.{Added, done, newBundle, addResource}
-use Rattle.resolver.specs.Format.{finished, Formatted, format}
+use Rattle.resolution.specs.Format.{finished, Formatted, format}
 use Rattle.cases.specs.Text.{Bytes, ascii, ⟨, ⟩}
 use Rattle.cases.specs.Case.{a-message, a-term, say, put, choice, named, numbered, default, var, quoted, ref, term-ref, call, whole, Case, filled, lentSlice, lentList, lent, noErrors, stored, Holds, computed}
 use Rattle.cases.specs.Sentences.{ws}

@@ -18,10 +18,10 @@ use Rattle.records.specs.Errors as records-errors
 use Rattle.texts.specs.Unescape as texts-unescape
 use Rattle.bundle.specs.Lookup as bundle-lookup
 use Rattle.bundle.specs.Additions as bundle-additions
-use Rattle.resolver.specs.Effect as resolver-effect
-use Rattle.resolver.specs.Resolve as resolver-resolve
-use Rattle.resolver.specs.Exec as resolver-exec
-use Rattle.resolver.specs.Format as resolver-format
+use Rattle.resolution.specs.Effect as resolver-effect
+use Rattle.resolution.specs.Resolve as resolver-resolve
+use Rattle.resolution.specs.Exec as resolver-exec
+use Rattle.resolution.specs.Format as resolver-format
 
 unfoldable pub numbersBytes : Unit {0}
 unfolding numbers-bytes.sameBytes

@@ -10,7 +10,7 @@ use Rattle.records.specs.Images.{Entry, Item}
 use Rattle.records.specs.Encode.{encResource, encArgumentsImage}
 use Rattle.bundle.specs.Additions as bundle
 use Rattle.bundle.specs.Additions.{Added, newBundle, addResource, addResourceOverriding, addFunction}
-use Rattle.resolver.specs.Format.{Answer, finished, refusedBefore, refusedRunning, Buffers, Formatted, format}
+use Rattle.resolution.specs.Format.{Answer, finished, refusedBefore, refusedRunning, Buffers, Formatted, format}
 use Rattle.cases.specs.Text.{Bytes, ascii}
 use Rattle.cases.specs.Case.{a-message, a-term, say, put, choice, numbered, default, var, numeral, call, whole, filled, lentList, lent, stored, computed}
 

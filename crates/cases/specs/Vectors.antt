@@ -6,7 +6,7 @@ use mathlib.Core.Option.{Option, none, some}
 use Prim.Native.Nat.{ℕ}
 use Prim.Native.String.{String}
 use lib.ListN.{length, replicate}
-use Rattle.resolver.specs.Format.{Answer, finished, Buffers, Formatted, format}
+use Rattle.resolution.specs.Format.{Answer, finished, Buffers, Formatted, format}
 use Rattle.cases.specs.Opened.{opened}
 use Rattle.cases.specs.Text.{Bytes, ascii, hex, ⟨, ⟩}
 use Rattle.cases.specs.Case.{filled}
