@@ -8,3 +8,5 @@ pub mod Merging
 pub mod Writing
 pub mod Reading
 pub mod Categories
+pub mod Equality
+pub mod Examples

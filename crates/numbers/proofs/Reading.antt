@@ -10,7 +10,7 @@ use native.Mathlib.Nat.{pow-succ', pow-le-pow-right, mul-le-mul-right, mul-le-mu
 use lib.ListN.{length, drop, getD, drop-of-length-le}
 use lib.Seq.{drop-cons}
 use lib.Dec.{eqb, ltb, leb}
-use borrow.Author.Tests.{eqb-true, leb-true, eq-eqb, ne-eqb, le-leb, lt-leb}
+use borrow.Author.Tests.{eqb-true, leb-true, ltb-true, ltb-false}
 use Rattle.numbers.specs.Bytes.{run, choose, digit}
 use Rattle.numbers.specs.Decimal.{Options, Number, orZero, digitsLimit}
 use Rattle.numbers.specs.Literal.{numberStep, digitCount, isNumber, Read, oneMore, readSign, readDot, readDigit, readStep, readFrom, readStart, readNumber, withFraction, literal}
@@ -161,3 +161,79 @@ fine-all (b ∷ l) r f = fine-all l (readStep r b) (fine-step r b l f)
 pub literal-digits : (s : List ℕ) → isNumber s ≡ true → literal s .digits < digitsLimit
 unfolding literal readNumber
 literal-digits s h = fine-below (fine-all s readStart (fine-start s h))
+
+-- the places after the dot, by the state: none before it, and fewer than the digits
+record Placed (q n : ℕ) (r : Read) : Type 0 where
+  before : q < 3 → r .fraction ≡ none
+  fewer : 2 ≤ q → q < 5 → orZero (r .fraction) + 1 ≤ n
+
+placed-none : (n : ℕ) (r : Read) → Placed 5 n r
+placed-none n r = record { before = λ h. absurd (omega arith); fewer = λ h k. absurd (omega arith) }
+
+placed-digit : (q n : ℕ) (r : Read) (c : ℕ) → Placed q n r → Placed (choose (ltb q 3) 2 (choose (ltb q 5) 4 5)) (n + 1) (readDigit r c)
+unfolding readDigit oneMore orZero
+placed-digit q n r c p = go (ltb q 3) refl (ltb q 5) refl
+  where
+    go : (t : Bool) → ltb q 3 ≡ t → (u : Bool) → ltb q 5 ≡ u → Placed (choose t 2 (choose u 4 5)) (n + 1) (readDigit r c)
+    go true e u f =
+        let z : r .fraction ≡ none = p .before (ltb-true q 3 e) in
+        record { before = λ h. rw z; fewer = λ h k. rw z (omega arith) }
+    go false e true f =
+        let a : orZero (r .fraction) + 1 ≤ n = p .fewer (omega (arith, ltb-false q 3 e)) (ltb-true q 5 f) in
+        record { before = λ h. absurd (omega arith); fewer = λ h k. omega (arith, a, more-places (r .fraction)) }
+    go false e false f = placed-none (n + 1) (readDigit r c)
+
+placed-step : (q n : ℕ) (r : Read) (b : ℕ) → Placed q n r → Placed (numberStep q b) (n + choose (digit b) 1 0) (readStep r b)
+unfolding numberStep readStep readSign readDot orZero
+placed-step q n r b p = go (digit b) refl (eqb b 45) refl (eqb b 46) refl
+  where
+    same : n + 0 ≡ n
+    same = omega arith
+
+    sign : (t : Bool) → eqb q 0 ≡ t → Placed (choose t 1 5) (n + 0) (readSign r)
+    sign true e = let z : q ≡ 0 = eqb-true q 0 e in record { before = λ h. p .before (omega arith); fewer = λ h k. absurd (omega arith) }
+    sign false e = placed-none (n + 0) (readSign r)
+
+    dot : (t : Bool) → eqb q 2 ≡ t → Placed (choose t 3 5) (n + 0) (readDot r)
+    dot true e =
+        let z : q ≡ 2 = eqb-true q 2 e in
+        let a : orZero (r .fraction) + 1 ≤ n = p .fewer (omega arith) (omega arith) in
+        record { before = λ h. absurd (omega arith); fewer = λ h k. omega arith }
+    dot false e = placed-none (n + 0) (readDot r)
+
+    go : (x : Bool) → digit b ≡ x → (y : Bool) → eqb b 45 ≡ y → (z : Bool) → eqb b 46 ≡ z → Placed (numberStep q b) (n + choose (digit b) 1 0) (readStep r b)
+    go true g true e z f = let d = digit-bounds b g in let w : b ≡ 45 = eqb-true b 45 e in absurd (omega arith)
+    go true g false e true f = let d = digit-bounds b g in let w : b ≡ 46 = eqb-true b 46 f in absurd (omega arith)
+    go true g false e false f = rw (g, e, f, readStep) (placed-digit q n r b p)
+    go false g true e z f = rw (g, e, readStep) (sign (eqb q 0) refl)
+    go false g false e true f = rw (g, e, f, readStep) (dot (eqb q 2) refl)
+    go false g false e false f = rw (g, e, f, readStep) (placed-none (n + 0) (readDigit r b))
+
+placed-all : (l : List ℕ) (q n : ℕ) (r : Read) → Placed q n r → Placed (run numberStep q l) (n + digitCount l) (readFrom l r)
+unfolding run readFrom digitCount
+placed-all [] q n r p = let e : n + 0 ≡ n = omega arith in rw e p
+placed-all (b ∷ l) q n r p =
+    let e : n + choose (digit b) 1 0 + digitCount l ≡ n + (choose (digit b) 1 0 + digitCount l) = omega arith in
+    rw e at (placed-all l (numberStep q b) (n + choose (digit b) 1 0) (readStep r b) (placed-step q n r b p))
+
+placed-start : Placed 0 0 readStart
+unfolding readStart
+placed-start = record { before = λ h. refl; fewer = λ h k. absurd (omega arith) }
+
+ended : (q : ℕ) → (eqb q 2 || eqb q 4) ≡ true → (2 ≤ q) × (q < 5)
+ended q = go (eqb q 2) refl (eqb q 4) refl
+  where
+    go : (x : Bool) → eqb q 2 ≡ x → (y : Bool) → eqb q 4 ≡ y → (x || y) ≡ true → (2 ≤ q) × (q < 5)
+    go true e y f h = let z : q ≡ 2 = eqb-true q 2 e in (omega arith, omega arith)
+    go false e true f h = let z : q ≡ 4 = eqb-true q 4 f in (omega arith, omega arith)
+    go false e false f h = let y : _≡_ {A = ℕ} 0 1 = cc in absurd (omega arith)
+
+-- a literal has at least one digit before its dot: its scale, and its minimum, are at most 14
+pub literal-scale : (s : List ℕ) → isNumber s ≡ true → (literal s .scale ≤ 14) × (orZero (literal s .options .minimumFractionDigits) ≤ 14)
+unfolding literal readNumber withFraction
+literal-scale s h =
+    let a = number-shape s h in
+    let p : Placed (run numberStep 0 s) (0 + digitCount s) (readFrom s readStart) = placed-all s 0 0 readStart placed-start in
+    let b = ended (run numberStep 0 s) (a .0) in
+    let m : orZero (readFrom s readStart .fraction) + 1 ≤ 0 + digitCount s = p .fewer (b .0) (b .1) in
+    (omega arith, omega arith)

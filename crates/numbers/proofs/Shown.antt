@@ -8,6 +8,9 @@ use Rattle.numbers.specs.declared.types.Count.{Count}
 use Rattle.numbers.specs.declared.types.Count.the-variants.{Unset, Set}
 use Rattle.numbers.specs.declared.types.Options as code-options
 use Rattle.numbers.specs.Decimal.{Options, Number}
+use Rattle.numbers.specs.Text.{numberText}
+use Rattle.numbers.specs.Plural.{operands, category}
+use Rattle.numbers.specs.Value.{toCount}
 use Rattle.numbers.specs.Shown.{shownCount, toldCount, shownText, toldText, shownOptions, toldOptions, shown, told}
 
 -- what is shown of what a count tells is the count
@@ -29,3 +32,16 @@ text-back false = refl
 -- the code's options are shown of what they tell
 pub options-back : (o : code-options.Options) → shownOptions (toldOptions o) ≡ o
 options-back o = simp (count-back, text-back)
+
+-- text, category and value of a number are those of what the code shows of it
+pub text-shown : (n : Number) → numberText (told (shown n)) ≡ numberText n
+unfolding numberText
+text-shown n = simp count-there
+
+pub category-shown : (locale : ℕ) (n : Number) → category locale (told (shown n)) ≡ category locale n
+unfolding category operands
+category-shown locale n = simp count-there
+
+pub count-shown : (n : Number) → toCount (told (shown n)) ≡ toCount n
+unfolding toCount
+count-shown n = refl

@@ -177,10 +177,10 @@ padded-none m d s {k} e h =
 
 -- what is added to a text, one after the other
 pub adds-none : (t : NumberText) → Adds t [] t
-adds-none t = record { text = sym (append-nil (textOf t)); len = omega arith }
+adds-none t = record { text = sym (append-nil (textOf t)); len = omega arith; size = λ h. h }
 
 pub adds-then : {t u v : NumberText} {a b : List ℕ} → Adds t a u → Adds u b v → Adds t (a ++ b) v
-adds-then {t} {u} {v} {a} {b} x y = record { text = y .text ∙ ap (λ (l : List ℕ). l ++ b) (x .text) ∙ append-assoc (textOf t) a b; len = omega (arith, x .len, y .len, length-append a b) }
+adds-then {t} {u} {v} {a} {b} x y = record { text = y .text ∙ ap (λ (l : List ℕ). l ++ b) (x .text) ∙ append-assoc (textOf t) a b; len = omega (arith, x .len, y .len, length-append a b); size = λ h. y .size (x .size h) }
 
 pub adds-same : {t r : NumberText} {a b : List ℕ} → a ≡ b → Adds t a r → Adds t b r
 adds-same e x = rw e at x
@@ -202,5 +202,5 @@ zeros-more zero h x y = absurd (h refl)
 zeros-more (suc n) h x y = let e : suc n - 1 ≡ n = omega arith in adds-then x (rw e at y)
 
 -- a text from nothing
-pub from-none : {e r : NumberText} {a b : List ℕ} → textOf e ≡ [] → e .len ≡ 0 → Adds e a r → a ≡ b → (textOf r ≡ b) × (r .len ≡ length b)
-from-none {e} {r} {a} {b} x y h p = (h .text ∙ ap (λ (l : List ℕ). l ++ a) x ∙ p, omega (arith, h .len, y, ap length p))
+pub from-none : {e r : NumberText} {a b : List ℕ} → textOf e ≡ [] → e .len ≡ 0 → length (e .bytes) ≡ textLimit → Adds e a r → a ≡ b → (textOf r ≡ b) × (r .len ≡ length b) × (length (r .bytes) ≡ textLimit)
+from-none {e} {r} {a} {b} x y z h p = (h .text ∙ ap (λ (l : List ℕ). l ++ a) x ∙ p, omega (arith, h .len, y, ap length p), h .size z)

@@ -6,6 +6,7 @@ use lib.ListN.{length, take}
 use lib.Dec.{eqb}
 use Rattle.numbers.specs.Bytes.{sameBytes, choose}
 use Rattle.numbers.specs.Plural.{Operands}
+use Rattle.numbers.specs.Text.{textLimit}
 use mathlib.Core.Bool.{Bool, true, false}
 use mathlib.Core.Option.{Option, none, some}
 use Rattle.numbers.specs.Decimal.{Options, Number}
@@ -67,6 +68,7 @@ textOf t = take (t .len) (t .bytes)
 pub record Adds (t : code-text.NumberText) (bs : List ℕ) (r : code-text.NumberText) : Type 0 where
   pub text : textOf r ≡ textOf t ++ bs
   pub len : r .len ≡ t .len + length bs
+  pub size : length (t .bytes) ≡ textLimit → length (r .bytes) ≡ textLimit
 
 -- the code's operands: v and t only as far as they are 0
 pub record Shows (x : Operands) (o : code-seen.Seen) : Type 0 where

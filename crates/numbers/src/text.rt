@@ -136,7 +136,7 @@ fn push_fraction(t: NumberText, m: Count, d: u64, s: u64) -> NumberText
 }
 
 fn empty() -> NumberText
-    ensures { λ r. ⌜ (textOf r ≡ []) × (r .len ≡ 0) ⌝ }
+    ensures { λ r. ⌜ (textOf r ≡ []) × (r .len ≡ 0) × (length (r .bytes) ≡ textLimit) ⌝ }
 {
     NumberText {
         bytes: [0u8; 36],
@@ -163,7 +163,7 @@ fn in_range(n: Number) -> bool
 
 // The text of a number in range; no bytes for any other.
 pub fn number_text(n: Number) -> NumberText
-    ensures { λ r. ⌜ (textOf r ≡ rangedText (told n)) × (r .len ≡ length (rangedText (told n))) ⌝ }
+    ensures { λ r. ⌜ (textOf r ≡ rangedText (told n)) × (r .len ≡ length (rangedText (told n))) × (length (r .bytes) ≡ textLimit) ⌝ }
 {
     if in_range(n) {
         let q = shortest(n.digits, n.scale);

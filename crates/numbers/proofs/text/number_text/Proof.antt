@@ -41,7 +41,7 @@ push-fraction-requires c κs =
     omega (arith, fit, whole, c .before .before .before .push-sign .ensures .len, sign-length (c .before .before .before .before .before .before .before .before .before .args .n .negative), c .before .before .before .before .empty .ensures .1, c .before .push-whole .ensures .len)
 
 returns : tie.Need-returns
-returns c = from-none (c .before .before .before .before .before .empty .ensures .0) (c .before .before .before .before .before .empty .ensures .1) (adds-then (c .before .before .before .before .push-sign .ensures) (adds-then (c .before .before .push-whole .ensures) (c .push-fraction .ensures))) (rw (c .before .before .before .whole .ensures) (sym (number-parts (told (c .before .before .before .before .before .before .before .before .before .before .args .n)) (c .before .before .before .before .before .before .before .shortest .ensures)) ∙ sym (ranged-in (told (c .before .before .before .before .before .before .before .before .before .before .args .n)) (sym (c .before .before .before .before .before .before .before .before .before .in-range .ensures) ∙ c .before .before .before .before .before .before .before .before .if1 .taken))))
+returns c = from-none (c .before .before .before .before .before .empty .ensures .0) (c .before .before .before .before .before .empty .ensures .1) (c .before .before .before .before .before .empty .ensures .2) (adds-then (c .before .before .before .before .push-sign .ensures) (adds-then (c .before .before .push-whole .ensures) (c .push-fraction .ensures))) (rw (c .before .before .before .whole .ensures) (sym (number-parts (told (c .before .before .before .before .before .before .before .before .before .before .args .n)) (c .before .before .before .before .before .before .before .shortest .ensures)) ∙ sym (ranged-in (told (c .before .before .before .before .before .before .before .before .before .before .args .n)) (sym (c .before .before .before .before .before .before .before .before .before .in-range .ensures) ∙ c .before .before .before .before .before .before .before .before .if1 .taken))))
 
 empty-requires-2 : tie.Need-empty-requires-2
 empty-requires-2 c κs = search needs
@@ -49,7 +49,7 @@ empty-requires-2 c κs = search needs
 returns-2 : tie.Need-returns-2
 returns-2 c =
     let out = ranged-out (told (c .before .before .before .args .n)) (sym (c .before .before .in-range .ensures) ∙ c .before .if1 .left) in
-    (c .empty2 .ensures .0 ∙ sym out, c .empty2 .ensures .1 ∙ sym (ap length out))
+    (c .empty2 .ensures .0 ∙ sym out, c .empty2 .ensures .1 ∙ sym (ap length out), c .empty2 .ensures .2)
 
 pub number-text-spec : {M : Type 1} → statement M
 number-text-spec = tie.close (tie.spec in-range-requires shortest-requires empty-requires push-sign-requires whole-requires push-whole-requires cast-push-fraction push-fraction-requires returns empty-requires-2 returns-2)
