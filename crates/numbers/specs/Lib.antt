@@ -1,0 +1,9 @@
+pub mod Bytes
+pub mod Decimal
+pub mod Literal
+pub mod Text
+pub mod Equal
+pub mod Number
+pub mod Value
+pub mod Plural
+pub mod Shown
