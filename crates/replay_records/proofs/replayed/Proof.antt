@@ -1,5 +1,4 @@
 -- Safe, and it ends: a case less is left after each turn.
--- Made from Proof.answers, which stands beside it: change that, and run `proofs make`.
 use borrow.Author.Needs.{needs}
 use Rattle.replay_records.proofs.replayed.Statement.{statement}
 use Rattle.replay_records.proofs.replayed.Tie as tie

@@ -1,5 +1,4 @@
 -- Safe, and it ends: v stays below 256.
--- Made from Proof.answers, which stands beside it: change that, and run `proofs make`.
 use Prim.Native.Nat.{_-_}
 use borrow.Author.Needs.{needs}
 use Rattle.replay_records.proofs.cases.changes.Statement.{statement}

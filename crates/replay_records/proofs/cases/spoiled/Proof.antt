@@ -1,5 +1,4 @@
 -- Safe, and it ends: j stays below 128.
--- Made from Proof.answers, which stands beside it: change that, and run `proofs make`.
 use Prim.Native.Nat.{_-_}
 use borrow.Author.Needs.{needs}
 use Rattle.replay_records.proofs.cases.spoiled.Statement.{statement}
