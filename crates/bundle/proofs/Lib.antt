@@ -1,0 +1,4 @@
+-- Laws that the proofs of several functions cite.
+pub mod Inside
+pub mod Open
+pub mod Walk
