@@ -1,3 +1,7 @@
+-- Laws that the proofs of several functions cite, and the theorems about additions.
+pub mod Inside
+pub mod Open
+pub mod Walk
 pub mod Holders
 pub mod Grown
 pub mod Accepted
