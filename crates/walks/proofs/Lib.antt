@@ -1,0 +1,4 @@
+-- Laws that the proofs of several functions cite.
+pub mod Steps
+pub mod Heads
+pub mod Trail
