@@ -2,3 +2,5 @@
 pub mod Inside
 pub mod Open
 pub mod Walk
+pub mod Marks
+pub mod Adds

@@ -1,3 +1,4 @@
 pub mod Lookup
 pub mod Additions
 pub mod Meets
+pub mod Gives
