@@ -2,6 +2,8 @@
 pub mod Inside
 pub mod Open
 pub mod Walk
+pub mod Marks
+pub mod Adds
 pub mod Holders
 pub mod Grown
 pub mod Accepted

@@ -2,3 +2,4 @@ pub mod Lookup
 pub mod Additions
 pub mod Growth
 pub mod Meets
+pub mod Gives

@@ -1,7 +1,10 @@
 // The bundle: what an id has in a store, new bundles and additions. The walkers go over checked bytes: they skip patterns by their length, and
 // their contracts speak of the bytes at which the decoders of `records` read.
+use images::check_resource;
+use images::check_store;
 use records::Next;
 use records::Num;
+use records::is_id;
 use records::read_byte;
 use records::read_str;
 use records::read_u16;
@@ -9,17 +12,30 @@ use records::read_u32;
 use records::same_bytes;
 use records::skip_bytes;
 use records::skip_str;
+use records::write_bytes;
+use records::write_u16;
+use records::write_u32;
+use texts::Kind;
+use texts::Wrote;
+use texts::put_header;
+use texts::put_overriding;
 ghost use mathlib.Core.Path.{_≡_};
 ghost use Prim.Native.Nat.{ℕ, _+_, _-_, _≤_, _<_};
 ghost use mathlib.Core.List.{List, [], _∷_};
 ghost use mathlib.Core.Option.{Option};
 ghost use lib.ListN.{length};
 ghost use Rattle.records.specs.Got.{got, numOf};
-ghost use Rattle.records.specs.Bytes.{spanAt, numberAt};
+ghost use Rattle.records.specs.Bytes.{part, toBe, spanAt, numberAt};
+ghost use lib.Dec.{eqb};
 ghost use Rattle.records.specs.Names.{sameBytes};
 ghost use Rattle.records.specs.Decode.{many, optionalAt, entryPatternAt};
-ghost use Rattle.records.specs.Images.{Attribute, Entry, Item, Store, attributeAt, attributesAt, entryAt, resourceAt, functionAt, itemAt, storeOf};
+ghost use Rattle.records.specs.Encode.{encFunction, encAll};
+ghost use Rattle.records.specs.Errors.{encError};
+ghost use Rattle.records.specs.Images.{isSome, resourceOf, Attribute, Entry, Item, Store, attributeAt, attributesAt, entryAt, resourceAt, functionAt, itemAt, storeOf};
 ghost use Rattle.bundle.specs.Lookup.{Holder, orElse, onlyNamed, firstEntry, lastEntry, holderAfter, findIn, attributeOf, partOf};
+ghost use Rattle.texts.specs.Append.{over};
+ghost use Rattle.bundle.specs.Additions.{hasRoom, isHeld, repeats, newBundle, addResource, addResourceOverriding, addFunction};
+ghost use Rattle.bundle.specs.Gives.{gave, seenAfter, marked, Tallied, Tallies, kindBy, ListsEntry};
 ghost use Rattle.bundle.specs.Meets.{Passes, behind, EntryAt, HolderAt, PartAt, asked, laterOf};
 
 // What holds an id, and where its entry stands in the store.
@@ -350,4 +366,317 @@ pub fn find_part(s: &[u8], at: usize, named: bool, attribute: &[u8]) -> Next
         return find_attribute(s, at, attribute);
     }
     find_value(s, at)
+}
+
+// == Repeated entries of an image
+
+// Whether an id has an entry in a store.
+pub fn has_holder(s: &[u8], id: &[u8]) -> bool
+    ensures { λ r. ⌜ ((st : Store) (f : ℕ) → storeOf (now (s .entry)) ≡ got st f → r ≡ isSome (findIn (st .items) (now (id .entry)))) ⌝ }
+{
+    match find_holder(s, id) {
+        Found::Message(_) => true,
+        Found::Term(_) => true,
+        Found::Function => true,
+        Found::Nothing => false,
+    }
+}
+
+// Whether one of `count` entries has the id.
+fn is_among(s: &[u8], from: usize, count: usize, id: &[u8]) -> bool
+    ensures { λ r. ⌜ ((es : List Entry) (f : ℕ) → many [] _∷_ count entryAt (now (s .entry)) from ≡ got es f → r ≡ isSome (firstEntry (now (id .entry)) es)) ⌝ }
+{
+    match find_first(s, from, count, id) {
+        Next::At(_) => true,
+        Next::Bad => false,
+    }
+}
+
+// The mark of an entry whose Id stands from a up to e: 1 if the Id is held by one of the k entries before it, or in the store.
+fn mark_of(s: &[u8], image: &[u8], start: usize, k: usize, a: usize, e: usize) -> u8
+    requires { ⌜ (a ≤ e) × (e ≤ length (now image)) ⌝ }
+    ensures { λ r. ⌜ ((st : Store) (f : ℕ) (pre : List Entry) (i : ℕ) → storeOf (now (s .entry)) ≡ got st f → many [] _∷_ k entryAt (now (image .entry)) start ≡ got pre i
+        → eqb r 1 ≡ isHeld (findIn (st .items)) (seenAfter [] pre) (part (now (image .entry)) a (e - a))) ⌝ }
+{
+    if is_among(image, start, k, &image[a..e]) {
+        return 1;
+    }
+    if has_holder(s, &image[a..e]) {
+        return 1;
+    }
+    0
+}
+
+// Marks the entries of an image that repeat an id.
+fn mark_repeats(s: &[u8], image: &[u8], mut marks: [u8; 65536]) -> [u8; 65536]
+    ensures { λ r. ⌜ ((st : Store) (u : ℕ) (es : List Entry) (f : ℕ) → storeOf (now (s .entry)) ≡ got st u → resourceOf (now (image .entry)) ≡ got es f
+        → marked r 0 es ≡ repeats (findIn (st .items)) es) ⌝ }
+{
+    let Num::At(count, start) = read_u16(image, 5) else {
+        return marks;
+    };
+    let mut at = start;
+    let mut k = 0usize;
+    while k < count {
+        let Num::At(a, e) = read_str_behind(image, at, 1) else {
+            return marks;
+        };
+        marks[k] = mark_of(s, image, start, k, a, e);
+        let Next::At(next) = skip_entry(image, at) else {
+            return marks;
+        };
+        at = next;
+        k += 1;
+    }
+    marks
+}
+
+// Records, and their bytes.
+pub struct Tally {
+    pub count: usize,
+    pub size: usize,
+}
+
+// One record more, for an Id of n bytes, if the entry is marked.
+fn tally_more(t: Tally, mark: u8, n: usize) -> Tally
+    requires { ⌜ (t .count < 65536) × (t .size + n < 9000000000) ⌝ }
+    ensures { λ r. ⌜ Tallied t mark n r ⌝ }
+{
+    if mark == 1 {
+        return Tally {
+            count: t.count + 1,
+            size: t.size + (6 + n),
+        };
+    }
+    t
+}
+
+// The records of the marked entries.
+fn tally_marked(image: &[u8], marks: &[u8; 65536]) -> Tally
+    ensures { λ r. ⌜ ((es : List Entry) (f : ℕ) → resourceOf (now (image .entry)) ≡ got es f → Tallies (marked (now (marks .entry)) 0 es) r) × (r .size < 9000000000) ⌝ }
+{
+    let mut tally = Tally { count: 0, size: 0 };
+    let Num::At(count, start) = read_u16(image, 5) else {
+        return tally;
+    };
+    let mut at = start;
+    let mut k = 0usize;
+    while k < count {
+        let Num::At(a, e) = read_str_behind(image, at, 1) else {
+            return tally;
+        };
+        tally = tally_more(tally, marks[k], e - a);
+        let Next::At(next) = skip_entry(image, at) else {
+            return tally;
+        };
+        at = next;
+        k += 1;
+    }
+    tally
+}
+
+fn kind_of(b: usize) -> Kind
+    ensures { λ r. ⌜ r ≡ kindBy (eqb b 1) ⌝ }
+{
+    if b == 1 { Kind::Message } else { Kind::Term }
+}
+
+// Appends the record of a marked entry.
+fn list_entry(image: &[u8], at: usize, mark: u8, list: &mut [u8], to: usize) -> usize
+    ensures { λ r. ⌜ ListsEntry (now (image .entry)) at mark (now (list .entry)) to r (now (list .exit)) ⌝ }
+{
+    if mark != 1 {
+        return to;
+    }
+    let Num::At(kind, _) = read_byte(image, at) else {
+        return to;
+    };
+    let Num::At(a, e) = read_str_behind(image, at, 1) else {
+        return to;
+    };
+    let Wrote::At(next) = put_overriding(list, to, kind_of(kind), &image[a..e]) else {
+        return to;
+    };
+    next
+}
+
+// Writes the records of the marked entries, behind the header.
+fn list_marked(image: &[u8], marks: &[u8; 65536], list: &mut [u8])
+    ensures { λ _. ⌜ ((es : List Entry) (f : ℕ) → resourceOf (now (image .entry)) ≡ got es f → 5 + length (encAll encError (marked (now (marks .entry)) 0 es)) ≤ length (now (list .entry))
+        → now (list .exit) ≡ over (now (list .entry)) 5 (encAll encError (marked (now (marks .entry)) 0 es))) ⌝ }
+{
+    let Num::At(count, start) = read_u16(image, 5) else {
+        return;
+    };
+    let mut at = start;
+    let mut to = 5usize;
+    let mut k = 0usize;
+    while k < count {
+        to = list_entry(image, at, marks[k], list, to);
+        let Next::At(next) = skip_entry(image, at) else {
+            return;
+        };
+        at = next;
+        k += 1;
+    }
+}
+
+// == Additions
+
+// What a call answers: done, with the count of Overriding records; or the number of its refusal.
+pub enum Answer {
+    Done(usize),
+    Refused(u8),
+}
+
+const MAX_STORE: usize = 1048576;
+
+const MAX_ITEMS: usize = 256;
+
+// A new bundle at the front of a slice.
+pub fn new(slice: &mut [u8], locale: u8, isolating: u8) -> Answer
+    ensures { λ r. ⌜ gave r (now (slice .exit)) [] ≡ newBundle (now (slice .entry)) locale isolating ⌝ }
+{
+    if slice.len() < 9 {
+        return Answer::Refused(1);
+    }
+    if 3 < locale {
+        return Answer::Refused(2);
+    }
+    if 1 < isolating {
+        return Answer::Refused(3);
+    }
+    write_u32(slice, 0, 9);
+    slice[4] = 1;
+    slice[5] = locale;
+    slice[6] = isolating;
+    slice[7] = 0;
+    slice[8] = 0;
+    Answer::Done(0)
+}
+
+// The number of items of a store.
+fn count_items(s: &[u8]) -> usize
+    ensures { λ r. ⌜ ((st : Store) (f : ℕ) → storeOf (now (s .entry)) ≡ got st f → r ≡ length (st .items)) ⌝ }
+{
+    let Num::At(n, _) = read_u16(s, 7) else {
+        return 0;
+    };
+    n
+}
+
+// Whether a slice of `size` bytes, of which `used` are used by `count` items, has room for an item of n bytes.
+fn has_room(size: usize, used: usize, count: usize, n: usize) -> bool
+    requires { ⌜ (used ≤ 1048576) × (n ≤ 65537) ⌝ }
+    ensures { λ r. ⌜ ((s : List ℕ) → length s ≡ size → r ≡ hasRoom s used count n) ⌝ }
+{
+    if size < used + n {
+        return false;
+    }
+    if MAX_STORE < used + n {
+        return false;
+    }
+    count < MAX_ITEMS
+}
+
+// Writes the item of a resource.
+fn put_resource(slice: &mut [u8], at: usize, mode: u8, image: &[u8])
+    requires { ⌜ at + (1 + length (now image)) ≤ length (now slice) ⌝ }
+    ensures { λ _. ⌜ now (slice .exit) ≡ over (now (slice .entry)) at (mode ∷ now (image .entry)) ⌝ }
+{
+    slice[at] = mode;
+    write_bytes(slice, at + 1, image);
+}
+
+// Writes the item of a function: mode 3, length, version 1, code 1, Id.
+fn put_function(slice: &mut [u8], at: usize, id: &[u8])
+    requires { ⌜ (at + (9 + length (now id)) ≤ length (now slice)) × (length (now id) ≤ 255) ⌝ }
+    ensures { λ _. ⌜ now (slice .exit) ≡ over (now (slice .entry)) at (3 ∷ encFunction (now (id .entry))) ⌝ }
+{
+    slice[at] = 3;
+    write_u32(slice, at + 1, 8 + id.len());
+    slice[at + 5] = 1;
+    slice[at + 6] = 1;
+    write_u16(slice, at + 7, id.len());
+    write_bytes(slice, at + 9, id);
+}
+
+// Writes the used length and the item count of a store.
+fn put_counts(slice: &mut [u8], used: usize, count: usize)
+    requires { ⌜ (9 ≤ length (now slice)) × (used < 4294967296) × (count < 65536) ⌝ }
+    ensures { λ _. ⌜ now (slice .exit) ≡ over (over (now (slice .entry)) 0 (toBe 4 used)) 7 (toBe 2 count) ⌝ }
+{
+    write_u32(slice, 0, used);
+    write_u16(slice, 7, count);
+}
+
+// Adds a resource whose entries yield to those of their ids; lists one Overriding record for each that does.
+pub fn add_resource(slice: &mut [u8], image: &[u8], list: &mut [u8]) -> Answer
+    ensures { λ r. ⌜ gave r (now (slice .exit)) (now (list .exit)) ≡ addResource (now (slice .entry)) (now (image .entry)) (now (list .entry)) ⌝ }
+{
+    let Next::At(used) = check_store(slice) else {
+        return Answer::Refused(4);
+    };
+    let Next::At(_) = check_resource(image) else {
+        return Answer::Refused(5);
+    };
+    let count = count_items(slice);
+    if !has_room(slice.len(), used, count, 1 + image.len()) {
+        return Answer::Refused(6);
+    }
+    let none = [0u8; 65536];
+    let marks = mark_repeats(slice, image, none);
+    let tally = tally_marked(image, &marks);
+    if list.len() < 5 + tally.size {
+        return Answer::Refused(7);
+    }
+    list_marked(image, &marks, list);
+    put_header(list, 5 + tally.size);
+    put_resource(slice, used, 1, image);
+    put_counts(slice, used + (1 + image.len()), count + 1);
+    Answer::Done(tally.count)
+}
+
+// Adds a resource whose entries take their ids.
+pub fn add_resource_overriding(slice: &mut [u8], image: &[u8]) -> Answer
+    ensures { λ r. ⌜ gave r (now (slice .exit)) [] ≡ addResourceOverriding (now (slice .entry)) (now (image .entry)) ⌝ }
+{
+    let Next::At(used) = check_store(slice) else {
+        return Answer::Refused(4);
+    };
+    let Next::At(_) = check_resource(image) else {
+        return Answer::Refused(5);
+    };
+    let count = count_items(slice);
+    if !has_room(slice.len(), used, count, 1 + image.len()) {
+        return Answer::Refused(6);
+    }
+    put_resource(slice, used, 2, image);
+    put_counts(slice, used + (1 + image.len()), count + 1);
+    Answer::Done(0)
+}
+
+// Adds a function under an id that has no entry.
+pub fn add_function(slice: &mut [u8], id: &[u8], code: u8) -> Answer
+    ensures { λ r. ⌜ gave r (now (slice .exit)) [] ≡ addFunction (now (slice .entry)) (now (id .entry)) code ⌝ }
+{
+    let Next::At(used) = check_store(slice) else {
+        return Answer::Refused(4);
+    };
+    if !is_id(id) {
+        return Answer::Refused(8);
+    }
+    if code != 1 {
+        return Answer::Refused(9);
+    }
+    if has_holder(slice, id) {
+        return Answer::Refused(10);
+    }
+    let count = count_items(slice);
+    if !has_room(slice.len(), used, count, 9 + id.len()) {
+        return Answer::Refused(6);
+    }
+    put_function(slice, used, id);
+    put_counts(slice, used + (9 + id.len()), count + 1);
+    Answer::Done(0)
 }
