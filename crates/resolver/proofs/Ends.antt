@@ -1,0 +1,77 @@
+-- The ways in which a formatting returns.
+use mathlib.Core.Path.{_≡_, refl, ap, sym, subst, _∙_}
+use mathlib.Core.List.{List, [], _∷_, _++_}
+use mathlib.Core.Bool.{Bool, true, false}
+use mathlib.Core.Option.{Option, none, some}
+use Prim.Native.Nat.{ℕ, _+_, _-_, _≤_, _<_, min}
+use native.Mathlib.Omega.{arith}
+use lib.ListN.{length, take, drop, replicate}
+use lib.Dec.{leb}
+use borrow.Author.Tests.{le-leb, lt-leb}
+use Rattle.records.specs.Got.{Got, got, bad}
+use Rattle.records.specs.Tree.{Pattern}
+use Rattle.records.specs.Decode.{entryPatternAt}
+use Rattle.records.specs.Images.{Store, Argument, storeOf, argumentsOf}
+use Rattle.records.specs.Errors.{encErrors, listHeader}
+use Rattle.bundle.specs.Additions.{atFront}
+use Rattle.resolution.specs.Effect.{Bytes}
+use Rattle.resolution.specs.Exec.{Machine, Ran, ran, refused}
+use Rattle.resolution.specs.Format.{Answer, finished, refusedBefore, refusedRunning, Buffers, Formatted, zeros, refuse, orRefuse, ended, formatWith, formatArguments, format, limitsOf, runPattern, valuesOf}
+use Rattle.scope.specs.declared.state.Scope.{Scope}
+use Rattle.scope.specs.Meets.{Env, env, Setup, settingOf, findOf, maxUnfound}
+use Rattle.resolver.specs.declared.format.Answer as code-answer
+use Rattle.resolver.specs.declared.format.Answer.the-variants as ans
+use Rattle.resolver.specs.declared.format.Part as code-part
+use Rattle.resolver.specs.declared.format.Part.the-variants as part-answer
+use Rattle.resolver.specs.Formats.{answerOf, Formats, PatternFound, refuses, finds, RanAs, ran-as, refused-as, RunAt, FinishAt}
+use Rattle.resolver.proofs.Whole.{buffers}
+
+-- a formatting that the definition refuses before its run
+refused-is : (s id : Bytes) (a : Option Bytes) (image x l w : Bytes) (n : ℕ) {r : code-answer.Answer} → format s id a image (buffers x l w) ≡ refuse n (buffers x l w) → r ≡ ans.Refused n
+    → Formats s id a image x l w x l w r
+unfolding refuse answerOf
+refused-is s id a image x l w n e er = record { answer = er ∙ sym (ap (λ (f : Formatted). answerOf (f .answer)) e); text = sym (ap (λ (f : Formatted). f .buffers .text) e); list = sym (ap (λ (f : Formatted). f .buffers .list) e); work = sym (ap (λ (f : Formatted). f .buffers .work) e) }
+
+module _ (s id : Bytes) (a : Option Bytes) (image x l w : Bytes) {p : code-part.Part} (h : PatternFound s id a p) where
+  -- 4, 8, 11, 12
+  pub format-refused : {n : ℕ} {r : code-answer.Answer} → p ≡ part-answer.Refused n → r ≡ ans.Refused n → Formats s id a image x l w x l w r
+  format-refused {n} {r} e er = go h
+    where
+      go : PatternFound s id a p → Formats s id a image x l w x l w r
+      go (refuses m e′ f) = let q : m ≡ n = cc in refused-is s id a image x l w n (f image (buffers x l w) ∙ ap (λ (i : ℕ). refuse i (buffers x l w)) q) er
+      go (finds q st used pt f e′ hs hp k) = let z : _≡_ {A = ℕ} 0 1 = cc in absurd (omega arith)
+
+  module _ (q : ℕ) (e : p ≡ part-answer.At q) where
+    found-elim : {C : Type 0} → ((st : Store) (used : ℕ) (pt : Pattern) (f : ℕ) → storeOf s ≡ got st used → entryPatternAt s q ≡ got pt f → format s id a image (buffers x l w) ≡ formatArguments st pt (argumentsOf image) (buffers x l w) → C) → C
+    found-elim {C} c = go h
+      where
+        go : PatternFound s id a p → C
+        go (refuses m e′ f) = let z : _≡_ {A = ℕ} 0 1 = cc in absurd (omega arith)
+        go (finds q′ st used pt f e′ hs hp k) = let eq : q′ ≡ q = cc in c st used pt f hs (subst (λ (j : ℕ). entryPatternAt s j ≡ got pt f) eq hp) (k image (buffers x l w))
+
+    -- 13
+    pub format-arguments : {r : code-answer.Answer} → argumentsOf image ≡ bad → r ≡ ans.Refused 13 → Formats s id a image x l w x l w r
+    unfolding formatArguments
+    format-arguments b er = found-elim (λ st used pt f hs hp k. refused-is s id a image x l w 13 (k ∙ rw b) er)
+
+    module _ {args : List (Bytes × Argument)} {end : ℕ} (ha : argumentsOf image ≡ got args end) where
+      -- 7, of a list buffer that has no room for a header
+      pub format-header : {r : code-answer.Answer} → length l < 5 → r ≡ ans.Refused 7 → Formats s id a image x l w x l w r
+      unfolding formatArguments formatWith orRefuse listHeader
+      format-header small er = found-elim (λ st used pt f hs hp k. refused-is s id a image x l w 7 (k ∙ rw (ha, lt-leb 5 (length l) small)) er)
+
+      -- the run
+      pub format-run : {x₁ l₁ w₁ x₂ l₂ w₂ : Bytes} {sc : Scope} {r : code-answer.Answer} → 5 ≤ length l → RunAt (env s image) q x l w x₁ l₁ w₁ sc → FinishAt sc x₁ l₁ w₁ x₂ l₂ w₂ r
+          → Formats s id a image x l w x₂ l₂ w₂ r
+      unfolding formatArguments formatWith orRefuse listHeader
+      format-run {r = r} big ru fi = found-elim (λ st used pt f hs hp k.
+          let u : Setup (env s image) = record { held = st; used = used; held-at = hs; given = args; given-end = end; given-at = ha } in
+          let o : Ran = runPattern (settingOf (env s image) u) (findOf (env s image) u) (limitsOf (buffers x l w)) pt in
+          let g = fi .finishes o x l w (ru .runs u pt f hp big) (ru .text-size) (ru .list-size) (ru .work-size) in
+          let d : format s id a image (buffers x l w) ≡ ended o (buffers x l w) = k ∙ rw (ha, le-leb 5 (length l) big) in
+          record {
+            answer = g .0 ∙ sym (ap (λ (y : Formatted). answerOf (y .answer)) d);
+            text = g .1 ∙ sym (ap (λ (y : Formatted). y .buffers .text) d);
+            list = g .2 ∙ sym (ap (λ (y : Formatted). y .buffers .list) d);
+            work = g .3 ∙ sym (ap (λ (y : Formatted). y .buffers .work) d);
+          })

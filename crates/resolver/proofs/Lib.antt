@@ -1,0 +1,15 @@
+-- Steps of the writers, one for each way to return, over variables; and a whole formatting.
+pub mod Bodies
+pub mod Elements
+pub mod Expressions
+pub mod Inlines
+pub mod Selects
+pub mod Binds
+pub mod Named
+pub mod Tracks
+pub mod References
+pub mod Values
+pub mod Calls
+pub mod Terms
+pub mod Whole
+pub mod Ends

@@ -1,0 +1,18 @@
+-- `scope::state::count_unfound` meets its contract: a lookup unfound is counted, as far as the count goes.
+use Rattle.scope.proofs.Puts.{count-one}
+use borrow.Author.Needs.{needs}
+use native.Mathlib.Omega.{arith}
+use Rattle.scope.proofs.state.count_unfound.Statement.{statement}
+use Rattle.scope.proofs.state.count_unfound.Tie as tie
+
+add-st : tie.Need-add-st
+add-st c = search needs
+
+returns : tie.Need-returns
+returns c = λ i x l w t. count-one i x l w t (c .before .before .before .args .st) (λ h. omega (arith, c .before .if1 .taken))
+
+returns-2 : tie.Need-returns-2
+returns-2 c = λ i x l w t. count-one i x l w t (c .before .before .args .st) (λ h. omega (arith, c .if1 .left))
+
+pub count-unfound-spec : {M : Type 1} → statement M
+count-unfound-spec = tie.close (tie.spec add-st returns returns-2)

@@ -1,0 +1,370 @@
+// Writing: text to the text buffer or aside to the workspace's front, errors to the list.
+ghost use mathlib.Core.Path.{_≡_};
+ghost use mathlib.Core.List.{List, [], _∷_, _++_};
+ghost use mathlib.Core.Bool.{true, false};
+ghost use mathlib.Core.Option.{Option};
+ghost use Prim.Native.Nat.{ℕ, _+_, _-_, _≤_, max};
+ghost use lib.ListN.{length};
+ghost use lib.Seq.{paste};
+ghost use Rattle.numbers.specs.Number as num;
+ghost use Rattle.numbers.specs.Number.{inRange};
+ghost use Rattle.numbers.specs.Value.{numeric, valueText};
+ghost use Rattle.numbers.specs.Shown.{shown};
+ghost use Rattle.records.specs.Got.{got};
+ghost use Rattle.records.specs.Bytes.{part};
+ghost use Rattle.records.specs.Decode.{idAt, optionalAt};
+ghost use Rattle.records.specs.Errors.{noValue, reference};
+ghost use Rattle.texts.specs.Unescape.{unescape};
+ghost use Rattle.texts.specs.Report.{plainOf, referredOf, optionOf};
+ghost use Rattle.resolution.specs.Effect.{report, emit, write};
+ghost use Rattle.resolution.specs.Resolve.{dotted, mark, fsi, pdi};
+ghost use Rattle.scope.specs.Meets.{world, Acts, Kept, Holds, ErrorAt, CutAt, frontS, listedS};
+use crate::state::Scope;
+use crate::state::Value;
+use crate::state::refuse;
+use numbers::text::number_text;
+use numbers::types::Number;
+use records::Num;
+use records::read_byte;
+use records::read_str;
+use records::write_bytes;
+use texts::Plain;
+use texts::Referred;
+use texts::Wrote;
+use texts::put_no_value;
+use texts::put_plain;
+use texts::put_reference;
+use texts::unescape_into;
+use texts::unescaped_len;
+
+// Writes src: to the workspace's front while a text is made aside, else to the text buffer.
+pub fn put(text: &mut [u8], work: &mut [u8], st: Scope, src: &[u8]) -> Scope
+    ensures { λ r. ⌜ ((i l t : List ℕ) → Acts (write (now (src .entry))) (world i (now (text .entry)) l (now (work .entry)) t st) (world i (now (text .exit)) l (now (work .exit)) t r)) ⌝ }
+{
+    if st.refused != 0 {
+        return st;
+    }
+    if st.aside {
+        let at = st.front;
+        let end = st.back;
+        if end < at {
+            return refuse(st, 16);
+        }
+        if work.len() < end {
+            return refuse(st, 16);
+        }
+        if end - at < src.len() {
+            return refuse(st, 16);
+        }
+        write_bytes(work, at, src);
+        return grown(st, src.len(), work.len());
+    }
+    put_text(text, st, src)
+}
+
+// The workspace's front has n bytes more, of `len` in all.
+fn grown(mut st: Scope, n: usize, len: usize) -> Scope
+    requires { ⌜ (st .front + n ≤ st .back) × (st .back ≤ len) ⌝ }
+    ensures { λ r. ⌜ r ≡ frontS (st .front + n) (max (st .high) (st .front + n + (len - st .back))) st ⌝ }
+{
+    st.front = st.front + n;
+    let used = st.front + (len - st.back);
+    if st.high < used {
+        st.high = used;
+    }
+    st
+}
+
+// Writes a string literal as it reads.
+pub fn put_literal(text: &mut [u8], work: &mut [u8], mut st: Scope, src: &[u8]) -> Scope
+    ensures { λ r. ⌜ ((i l t : List ℕ) → Acts (write (unescape (now (src .entry)))) (world i (now (text .entry)) l (now (work .entry)) t st) (world i (now (text .exit)) l (now (work .exit)) t r)) ⌝ }
+{
+    if st.refused != 0 {
+        return st;
+    }
+    let n = unescaped_len(src);
+    if st.aside {
+        let at = st.front;
+        let end = st.back;
+        if end < at {
+            return refuse(st, 16);
+        }
+        if work.len() < end {
+            return refuse(st, 16);
+        }
+        if end - at < n {
+            return refuse(st, 16);
+        }
+        unescape_into(src, work, at);
+        return grown(st, n, work.len());
+    }
+    let Wrote::At(e) = unescape_into(src, text, st.text_at) else {
+        return refuse(st, 15);
+    };
+    st.text_at = e;
+    st
+}
+
+// Writes a part of the workspace, which lies at its back.
+pub fn put_work(text: &mut [u8], work: &mut [u8], st: Scope, a: usize, e: usize) -> Scope
+    ensures { λ r. ⌜ ((i l t : List ℕ) → Kept (world i (now (text .entry)) l (now (work .entry)) t st) (world i (now (text .exit)) l (now (work .exit)) t r)) × (st .back ≤ a → a ≤ e → e ≤ length (now (work .entry)) → (i l t : List ℕ) → Acts (write (part (now (work .entry)) a (e - a))) (world i (now (text .entry)) l (now (work .entry)) t st) (world i (now (text .exit)) l (now (work .exit)) t r)) ⌝ }
+{
+    if st.refused != 0 {
+        return st;
+    }
+    if e < a {
+        return st;
+    }
+    if work.len() < e {
+        return st;
+    }
+    if st.aside {
+        let at = st.front;
+        let end = st.back;
+        if end < at {
+            return refuse(st, 16);
+        }
+        if a < end {
+            return refuse(st, 16);
+        }
+        if end - at < e - a {
+            return refuse(st, 16);
+        }
+        copy_down(work, a, at, e - a);
+        return grown(st, e - a, work.len());
+    }
+    put_text(text, st, &work[a..e])
+}
+
+// Writes src to the text buffer.
+fn put_text(text: &mut [u8], mut st: Scope, src: &[u8]) -> Scope
+    ensures { λ r. ⌜ (st .refused ≡ 0 → st .aside ≡ false → (i l w t : List ℕ) → Acts (write (now (src .entry))) (world i (now (text .entry)) l w t st) (world i (now (text .exit)) l w t r)) ⌝ }
+{
+    let at = st.text_at;
+    if text.len() < at {
+        return refuse(st, 15);
+    }
+    if text.len() - at < src.len() {
+        return refuse(st, 15);
+    }
+    write_bytes(text, at, src);
+    st.text_at = at + src.len();
+    st
+}
+
+// Copies n bytes from `from` to `to`, which ends before them.
+fn copy_down(work: &mut [u8], from: usize, to: usize, n: usize)
+    requires { ⌜ (to + n ≤ from) × (from + n ≤ length (now work)) ⌝ }
+    ensures { λ _. ⌜ now (work .exit) ≡ paste (now (work .entry)) to (part (now (work .entry)) from n) n ⌝ }
+{
+    let mut i = 0usize;
+    while i < n {
+        let x = work[from + i];
+        work[to + i] = x;
+        i += 1;
+    }
+}
+
+pub fn put_number(text: &mut [u8], work: &mut [u8], st: Scope, n: Number) -> Scope
+    ensures { λ r. ⌜ ((i l t : List ℕ) → Kept (world i (now (text .entry)) l (now (work .entry)) t st) (world i (now (text .exit)) l (now (work .exit)) t r)) × ((x : num.Number) → n ≡ shown x → inRange x ≡ true → (i l t : List ℕ) → Acts (write (valueText (numeric x))) (world i (now (text .entry)) l (now (work .entry)) t st) (world i (now (text .exit)) l (now (work .exit)) t r)) ⌝ }
+{
+    let t = number_text(n);
+    let bytes = t.bytes;
+    let len = t.len;
+    put(text, work, st, &bytes[0..len])
+}
+
+pub fn put_value(
+    store: &[u8],
+    args: &[u8],
+    text: &mut [u8],
+    work: &mut [u8],
+    st: Scope,
+    value: Value,
+) -> Scope
+    ensures { λ r. ⌜ ((l t : List ℕ) → Kept (world (now (store .entry)) (now (text .entry)) l (now (work .entry)) t st) (world (now (store .entry)) (now (text .exit)) l (now (work .exit)) t r)) × ((v : Rattle.numbers.specs.Value.Value) → Holds (now (store .entry)) (now (args .entry)) (now (work .entry)) (st .back) value v → (l t : List ℕ) → Acts (write (valueText v)) (world (now (store .entry)) (now (text .entry)) l (now (work .entry)) t st) (world (now (store .entry)) (now (text .exit)) l (now (work .exit)) t r)) ⌝ }
+{
+    match value {
+        Value::Store(a, e) => {
+            if e < a {
+                return st;
+            }
+            if store.len() < e {
+                return st;
+            }
+            put(text, work, st, &store[a..e])
+        }
+        Value::Args(a, e) => {
+            if e < a {
+                return st;
+            }
+            if args.len() < e {
+                return st;
+            }
+            put(text, work, st, &args[a..e])
+        }
+        Value::Work(a, e) => put_work(text, work, st, a, e),
+        Value::Number(n) => put_number(text, work, st, n),
+        // an empty write, which the definition counts to the highest use of the workspace as any other
+        Value::Nothing => put(text, work, st, b""),
+        Value::Wrong => put(text, work, st, b""),
+    }
+}
+
+// One record more on the list, or refused.
+fn listed(mut st: Scope, wrote: Wrote) -> Scope
+    ensures { λ r. ⌜ r ≡ listedS wrote st ⌝ }
+{
+    match wrote {
+        Wrote::At(e) => {
+            st.list_at = e;
+            if st.errors < 18446744073709551615 {
+                st.errors = st.errors + 1;
+            }
+            st
+        }
+        Wrote::Full => refuse(st, 7),
+    }
+}
+
+pub fn list_plain(list: &mut [u8], st: Scope, error: Plain) -> Scope
+    ensures { λ r. ⌜ ((i x w t : List ℕ) → Acts (emit (report (plainOf error))) (world i x (now (list .entry)) w t st) (world i x (now (list .exit)) w t r)) ⌝ }
+{
+    if st.refused != 0 {
+        return st;
+    }
+    let w = put_plain(list, st.list_at, error);
+    listed(st, w)
+}
+
+pub fn list_no_value(list: &mut [u8], st: Scope, id: &[u8]) -> Scope
+    ensures { λ r. ⌜ ((i x w t : List ℕ) → Kept (world i x (now (list .entry)) w t st) (world i x (now (list .exit)) w t r)) × (length (now (id .entry)) ≤ 255 → (i x w t : List ℕ) → Acts (emit (report (noValue (now (id .entry))))) (world i x (now (list .entry)) w t st) (world i x (now (list .exit)) w t r)) ⌝ }
+{
+    if st.refused != 0 {
+        return st;
+    }
+    let w = put_no_value(list, st.list_at, id);
+    listed(st, w)
+}
+
+pub fn list_reference(
+    list: &mut [u8],
+    st: Scope,
+    kind: Referred,
+    id: &[u8],
+    has: bool,
+    attribute: &[u8],
+) -> Scope
+    ensures { λ r. ⌜ ((i x w t : List ℕ) → Kept (world i x (now (list .entry)) w t st) (world i x (now (list .exit)) w t r)) × (length (now (id .entry)) ≤ 255 → length (now (attribute .entry)) ≤ 255 → (i x w t : List ℕ) → Acts (emit (report (reference (referredOf kind) (now (id .entry)) (optionOf has (now (attribute .entry)))))) (world i x (now (list .entry)) w t st) (world i x (now (list .exit)) w t r)) ⌝ }
+{
+    if st.refused != 0 {
+        return st;
+    }
+    let w = put_reference(list, st.list_at, kind, id, has, attribute);
+    listed(st, w)
+}
+
+// What opens, a name, and what closes.
+pub fn put_braced(
+    text: &mut [u8],
+    work: &mut [u8],
+    st: Scope,
+    head: &[u8],
+    src: &[u8],
+    tail: &[u8],
+) -> Scope
+    ensures { λ r. ⌜ ((i l t : List ℕ) → Acts (write (now (head .entry) ++ (now (src .entry) ++ now (tail .entry)))) (world i (now (text .entry)) l (now (work .entry)) t st) (world i (now (text .exit)) l (now (work .exit)) t r)) ⌝ }
+{
+    let s1 = put(text, work, st, head);
+    let s2 = put(text, work, s1, src);
+    put(text, work, s2, tail)
+}
+
+// A message's or a term's name in braces: its Id, and its attribute if it has one.
+pub fn put_dotted(
+    store: &[u8],
+    text: &mut [u8],
+    work: &mut [u8],
+    st: Scope,
+    head: &[u8],
+    at: usize,
+) -> Scope
+    ensures { λ r. ⌜ ((l t : List ℕ) → Kept (world (now (store .entry)) (now (text .entry)) l (now (work .entry)) t st) (world (now (store .entry)) (now (text .exit)) l (now (work .exit)) t r)) × ((n : List ℕ) (p : ℕ) (a : Option (List ℕ)) (f : ℕ) → idAt (now (store .entry)) at ≡ got n p → optionalAt idAt (now (store .entry)) p ≡ got a f → (l t : List ℕ) → Acts (write (now (head .entry) ++ (dotted n a ++ (125 ∷ [])))) (world (now (store .entry)) (now (text .entry)) l (now (work .entry)) t st) (world (now (store .entry)) (now (text .exit)) l (now (work .exit)) t r)) ⌝ }
+{
+    let Num::At(a, e) = read_str(store, at) else {
+        return st;
+    };
+    let Num::At(flag, p) = read_byte(store, e) else {
+        return st;
+    };
+    if flag == 0 {
+        return put_braced(text, work, st, head, &store[a..e], b"}");
+    }
+    let Num::At(b, f) = read_str(store, p) else {
+        return st;
+    };
+    let s1 = put_braced(text, work, st, head, &store[a..e], b".");
+    put_braced(text, work, s1, &store[b..f], b"}", b"")
+}
+
+// `write_error` in braces: what stands in the place of an inline expression that has an error.
+pub fn put_error(store: &[u8], text: &mut [u8], work: &mut [u8], st: Scope, at: usize) -> Scope
+    ensures { λ r. ⌜ ErrorAt (now (store .entry)) at (now (text .entry)) (now (work .entry)) st (now (text .exit)) (now (work .exit)) r ⌝ }
+{
+    let Num::At(tag, p) = read_byte(store, at) else {
+        return st;
+    };
+    if tag == 4 {
+        return put_dotted(store, text, work, st, b"{", p);
+    }
+    if tag == 5 {
+        return put_dotted(store, text, work, st, b"{-", p);
+    }
+    let Num::At(a, e) = read_str(store, p) else {
+        return put_braced(text, work, st, b"{", b"???", b"}");
+    };
+    if tag == 3 {
+        return put_braced(text, work, st, b"{", &store[a..e], b"()}");
+    }
+    if tag == 6 {
+        return put_braced(text, work, st, b"{$", &store[a..e], b"}");
+    }
+    put_braced(text, work, st, b"{", b"???", b"}")
+}
+
+// The end of `maybe_track`: where the expression was cut short, its error.
+pub fn put_cut(store: &[u8], text: &mut [u8], work: &mut [u8], st: Scope, at: usize) -> Scope
+    ensures { λ r. ⌜ CutAt (now (store .entry)) at (now (text .entry)) (now (work .entry)) st (now (text .exit)) (now (work .exit)) r ⌝ }
+{
+    if st.refused != 0 {
+        return st;
+    }
+    if st.dirty {
+        let Num::At(tag, p) = read_byte(store, at) else {
+            return st;
+        };
+        if tag == 8 {
+            return put_error(store, text, work, st, p);
+        }
+        return put_error(store, text, work, st, at);
+    }
+    st
+}
+
+pub fn put_fsi(text: &mut [u8], work: &mut [u8], st: Scope, on: bool) -> Scope
+    ensures { λ r. ⌜ ((i l t : List ℕ) → Acts (mark on fsi) (world i (now (text .entry)) l (now (work .entry)) t st) (world i (now (text .exit)) l (now (work .exit)) t r)) ⌝ }
+{
+    if on {
+        return put(text, work, st, b"\xE2\x81\xA8");
+    }
+    st
+}
+
+pub fn put_pdi(text: &mut [u8], work: &mut [u8], st: Scope, on: bool) -> Scope
+    ensures { λ r. ⌜ ((i l t : List ℕ) → Acts (mark on pdi) (world i (now (text .entry)) l (now (work .entry)) t st) (world i (now (text .exit)) l (now (work .exit)) t r)) ⌝ }
+{
+    if on {
+        return put(text, work, st, b"\xE2\x81\xA9");
+    }
+    st
+}

@@ -1,0 +1,95 @@
+// References: the Id and the attribute, and what stands in the place of one that is missing.
+ghost use mathlib.Core.Path.{_≡_};
+ghost use mathlib.Core.List.{List, [], _∷_, _++_};
+ghost use mathlib.Core.Bool.{true, false};
+ghost use mathlib.Core.Option.{Option, some, none};
+ghost use Prim.Native.Nat.{ℕ, _+_, _-_, _≤_, _<_};
+ghost use lib.ListN.{length};
+ghost use Rattle.texts.specs.Report.{referredOf};
+ghost use Rattle.scope.specs.Meets.{ReferenceIs, RefErrorAt, TooMany, begunS};
+use crate::put::list_plain;
+use crate::put::list_reference;
+use crate::put::put_error;
+use crate::state::Reference;
+use crate::state::Referring;
+use crate::state::Scope;
+use records::Num;
+use records::read_byte;
+use records::read_str;
+use texts::Plain;
+use texts::Referred;
+
+// The Id and the attribute of a message or a term reference.
+pub fn read_reference(store: &[u8], at: usize) -> Reference
+    ensures { λ r. ⌜ ReferenceIs (now (store .entry)) at r ⌝ }
+{
+    let Num::At(a, e) = read_str(store, at) else {
+        return Reference::Bad;
+    };
+    let Num::At(flag, p) = read_byte(store, e) else {
+        return Reference::Bad;
+    };
+    if flag == 0 {
+        return Reference::Is(Referring {
+            from: a,
+            to: e,
+            has: false,
+            start: p,
+            end: p,
+        });
+    }
+    let Num::At(b, f) = read_str(store, p) else {
+        return Reference::Bad;
+    };
+    Reference::Is(Referring {
+        from: a,
+        to: e,
+        has: true,
+        start: b,
+        end: f,
+    })
+}
+
+// `write_ref_error` of a message or a term reference, its tag at `at`.
+pub fn ref_error(
+    store: &[u8],
+    text: &mut [u8],
+    list: &mut [u8],
+    work: &mut [u8],
+    st: Scope,
+    kind: Referred,
+    at: usize,
+) -> Scope
+    ensures { λ r. ⌜ RefErrorAt (now (store .entry)) at (referredOf kind) (now (text .entry)) (now (list .entry)) (now (work .entry)) st (now (text .exit)) (now (list .exit)) (now (work .exit)) r ⌝ }
+{
+    let Num::At(_, p) = read_byte(store, at) else {
+        return st;
+    };
+    let Reference::Is(r) = read_reference(store, p) else {
+        return st;
+    };
+    let from = r.from;
+    let to = r.to;
+    let start = r.start;
+    let end = r.end;
+    let s1 = list_reference(list, st, kind, &store[from..to], r.has, &store[start..end]);
+    put_error(store, text, work, s1, at)
+}
+
+// A placeable more is begun.
+pub fn begin(mut st: Scope) -> Scope
+    requires { ⌜ st .begun < 100 ⌝ }
+    ensures { λ r. ⌜ r ≡ begunS (st .begun + 1) (st .dirty) st ⌝ }
+{
+    st.begun = st.begun + 1;
+    st
+}
+
+// The 101st is not expanded: nothing more is written.
+pub fn too_many(list: &mut [u8], mut st: Scope) -> Scope
+    ensures { λ r. ⌜ TooMany (now (list .entry)) st (now (list .exit)) r ⌝ }
+{
+    st.begun = 101;
+    st.dirty = true;
+    list_plain(list, st, Plain::TooManyPlaceables)
+}
