@@ -2,6 +2,7 @@
 use images::Given;
 use records::Next;
 use records::Num;
+use texts::Wrote;
 ghost use Prim.Native.Nat.{_≤_, _<_};
 ghost use lib.ListN.{length};
 
@@ -145,6 +146,30 @@ pub fn find_case(s: &[u8]) -> u64 {
             1
         }
         Given::Nothing => differs(kind == 3),
+    }
+}
+
+// Are the first n bytes the text, and nothing else?
+fn reads_as(d: &[u8], n: usize, text: &[u8]) -> bool {
+    if d.len() < n {
+        return false;
+    }
+    let zero = 0usize;
+    records::same_bytes(&d[zero..n], text)
+}
+
+// Str string literal, Str text: the text that the literal reads as.
+pub fn literal_case(s: &[u8]) -> u64 {
+    let l = string(s, 1);
+    let from = l.from;
+    let to = l.to;
+    let t = string(s, to);
+    let start = t.from;
+    let end = t.to;
+    let mut text = io::large_buffer();
+    match texts::unescape_into(&s[from..to], &mut text, 0) {
+        Wrote::At(n) => differs(reads_as(&text, n, &s[start..end])),
+        Wrote::Full => 1,
     }
 }
 

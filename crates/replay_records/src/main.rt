@@ -39,6 +39,7 @@ fn tallied(t: Tally, s: &[u8]) -> Tally {
         }
         23 => {
             r.literals = more(r.literals, 1);
+            r.differ = more(r.differ, cases::literal_case(s));
         }
         24 => {
             r.found = more(r.found, 1);
@@ -91,7 +92,7 @@ fn show(t: Tally) {
     line(t.arguments, b" arguments images\n");
     line(t.found, b" arguments looked for\n");
     line(t.damaged, b" damaged images\n");
-    line(t.literals, b" literals not compared here\n");
+    line(t.literals, b" literals\n");
     line(t.unknown, b" unknown\n");
     line(t.differ, b" differ\n");
 }
