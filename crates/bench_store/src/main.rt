@@ -67,8 +67,13 @@ fn checked(s: &[u8], times: u64) -> u64 {
     ok
 }
 
+// The largest image, and no byte past it.
+fn room() -> [u8; 1048576] {
+    [0u8; 1048576]
+}
+
 fn main() {
-    let mut store = [0u8; 1048576];
+    let mut store = room();
     let n = made(&mut store);
     let ok = checked(&store, 1000);
     io::print_decimal(STDOUT_FILENO, n as u64);

@@ -7,6 +7,7 @@ pub mod Shortest
 pub mod Merging
 pub mod Writing
 pub mod Reading
+pub mod Spelling
 pub mod Categories
 pub mod Equality
 pub mod Examples

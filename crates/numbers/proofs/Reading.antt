@@ -53,7 +53,7 @@ stuck b = go (digit b) (eqb b 45) (eqb b 46)
     go false false true = refl
     go false false false = refl
 
-stuck-all : (l : List ℕ) → run numberStep 5 l ≡ 5
+pub stuck-all : (l : List ℕ) → run numberStep 5 l ≡ 5
 unfolding run
 stuck-all [] = refl
 stuck-all (b ∷ l) = rw (stuck b) (stuck-all l)

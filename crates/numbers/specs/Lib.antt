@@ -1,6 +1,7 @@
 pub mod Bytes
 pub mod Decimal
 pub mod Literal
+pub mod Spelling
 pub mod Text
 pub mod Equal
 pub mod Number
