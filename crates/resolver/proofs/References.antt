@@ -21,7 +21,7 @@ use Rattle.bundle.specs.Lookup.{Holder, Find, findIn, partOf}
 use Rattle.bundle.specs.Meets.{HolderAt, message-at, term-at, function-at, nothing-at, PartAt, part-at, no-part, asked}
 use Rattle.bundle.specs.declared.Found.{Found}
 use Rattle.bundle.specs.declared.Found.the-variants as found
-use Rattle.walks.proofs.Heads.{byte-inv}
+use Rattle.images.proofs.Views.{byte-inv}
 use Rattle.resolution.specs.Effect.{Bytes, report, unfound, M, Done, emit, write, _>>=_, _>>_}
 use Rattle.resolution.specs.Resolve.{Trail, dotted, errorText, braced, writeRefError, lookUp, messageOnly, termOnly, asMessage, asTerm, track, onPart, missingPart, messageFound, termFound, writeMessage}
 use Rattle.scope.specs.declared.state.Scope.{Scope}
