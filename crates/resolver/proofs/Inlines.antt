@@ -28,7 +28,7 @@ use Rattle.scope.specs.declared.state.Value.the-variants as val
 use Rattle.scope.specs.Meets.{World, Live, Runs, Kept, Acts, Holds, is-number, Env, Setup, settingOf, findOf, crossOf, Here, ExpressionAt, InlineAt, MessageAt, TermAt, CalledAt, ResultAt, VariableAt}
 use Rattle.scope.proofs.Laws.{kept-same, kept-then, ended-then}
 use Rattle.scope.proofs.Steps.{runs-as, runs-over}
-use Rattle.scope.proofs.Literals.{number-is, literal-in, id-short}
+use Rattle.scope.proofs.Literals.{number-is, literal-ranged, id-short}
 use Rattle.resolver.proofs.Bodies.{string-body, number-body, message-body, term-body, variable-body, nested-body, str-body, function-body}
 
 -- the length of a part that lies in a list
@@ -117,7 +117,7 @@ module _ (e : Env) (left at : ℕ) where
         runs = λ u y f k n t here. number-body (e .store) at tag p hb left k h (λ s hs ey. same-str (number-str (e .store) p hs) (λ es _.
             let ok : isNumber name ≡ true = ap isNumber (sym es) ∙ number-rule (e .store) p hs in
             is-it u n t (ey ∙ ap Inline.number es)
-            (g (numeric (literal name)) (is-number (literal name) (c (inside .0) (inside .1) ok) (literal-in name ok) refl) .runs)));
+            (g (numeric (literal name)) (is-number (literal name) (c (inside .0) (inside .1) ok) (literal-ranged name ok) refl) .runs)));
       }
 
       pub inline-variable : {w v : World} → tag ≡ 6 → VariableAt e a b w v → InlineAt e left at w v

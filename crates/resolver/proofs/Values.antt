@@ -28,7 +28,7 @@ use Rattle.scope.specs.Meets.{World, world, Live, Ended, Runs, Kept, Holds, in-
 use Rattle.scope.proofs.Laws.{kept-same, runs-ret, ended-then}
 use Rattle.scope.proofs.Steps.{runs-as, runs-over}
 use Rattle.scope.proofs.Capture.{opened, live-opened, ended-capture, holds-capture, capture-stopped, capture-lies, ended-held}
-use Rattle.scope.proofs.Literals.{number-is, literal-in, id-short}
+use Rattle.scope.proofs.Literals.{number-is, literal-ranged, id-short}
 use Rattle.resolver.proofs.Bodies.{string-body, number-body, message-body, term-body, variable-body, nested-body, str-body, function-body}
 use Rattle.resolver.proofs.Named.{string-value}
 
@@ -119,7 +119,7 @@ module _ (e : Env) (left at : ℕ) where
         holds = λ u y j k n tr here L s m lv z. number-body (e .store) at tag p hb left k h (λ b q ey. same (number-str (e .store) p q) (λ eb.
             ruled-elim _ (e .store) p q (λ _ _ _ ok.
             let nb : isNumber str ≡ true = ap isNumber (sym eb) ∙ number-is b ok in
-            holds-number (literal str) (g le ln nb) (literal-in str nb) (ap (λ (o : Inline). resolveInline (settingOf e u) (findOf e u) (crossOf e u n) tr o s .value) (ey ∙ ap Inline.number eb)))));
+            holds-number (literal str) (g le ln nb) (literal-ranged str nb) (ap (λ (o : Inline). resolveInline (settingOf e u) (findOf e u) (crossOf e u n) tr o s .value) (ey ∙ ap Inline.number eb)))));
       }
 
       -- a variable

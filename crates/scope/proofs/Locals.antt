@@ -25,7 +25,7 @@ pub named-high : {w : List ℕ} {low base : ℕ} {ns : Named} → NamedIn w low 
 named-high (named-none a b) = b
 named-high (named-more t b x r) = b
 
-text-stays : (w w′ : List ℕ) (low base : ℕ) (l : Literal) → drop low w′ ≡ drop low w → low ≤ base - takes l → TextIn w base l → TextIn w′ base l
+pub text-stays : (w w′ : List ℕ) (low base : ℕ) (l : Literal) → drop low w′ ≡ drop low w → low ≤ base - takes l → TextIn w base l → TextIn w′ base l
 unfolding TextIn
 text-stays w w′ low base (Literal.string s) e h t = λ b.
     let n : ℕ = takes (Literal.string s) in

@@ -409,8 +409,11 @@ pub record CalledAt (e : Env) (left at : ℕ) (w v : World) (found : Bool) (c : 
 pub record StringAt (i : List ℕ) (a e : ℕ) (w : List ℕ) (st : Scope) (w′ : List ℕ) (r : Scope) (c : code-value.Value) : Type 0 where
   pub kept : (x l t : List ℕ) → Kept (world i x l w t st) (world i x l w′ t r)
   pub runs : a ≤ e → e ≤ length i → (x l t : List ℕ) → Runs (stringValue (part i a (e - a))) (world i x l w t st) (world i x l w′ t r)
+  pub size : length w′ ≡ length w
   pub holds : a ≤ e → e ≤ length i → (args x l t : List ℕ) (L : Limits) (s : State) (k : Machine) → Live L (world i x l w t st) s k → r .refused ≡ 0
       → Holds i args w′ (r .back) c (textual (unescape (part i a (e - a))))
+  pub text : a ≤ e → e ≤ length i → (x l t : List ℕ) (L : Limits) (s : State) (k : Machine) → Live L (world i x l w t st) s k → r .refused ≡ 0
+      → TextIn w′ (st .back) (Literal.string (part i a (e - a)))
 
 -- named arguments, in stored order
 pub record NamedAt (i : List ℕ) (at count : ℕ) (w : List ℕ) (st : Scope) (w′ : List ℕ) (r : Scope) : Type 0 where

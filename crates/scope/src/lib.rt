@@ -1,5 +1,8 @@
-// The state of a formatting, and what the writers do with it one step at a time: put text, list an error, read a reference, choose a variant.
+// The state of a formatting, and what the writers do with it one step at a time: put text, list an error, find a value, choose a variant, call NUMBER.
+pub mod call;
 pub mod put;
 pub mod reference;
 pub mod select;
 pub mod state;
+pub mod value;
+pub mod variable;

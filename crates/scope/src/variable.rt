@@ -5,14 +5,31 @@ ghost use mathlib.Core.Bool.{true, false};
 ghost use mathlib.Core.Option.{Option, some, none};
 ghost use Prim.Native.Nat.{ℕ, _+_, _-_, _≤_};
 ghost use lib.ListN.{length};
+ghost use Rattle.scope.specs.declared.state.Value.the-variants as val;
 ghost use Rattle.scope.specs.Meets.{world, env, VariableAt, VariableValueAt, ResultAt};
+use crate::put::list_reference;
+use crate::put::put_braced;
+use crate::put::put_value;
+use crate::state::Called;
+use crate::state::Local;
+use crate::state::Resolved;
+use crate::state::Scope;
+use crate::state::Value;
+use crate::value::find_variable;
+use crate::value::list_variable;
 use texts::Referred;
-use crate::state::{Scope, Value, Local, Resolved, Called};
-use crate::put::{put_value, put_braced, list_reference};
-use crate::value::{find_variable, list_variable};
 
 // A variable's text, or `{$n}`.
-pub fn write_variable(store: &[u8], args: &[u8], text: &mut [u8], list: &mut [u8], work: &mut [u8], st: Scope, a: usize, e: usize) -> Scope
+pub fn write_variable(
+    store: &[u8],
+    args: &[u8],
+    text: &mut [u8],
+    list: &mut [u8],
+    work: &mut [u8],
+    st: Scope,
+    a: usize,
+    e: usize,
+) -> Scope
     ensures { λ r. ⌜ ((t : List ℕ) → VariableAt (env (now (store .entry)) (now (args .entry))) a e (world (now (store .entry)) (now (text .entry)) (now (list .entry)) (now (work .entry)) t st) (world (now (store .entry)) (now (text .exit)) (now (list .exit)) (now (work .exit)) t r)) ⌝ }
 {
     if e < a {
@@ -29,24 +46,62 @@ pub fn write_variable(store: &[u8], args: &[u8], text: &mut [u8], list: &mut [u8
 }
 
 // A variable's value, or Error.
-pub fn resolve_variable(store: &[u8], args: &[u8], list: &mut [u8], st: Scope, a: usize, e: usize) -> Resolved
+pub fn resolve_variable(
+    store: &[u8],
+    args: &[u8],
+    list: &mut [u8],
+    st: Scope,
+    a: usize,
+    e: usize,
+) -> Resolved
     ensures { λ r. ⌜ ((x w t : List ℕ) → VariableValueAt (env (now (store .entry)) (now (args .entry))) a e (world (now (store .entry)) x (now (list .entry)) w t st) (world (now (store .entry)) x (now (list .exit)) w t (r .st)) (r .value)) ⌝ }
 {
     if e < a {
-        return Resolved { st: st, value: Value::Wrong };
+        return Resolved {
+            st: st,
+            value: Value::Wrong,
+        };
     }
     if store.len() < e {
-        return Resolved { st: st, value: Value::Wrong };
+        return Resolved {
+            st: st,
+            value: Value::Wrong,
+        };
     }
     let Local::Is(v) = find_variable(store, args, st, &store[a..e]) else {
         let s1 = list_variable(list, st, &store[a..e]);
-        return Resolved { st: s1, value: Value::Wrong };
+        return Resolved {
+            st: s1,
+            value: Value::Wrong,
+        };
     };
     Resolved { st: st, value: v }
 }
 
+fn is_wrong(value: Value) -> bool
+    ensures { λ r. ⌜ (r ≡ true → value ≡ val.Wrong) × (r ≡ false → value ≡ val.Wrong → ⊥) ⌝ }
+{
+    match value {
+        Value::Wrong => true,
+        Value::Store(_, _) => false,
+        Value::Args(_, _) => false,
+        Value::Work(_, _) => false,
+        Value::Number(_) => false,
+        Value::Nothing => false,
+    }
+}
+
 // A function's result as text.
-pub fn write_result(store: &[u8], args: &[u8], text: &mut [u8], list: &mut [u8], work: &mut [u8], c: Called, a: usize, e: usize) -> Scope
+pub fn write_result(
+    store: &[u8],
+    args: &[u8],
+    text: &mut [u8],
+    list: &mut [u8],
+    work: &mut [u8],
+    c: Called,
+    a: usize,
+    e: usize,
+) -> Scope
     ensures { λ r. ⌜ ((t : List ℕ) → ResultAt (env (now (store .entry)) (now (args .entry))) a e (c .found) (c .value) (world (now (store .entry)) (now (text .entry)) (now (list .entry)) (now (work .entry)) t (c .st)) (world (now (store .entry)) (now (text .exit)) (now (list .exit)) (now (work .exit)) t r)) ⌝ }
 {
     let st = c.st;
@@ -58,17 +113,11 @@ pub fn write_result(store: &[u8], args: &[u8], text: &mut [u8], list: &mut [u8],
         return st;
     }
     if c.found {
-        match value {
-            Value::Wrong => put_braced(text, work, st, &store[a..e], b"()", b""),
-            Value::Store(_, _) => put_value(store, args, text, work, st, value),
-            Value::Args(_, _) => put_value(store, args, text, work, st, value),
-            Value::Work(_, _) => put_value(store, args, text, work, st, value),
-            Value::Number(_) => put_value(store, args, text, work, st, value),
-            Value::Nothing => put_value(store, args, text, work, st, value),
+        if is_wrong(value) {
+            return put_braced(text, work, st, &store[a..e], b"()", b"");
         }
-    } else {
-        let s1 = list_reference(list, st, Referred::Function, &store[a..e], false, b"");
-        put_braced(text, work, s1, b"{", &store[a..e], b"()}")
+        return put_value(store, args, text, work, st, value);
     }
+    let s1 = list_reference(list, st, Referred::Function, &store[a..e], false, b"");
+    put_braced(text, work, s1, b"{", &store[a..e], b"()}")
 }
-

@@ -3,7 +3,7 @@ ghost use mathlib.Core.Path.{_≡_};
 ghost use mathlib.Core.List.{List, [], _∷_, _++_};
 ghost use mathlib.Core.Bool.{true, false};
 ghost use mathlib.Core.Option.{Option, some, none};
-ghost use Prim.Native.Nat.{ℕ, _+_, _-_, _≤_};
+ghost use Prim.Native.Nat.{ℕ, _+_, _-_, _≤_, max};
 ghost use lib.ListN.{length};
 ghost use Rattle.numbers.specs.Number.{isNumber, literal};
 ghost use Rattle.numbers.specs.Shown.{shown};
@@ -17,15 +17,64 @@ ghost use Rattle.resolution.specs.Exec.{Limits, Machine};
 ghost use Rattle.resolution.specs.Format.{valuesOf};
 ghost use Rattle.scope.specs.declared.state.Value.the-variants as val;
 ghost use Rattle.scope.specs.Meets.{world, env, Setup, Live, NamedIn, namedTexts, LocalIs, variableOf, StringAt, NamedAt, MissingAt};
-use records::{Num, read_byte, read_str};
-use texts::{Referred, has_backslash, unescape_into, unescaped_len};
-use numbers::bytes::same_bytes;
-use numbers::types::{Number, Literal};
-use numbers::literal::read_literal;
-use numbers::types::default_options;
-use images::{Given, find_argument};
-use crate::state::{Scope, Value, Local, Resolved, refuse};
+ghost use Rattle.images.specs.Arguments.{Within, meant};
+ghost use Rattle.scope.specs.Values.{TakenAt, LiteralAt, NamedReads, Ranged, valueOfSome, heldS};
 use crate::put::list_reference;
+use crate::state::Local;
+use crate::state::Resolved;
+use crate::state::Scope;
+use crate::state::Value;
+use crate::state::refuse;
+use images::Given;
+use images::find_argument;
+use numbers::literal::read_literal;
+use numbers::types::Literal;
+use numbers::types::Number;
+use numbers::types::default_options;
+use records::Num;
+use records::read_byte;
+use records::read_str;
+use records::same_bytes;
+use texts::Referred;
+use texts::has_backslash;
+use texts::unescape_into;
+use texts::unescaped_len;
+
+// A named argument, by positions in the store: its name, and its literal's tag and bytes.
+pub struct NamedSpan {
+    pub from: usize,
+    pub to: usize,
+    pub tag: usize,
+    pub start: usize,
+    pub end: usize,
+}
+
+pub enum NamedRead {
+    Is(NamedSpan),
+    Bad,
+}
+
+// Reads a named argument.
+pub fn read_named(s: &[u8], at: usize) -> NamedRead
+    ensures { λ r. ⌜ NamedReads (now (s .entry)) at r ⌝ }
+{
+    let Num::At(from, to) = read_str(s, at) else {
+        return NamedRead::Bad;
+    };
+    let Num::At(tag, p) = read_byte(s, to) else {
+        return NamedRead::Bad;
+    };
+    let Num::At(start, end) = read_str(s, p) else {
+        return NamedRead::Bad;
+    };
+    NamedRead::Is(NamedSpan {
+        from: from,
+        to: to,
+        tag: tag,
+        start: start,
+        end: end,
+    })
+}
 
 // A number literal's value.
 pub fn literal_number(s: &[u8], a: usize, e: usize) -> Value
@@ -47,34 +96,64 @@ pub fn literal_number(s: &[u8], a: usize, e: usize) -> Value
 pub fn literal_string(s: &[u8], work: &mut [u8], st: Scope, a: usize, e: usize) -> Resolved
     ensures { λ r. ⌜ StringAt (now (s .entry)) a e (now (work .entry)) st (now (work .exit)) (r .st) (r .value) ⌝ }
 {
+    if st.refused != 0 {
+        return Resolved {
+            st: st,
+            value: Value::Wrong,
+        };
+    }
     if e < a {
-        return Resolved { st: st, value: Value::Wrong };
+        return Resolved {
+            st: st,
+            value: Value::Wrong,
+        };
     }
     if s.len() < e {
-        return Resolved { st: st, value: Value::Wrong };
+        return Resolved {
+            st: st,
+            value: Value::Wrong,
+        };
     }
     if !has_backslash(&s[a..e]) {
-        return Resolved { st: st, value: Value::Store(a, e) };
+        return Resolved {
+            st: st,
+            value: Value::Store(a, e),
+        };
     }
     let n = unescaped_len(&s[a..e]);
     let front = st.front;
     let back = st.back;
     if back < front {
-        return Resolved { st: refuse(st, 16), value: Value::Wrong };
+        return Resolved {
+            st: refuse(st, 16),
+            value: Value::Wrong,
+        };
     }
     if work.len() < back {
-        return Resolved { st: refuse(st, 16), value: Value::Wrong };
+        return Resolved {
+            st: refuse(st, 16),
+            value: Value::Wrong,
+        };
     }
     if back - front < n {
-        return Resolved { st: refuse(st, 16), value: Value::Wrong };
+        return Resolved {
+            st: refuse(st, 16),
+            value: Value::Wrong,
+        };
     }
     unescape_into(&s[a..e], work, back - n);
     let s1 = kept(st, n, work.len());
-    Resolved { st: s1, value: Value::Work(back - n, back) }
+    Resolved {
+        st: s1,
+        value: Value::Work(back - n, back),
+    }
 }
 
 // n bytes more are kept at the workspace's back, of `len` in all.
-pub fn kept(mut st: Scope, n: usize, len: usize) -> Scope {
+fn kept(mut st: Scope, n: usize, len: usize) -> Scope
+    requires { ⌜ (st .front + n ≤ st .back) × (st .back ≤ len) ⌝ }
+    ensures { λ r. ⌜ r ≡ heldS (st .back - n) (max (st .high) (st .front + (len - (st .back - n)))) st ⌝ }
+{
     st.back = st.back - n;
     let used = st.front + (len - st.back);
     if st.high < used {
@@ -91,20 +170,12 @@ pub fn resolve_named(s: &[u8], work: &mut [u8], st: Scope, at: usize, count: usi
     let mut p = at;
     let mut i = count;
     while 0 < i {
-        if now_st.refused != 0 {
-            return now_st;
-        }
-        let Num::At(_, q) = read_str(s, p) else {
+        let NamedRead::Is(n) = read_named(s, p) else {
             return now_st;
         };
-        let Num::At(tag, r) = read_byte(s, q) else {
-            return now_st;
-        };
-        let Num::At(a, e) = read_str(s, r) else {
-            return now_st;
-        };
-        if tag == 1 {
-            let v = literal_string(s, work, now_st, a, e);
+        let e = n.end;
+        if n.tag == 1 {
+            let v = literal_string(s, work, now_st, n.start, e);
             now_st = v.st;
         }
         p = e;
@@ -114,7 +185,12 @@ pub fn resolve_named(s: &[u8], work: &mut [u8], st: Scope, at: usize, count: usi
 }
 
 // The bytes that a literal's text takes at the workspace's back.
-pub fn taken(s: &[u8], a: usize, e: usize) -> usize {
+pub fn taken(s: &[u8], tag: usize, a: usize, e: usize) -> usize
+    ensures { λ r. ⌜ TakenAt (now (s .entry)) tag a e r ⌝ }
+{
+    if tag != 1 {
+        return 0;
+    }
     if e < a {
         return 0;
     }
@@ -128,58 +204,69 @@ pub fn taken(s: &[u8], a: usize, e: usize) -> usize {
 }
 
 // The value of a literal whose text, if it is in the workspace, ends at `base`.
-pub fn literal_at(s: &[u8], tag: usize, a: usize, e: usize, base: usize) -> Value {
+pub fn literal_at(s: &[u8], tag: usize, a: usize, e: usize, base: usize) -> Value
+    ensures { λ r. ⌜ LiteralAt (now (s .entry)) tag a e base r ⌝ }
+{
     if tag == 2 {
         return literal_number(s, a, e);
     }
-    let n = taken(s, a, e);
-    if n == 0 {
+    if e < a {
+        return Value::Wrong;
+    }
+    if s.len() < e {
+        return Value::Wrong;
+    }
+    if !has_backslash(&s[a..e]) {
         return Value::Store(a, e);
     }
+    let n = unescaped_len(&s[a..e]);
     if base < n {
         return Value::Wrong;
     }
     Value::Work(base - n, base)
 }
 
-// A term's argument of a name: among the named arguments at `at`, whose texts end at `base` in the workspace.
+// A term's argument of a name: among the named arguments at `at`, whose texts end at `base` in the workspace. Of equal names the last holds.
 pub fn find_local(s: &[u8], at: usize, count: usize, base: usize, name: &[u8]) -> Local
     ensures { λ r. ⌜ ((a w : List ℕ) (low f : ℕ) (ns : Named) → many [] _∷_ count namedAt (now (s .entry)) at ≡ got ns f → NamedIn w low base ns → LocalIs (now (s .entry)) a w low r (lastNamed (now (name .entry)) (namedTexts ns))) ⌝ }
 {
+    let mut found = Local::Missing;
     let mut p = at;
     let mut end = base;
     let mut i = count;
     while 0 < i {
-        let Num::At(b, q) = read_str(s, p) else {
+        let NamedRead::Is(n) = read_named(s, p) else {
             return Local::Missing;
         };
-        let Num::At(tag, r) = read_byte(s, q) else {
-            return Local::Missing;
-        };
-        let Num::At(a, e) = read_str(s, r) else {
-            return Local::Missing;
-        };
+        let b = n.from;
+        let q = n.to;
+        let e = n.end;
         if same_bytes(&s[b..q], name) {
-            return Local::Is(literal_at(s, tag, a, e, end));
+            found = Local::Is(literal_at(s, n.tag, n.start, e, end));
         }
-        if tag == 1 {
-            let n = taken(s, a, e);
-            if end < n {
-                return Local::Missing;
-            }
-            end = end - n;
+        let k = taken(s, n.tag, n.start, e);
+        if end < k {
+            return Local::Missing;
         }
+        end = end - k;
         p = e;
         i -= 1;
     }
-    Local::Missing
+    found
 }
 
 // An argument as a value.
-pub fn argument_value(found: Given) -> Local {
+pub fn argument_value(found: Given) -> Local
+    ensures { λ r. ⌜ ((i s w : List ℕ) (low : ℕ) → Within s found → Ranged (meant s found) → LocalIs i s w low r (valueOfSome (meant s found))) ⌝ }
+{
     match found {
         Given::Text(a, e) => Local::Is(Value::Args(a, e)),
-        Given::Number(negative, digits, scale) => Local::Is(Value::Number(Number { negative: negative, digits: digits, scale: scale, options: default_options() })),
+        Given::Number(negative, digits, scale) => Local::Is(Value::Number(Number {
+            negative: negative,
+            digits: digits,
+            scale: scale,
+            options: default_options(),
+        })),
         Given::Nothing => Local::Is(Value::Nothing),
         Given::Missing => Local::Missing,
     }
