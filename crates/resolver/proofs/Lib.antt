@@ -13,3 +13,5 @@ pub mod Calls
 pub mod Terms
 pub mod Whole
 pub mod Ends
+pub mod Patterns
+pub mod Finish

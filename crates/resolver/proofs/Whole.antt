@@ -33,7 +33,7 @@ scope0 w = record { «text_at» = 0; «list_at» = 5; errors = 0; front = 0; bac
 abbrev pub buffers : List ℕ → List ℕ → List ℕ → Buffers
 buffers x l w = record { text = x; list = l; work = w }
 
-front-is : (x y b : List ℕ) (n : ℕ) → n ≡ length b → take n y ≡ b → drop n y ≡ drop n x → y ≡ atFront b x
+pub front-is : (x y b : List ℕ) (n : ℕ) → n ≡ length b → take n y ≡ b → drop n y ≡ drop n x → y ≡ atFront b x
 unfolding atFront
 front-is x y b n e p q = sym (take-append-drop n y) ∙ ap (λ (l : List ℕ). l ++ drop n y) p ∙ ap (λ (l : List ℕ). b ++ l) (q ∙ ap (λ (i : ℕ). drop i x) e)
 

@@ -1,4 +1,17 @@
-// What a formatting answers.
+// What a formatting answers, and the pattern that it is asked for.
+use bundle::Found;
+use bundle::find_holder;
+use bundle::find_part;
+use images::check_store;
+use records::Next;
+use records::is_id;
+use scope::state::Scope;
+use texts::fill_zero;
+use texts::put_header;
+ghost use mathlib.Core.Path.{_≡_};
+ghost use Rattle.resolution.specs.Format.{isIdOrNone};
+ghost use Rattle.resolver.specs.Formats.{PatternFound, FinishAt};
+ghost use Rattle.texts.specs.Report.{optionOf};
 
 // What a formatting carries.
 pub struct Figures {
@@ -16,7 +29,64 @@ pub enum Answer {
     Cleared(u8),
 }
 
+// Where a pattern stands in the store, or the refusal.
 pub enum Part {
     At(usize),
     Refused(u8),
+}
+
+// An absent attribute is an Id enough.
+pub fn is_id_or_none(has: bool, attribute: &[u8]) -> bool
+    ensures { λ r. ⌜ r ≡ isIdOrNone (optionOf has (now (attribute .entry))) ⌝ }
+{
+    if has {
+        return is_id(attribute);
+    }
+    true
+}
+
+// The pattern that is asked for, or the refusal: 4, 8, 11, 12.
+pub fn find_pattern(store: &[u8], id: &[u8], has: bool, attribute: &[u8]) -> Part
+    ensures { λ r. ⌜ PatternFound (now (store .entry)) (now (id .entry)) (optionOf has (now (attribute .entry))) r ⌝ }
+{
+    let Next::At(_) = check_store(store) else {
+        return Part::Refused(4);
+    };
+    if !is_id(id) {
+        return Part::Refused(8);
+    }
+    if !is_id_or_none(has, attribute) {
+        return Part::Refused(8);
+    }
+    match find_holder(store, id) {
+        Found::Message(entry) => {
+            let Next::At(q) = find_part(store, entry, has, attribute) else {
+                return Part::Refused(12);
+            };
+            Part::At(q)
+        }
+        Found::Term(_) => Part::Refused(11),
+        Found::Function => Part::Refused(11),
+        Found::Nothing => Part::Refused(11),
+    }
+}
+
+// What the buffers hold in the end: the workspace is zero; text and list too, where the run was refused, and else the list has its header.
+pub fn finish(st: Scope, text: &mut [u8], list: &mut [u8], work: &mut [u8]) -> Answer
+    ensures { λ r. ⌜ FinishAt st (now (text .entry)) (now (list .entry)) (now (work .entry)) (now (text .exit)) (now (list .exit)) (now (work .exit)) r ⌝ }
+{
+    fill_zero(work);
+    if st.refused != 0 {
+        fill_zero(text);
+        fill_zero(list);
+        return Answer::Cleared(st.refused);
+    }
+    put_header(list, st.list_at);
+    Answer::Finished(Figures {
+        text: st.text_at,
+        errors: st.errors,
+        begun: st.begun,
+        unfound: st.unfound,
+        work: st.high,
+    })
 }
