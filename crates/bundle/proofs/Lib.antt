@@ -4,6 +4,7 @@ pub mod Open
 pub mod Walk
 pub mod Marks
 pub mod Adds
+pub mod Slots
 pub mod Holders
 pub mod Grown
 pub mod Accepted

@@ -126,58 +126,58 @@ unfolding seenAfter
 seen-snoc seen [] x = refl
 seen-snoc seen (e ∷ es) x = seen-snoc (e .id ∷ seen) es x
 
--- the marks of the entries from a position on, behind those of k entries
-module _ (s image : List ℕ) (start : ℕ) where
+-- the marks of the entries from a position on, behind those of k entries, where what R says holds
+module _ (s image : List ℕ) (start : ℕ) (R : Store → Type 0) where
   abbrev pub MarkFrom : ℕ → ℕ → ℕ → List ℕ → List ℕ → Type 0
-  MarkFrom n k at marks out = (st : Store) (u : ℕ) → storeOf s ≡ got st u → (pre : List Entry) → many [] _∷_ k entryAt image start ≡ got pre at → (es : List Entry) (f : ℕ) → many [] _∷_ n entryAt image at ≡ got es f
+  MarkFrom n k at marks out = (st : Store) (u : ℕ) → storeOf s ≡ got st u → R st → (pre : List Entry) → many [] _∷_ k entryAt image start ≡ got pre at → (es : List Entry) (f : ℕ) → many [] _∷_ n entryAt image at ≡ got es f
       → (marked out k es ≡ repeatsFrom (findIn (st .items)) (seenAfter [] pre) es) × ((j : ℕ) → j < k → getD out j 0 ≡ getD marks j 0)
 
   pub marks-none : (n k at : ℕ) (marks : List ℕ) → n ≤ 0 → MarkFrom n k at marks marks
   unfolding marked repeatsFrom
-  marks-none n k at marks z st u hs pre hp es f q = many-nil [] _∷_ entryAt image n at z q (λ el _. (rw el, λ j h. refl))
+  marks-none n k at marks z st u hs rs pre hp es f q = many-nil [] _∷_ entryAt image n at z q (λ el _. (rw el, λ j h. refl))
 
   pub marks-bad : (n k at : ℕ) (marks out : List ℕ) → 0 < n → behind 1 spanAt image at ≡ bad → MarkFrom n k at marks out
-  marks-bad n k at marks out z h st u hs pre hp es f q = many-cons [] _∷_ entryAt image n at z q (λ x e r hx _ _. entry-parts image at hx (λ a i j hi _ _ _. never h hi))
+  marks-bad n k at marks out z h st u hs rs pre hp es f q = many-cons [] _∷_ entryAt image n at z q (λ x e r hx _ _. entry-parts image at hx (λ a i j hi _ _ _. never h hi))
 
   pub marks-stuck : (n k at : ℕ) (marks out : List ℕ) → 0 < n → Passes (entryAt image at) next.Bad → MarkFrom n k at marks out
-  marks-stuck n k at marks out z w st u hs pre hp es f q = many-cons [] _∷_ entryAt image n at z q (λ x e r hx _ _. not-read w x e hx)
+  marks-stuck n k at marks out z w st u hs rs pre hp es f q = many-cons [] _∷_ entryAt image n at z q (λ x e r hx _ _. not-read w x e hx)
 
-  abbrev pub Marks : ℕ → ℕ → ℕ → ℕ → Type 0
-  Marks m k a e = (st : Store) (f : ℕ) (pre : List Entry) (i : ℕ) → storeOf s ≡ got st f → many [] _∷_ k entryAt image start ≡ got pre i → eqb m 1 ≡ isHeld (findIn (st .items)) (seenAfter [] pre) (part image a (e - a))
+  abbrev pub Marks : ℕ → ℕ → ℕ → ℕ → ℕ → Type 0
+  Marks m k at a e = (st : Store) (f : ℕ) (pre : List Entry) → storeOf s ≡ got st f → R st → many [] _∷_ k entryAt image start ≡ got pre at → eqb m 1 ≡ isHeld (findIn (st .items)) (seenAfter [] pre) (part image a (e - a))
 
-  pub marks-next : (count k at : ℕ) (marks : List ℕ) (m : ℕ) (marks′ out : List ℕ) {a e i : ℕ} → k < count → k < length marks → behind 1 spanAt image at ≡ got a e → Marks m k a e → marks′ ≡ set marks k m
+  pub marks-next : (count k at : ℕ) (marks : List ℕ) (m : ℕ) (marks′ out : List ℕ) {a e i : ℕ} → k < count → k < length marks → behind 1 spanAt image at ≡ got a e → Marks m k at a e → marks′ ≡ set marks k m
       → Passes (entryAt image at) (next.At i) → MarkFrom (count - (k + 1)) (k + 1) i marks′ out → MarkFrom (count - k) k at marks out
   unfolding marked repeatsFrom
-  marks-next count k at marks m marks′ out {a} {e} {i} lt lm h hm hs′ w rest st u hs pre hp es f q =
+  marks-next count k at marks m marks′ out {a} {e} {i} lt lm h hm hs′ w rest st u hs rs pre hp es f q =
       many-cons [] _∷_ entryAt image (count - k) at (omega arith) q (λ x j es′ hx hl el.
       let ej : j ≡ i = end-of w x j hx in
       let ec : count - k - 1 ≡ count - (k + 1) = omega arith in
       let hp′ : many [] _∷_ (k + 1) entryAt image start ≡ got (pre ++ (x ∷ [])) i = rw (add-one, ← ej) (many-snoc entryAt image k start hp hx) in
       let hl′ : many [] _∷_ (count - (k + 1)) entryAt image i ≡ got es′ f = rw (← ec, ← ej) hl in
-      let ih = rest st u hs (pre ++ (x ∷ [])) hp′ es′ f hl′ in
+      let ih = rest st u hs rs (pre ++ (x ∷ [])) hp′ es′ f hl′ in
       let ei : x .id ≡ part image a (e - a) = entry-parts image at hx (λ a′ e′ _ hi ei _ _. both h hi (λ ea ee. rw (ea, ee) ei)) in
       let here : getD out k 0 ≡ m = ih .1 k (omega arith) ∙ ap (λ (l : List ℕ). getD l k 0) hs′ ∙ getD-set-same marks k m 0 lm in
       let test : eqb (getD out k 0) 1 ≡ isHeld (findIn (st .items)) (seenAfter [] pre) (x .id) =
-      ap (λ (z : ℕ). eqb z 1) here ∙ hm st u pre at hs hp ∙ ap (λ (t : List ℕ). isHeld (findIn (st .items)) (seenAfter [] pre) t) (sym ei) in
+      ap (λ (z : ℕ). eqb z 1) here ∙ hm st u pre hs rs hp ∙ ap (λ (t : List ℕ). isHeld (findIn (st .items)) (seenAfter [] pre) t) (sym ei) in
       let tail : marked out (k + 1) es′ ≡ repeatsFrom (findIn (st .items)) (x .id ∷ seenAfter [] pre) es′ = ih .0 ∙ ap (λ (t : List (List ℕ)). repeatsFrom (findIn (st .items)) t es′) (seen-snoc [] pre x) in (
         (ap (marked out k) el ∙ ap (λ (b : Bool). repeatIf b x (marked out (k + 1) es′)) test ∙ ap (repeatIf (isHeld (findIn (st .items)) (seenAfter [] pre) (x .id)) x) tail ∙ sym (ap (repeatsFrom (findIn (st .items)) (seenAfter [] pre)) el)),
         (λ j′ lj. ih .1 j′ (omega arith) ∙ ap (λ (l : List ℕ). getD l j′ 0) hs′ ∙ getD-set-other marks k j′ m 0 (λ z. let z′ : j′ ≡ k = z in omega arith)),
       ))
 
 -- what the marks are for
-abbrev pub MarksRepeats : List ℕ → List ℕ → List ℕ → Type 0
-MarksRepeats s image out = (st : Store) (u : ℕ) (es : List Entry) (f : ℕ) → storeOf s ≡ got st u → resourceOf image ≡ got es f → marked out 0 es ≡ repeats (findIn (st .items)) es
+abbrev pub MarksRepeats : List ℕ → List ℕ → (Store → Type 0) → List ℕ → Type 0
+MarksRepeats s image R out = (st : Store) (u : ℕ) (es : List Entry) (f : ℕ) → storeOf s ≡ got st u → resourceOf image ≡ got es f → R st → marked out 0 es ≡ repeats (findIn (st .items)) es
 
-pub marks-no-count : (s image out : List ℕ) → numberAt 2 image 5 ≡ bad → MarksRepeats s image out
-marks-no-count s image out h st u es f hs hr = whole-resource image hr (λ k hk _ _ _ _. never h hk)
+pub marks-no-count : (s image : List ℕ) (R : Store → Type 0) (out : List ℕ) → numberAt 2 image 5 ≡ bad → MarksRepeats s image R out
+marks-no-count s image R out h st u es f hs hr rs = whole-resource image hr (λ k hk _ _ _ _. never h hk)
 
-pub marks-start : (s image marks out : List ℕ) {count start : ℕ} → numberAt 2 image 5 ≡ got count start → MarkFrom s image start (count - 0) 0 start marks out → MarksRepeats s image out
+pub marks-start : (s image : List ℕ) (R : Store → Type 0) (marks out : List ℕ) {count start : ℕ} → numberAt 2 image 5 ≡ got count start → MarkFrom s image start R (count - 0) 0 start marks out → MarksRepeats s image R out
 unfolding repeats many seenAfter
-marks-start s image marks out {count} {start} h w st u es f hs hr =
+marks-start s image R marks out {count} {start} h w st u es f hs hr rs =
     whole-resource image hr (λ k hk hm _ _ _.
     both h hk (λ ek es′.
     let ec : count - 0 ≡ k = omega arith in
-    w st u hs [] refl es f (rw (ec, es′) hm) .0))
+    w st u hs rs [] refl es f (rw (ec, es′) hm) .0))
 
 -- records of entries
 repeat-length : (b : Bool) (x : Entry) (l : List Error) → length (repeatIf b x l) ≡ counted b 1 + length l
@@ -248,6 +248,10 @@ entry-size s at {x} {e} h =
     let v = value-size s i w2 hv in let v0 = v .0 in
     let t = attributes-size s r ha in let t0 = t .0 in let t1 = t .1 in
     (omega arith, omega arith))
+
+-- an entry takes at least a byte
+pub entry-on : (s : List ℕ) (at : ℕ) {x : Entry} {e : ℕ} → entryAt s at ≡ got x e → at < e
+entry-on s at h = let z = entry-size s at h in let z0 = z .0 in omega arith
 
 pub marked-size : (s marks : List ℕ) (n k at : ℕ) {es : List Entry} {f : ℕ} → many [] _∷_ n entryAt s at ≡ got es f → at + length (encAll encError (marked marks k es)) ≤ f
 unfolding marked encAll

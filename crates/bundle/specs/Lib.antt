@@ -3,3 +3,4 @@ pub mod Additions
 pub mod Growth
 pub mod Meets
 pub mod Gives
+pub mod Slots

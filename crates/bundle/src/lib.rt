@@ -17,6 +17,7 @@ use records::write_u16;
 use records::write_u32;
 use texts::Kind;
 use texts::Wrote;
+use texts::fill_zero;
 use texts::put_header;
 use texts::put_overriding;
 ghost use mathlib.Core.Path.{_≡_};
@@ -36,6 +37,7 @@ ghost use Rattle.bundle.specs.Lookup.{Holder, orElse, onlyNamed, firstEn
 ghost use Rattle.texts.specs.Append.{over};
 ghost use Rattle.bundle.specs.Additions.{hasRoom, isHeld, repeats, newBundle, addResource, addResourceOverriding, addFunction};
 ghost use Rattle.bundle.specs.Gives.{gave, seenAfter, marked, Tallied, Tallies, kindBy, ListsEntry};
+ghost use Rattle.bundle.specs.Slots.{slotOf, placed, Cleared, PlacesAll, Notes, NotesEntries, NotesItem, Ready};
 ghost use Rattle.bundle.specs.Meets.{Passes, behind, EntryAt, HolderAt, PartAt, asked, laterOf};
 
 // What holds an id, and where its entry stands in the store.
@@ -407,10 +409,198 @@ fn mark_of(s: &[u8], image: &[u8], start: usize, k: usize, a: usize, e: usize) -
     0
 }
 
+fn wide(x: u8) -> usize
+    ensures { λ r. ⌜ (r ≡ x) × (r < 256) ⌝ }
+{
+    x as usize
+}
+
+// An id's slot, of n: equal ids have equal slots.
+fn slot(id: &[u8], n: usize) -> usize
+    requires { ⌜ 0 < n ⌝ }
+    ensures { λ r. ⌜ (r ≡ slotOf n (now (id .entry))) × (r < n) ⌝ }
+{
+    let mut h = 0usize;
+    let mut i = 0usize;
+    while i < id.len() {
+        h = (h * 1000003 + wide(id[i])) % 4294967291;
+        i += 1;
+    }
+    h % n
+}
+
+fn clear(places: &mut [usize])
+    ensures { λ _. ⌜ Cleared (now (places .exit)) ⌝ }
+{
+    let mut i = 0usize;
+    while i < places.len() {
+        places[i] = 0;
+        i += 1;
+    }
+}
+
+// Puts a position into a slot that is free.
+fn place(places: &mut [usize], h: usize, at: usize)
+    ensures { λ _. ⌜ now (places .exit) ≡ placed (now (places .entry)) h at ⌝ }
+{
+    if h < places.len() {
+        if places[h] == 0 {
+            places[h] = at;
+        }
+    }
+}
+
+// Puts each entry of an image into its slot: the first that comes to a slot has it.
+fn place_entries(image: &[u8], places: &mut [usize])
+    ensures { λ _. ⌜ ((es : List Entry) (f : ℕ) → resourceOf (now (image .entry)) ≡ got es f → Cleared (now (places .entry)) → PlacesAll (now (image .entry)) (now (places .exit))) ⌝ }
+{
+    let n = places.len();
+    if n == 0 {
+        return;
+    }
+    let Num::At(count, start) = read_u16(image, 5) else {
+        return;
+    };
+    let mut at = start;
+    let mut k = 0usize;
+    while k < count {
+        let Num::At(a, e) = read_str_behind(image, at, 1) else {
+            return;
+        };
+        place(places, slot(&image[a..e], n), at);
+        let Next::At(next) = skip_entry(image, at) else {
+            return;
+        };
+        at = next;
+        k += 1;
+    }
+}
+
+// Notes that an id is held, if the entry in its slot has it.
+fn note_id(image: &[u8], places: &[usize], held: &mut [u8], id: &[u8])
+    ensures { λ _. ⌜ Notes (now (image .entry)) (now (places .entry)) (now (held .entry)) (sameBytes (now (id .entry))) (now (held .exit)) ⌝ }
+{
+    let n = places.len();
+    if n == 0 {
+        return;
+    }
+    if held.len() != n {
+        return;
+    }
+    let h = slot(id, n);
+    let Num::At(a, e) = read_str_behind(image, places[h], 1) else {
+        return;
+    };
+    if same_bytes(&image[a..e], id) {
+        held[h] = 1;
+        return;
+    }
+}
+
+fn note_entries(
+    s: &[u8],
+    from: usize,
+    count: usize,
+    image: &[u8],
+    places: &[usize],
+    held: &mut [u8],
+)
+    ensures { λ _. ⌜ NotesEntries (now (s .entry)) (now (image .entry)) (now (places .entry)) count from (now (held .entry)) (now (held .exit)) ⌝ }
+{
+    let mut at = from;
+    let mut left = count;
+    while 0 < left {
+        let Num::At(a, e) = read_str_behind(s, at, 1) else {
+            return;
+        };
+        note_id(image, places, held, &s[a..e]);
+        let Next::At(next) = skip_entry(s, at) else {
+            return;
+        };
+        at = next;
+        left -= 1;
+    }
+}
+
+fn note_item(s: &[u8], at: usize, image: &[u8], places: &[usize], held: &mut [u8])
+    ensures { λ _. ⌜ NotesItem (now (s .entry)) (now (image .entry)) (now (places .entry)) at (now (held .entry)) (now (held .exit)) ⌝ }
+{
+    let Num::At(mode, p) = read_byte(s, at) else {
+        return;
+    };
+    if mode == 3 {
+        let Num::At(a, e) = read_str_behind(s, p, 6) else {
+            return;
+        };
+        note_id(image, places, held, &s[a..e]);
+        return;
+    }
+    let Num::At(count, start) = read_u16_behind(s, p, 5) else {
+        return;
+    };
+    note_entries(s, start, count, image, places, held);
+}
+
+// Notes which ids that stand in their slots have an entry in a store: one walk over it.
+fn note_store(s: &[u8], image: &[u8], places: &[usize], held: &mut [u8])
+    ensures { λ _. ⌜ ((st : Store) (f : ℕ) → storeOf (now (s .entry)) ≡ got st f → Notes (now (image .entry)) (now (places .entry)) (now (held .entry)) (λ x. isSome (findIn (st .items) x)) (now (held .exit))) ⌝ }
+{
+    let Num::At(count, start) = read_u16(s, 7) else {
+        return;
+    };
+    let mut at = start;
+    let mut left = count;
+    while 0 < left {
+        note_item(s, at, image, places, held);
+        let Next::At(next) = skip_item(s, at) else {
+            return;
+        };
+        at = next;
+        left -= 1;
+    }
+}
+
+// The mark of an entry: from its slot, if it stands there; else by walking.
+fn mark_at(
+    s: &[u8],
+    image: &[u8],
+    places: &[usize],
+    held: &[u8],
+    start: usize,
+    k: usize,
+    at: usize,
+    a: usize,
+    e: usize,
+) -> u8
+    requires { ⌜ (a ≤ e) × (e ≤ length (now image)) ⌝ }
+    ensures { λ r. ⌜ ((st : Store) (f count : ℕ) (pre : List Entry) → storeOf (now (s .entry)) ≡ got st f → Ready (now (image .entry)) (now (places .entry)) (now (held .entry)) (findIn (st .items))
+        → numberAt 2 (now (image .entry)) 5 ≡ got count start → k ≤ count → many [] _∷_ k entryAt (now (image .entry)) start ≡ got pre at → behind 1 spanAt (now (image .entry)) at ≡ got a e
+        → eqb r 1 ≡ isHeld (findIn (st .items)) (seenAfter [] pre) (part (now (image .entry)) a (e - a))) ⌝ }
+{
+    let n = places.len();
+    if n == 0 {
+        return mark_of(s, image, start, k, a, e);
+    }
+    if held.len() != n {
+        return mark_of(s, image, start, k, a, e);
+    }
+    let h = slot(&image[a..e], n);
+    if places[h] == at {
+        return held[h];
+    }
+    mark_of(s, image, start, k, a, e)
+}
+
 // Marks the entries of an image that repeat an id.
-fn mark_repeats(s: &[u8], image: &[u8], mut marks: [u8; 65536]) -> [u8; 65536]
+fn mark_repeats(
+    s: &[u8],
+    image: &[u8],
+    places: &[usize],
+    held: &[u8],
+    mut marks: [u8; 65536],
+) -> [u8; 65536]
     ensures { λ r. ⌜ ((st : Store) (u : ℕ) (es : List Entry) (f : ℕ) → storeOf (now (s .entry)) ≡ got st u → resourceOf (now (image .entry)) ≡ got es f
-        → marked r 0 es ≡ repeats (findIn (st .items)) es) ⌝ }
+        → Ready (now (image .entry)) (now (places .entry)) (now (held .entry)) (findIn (st .items)) → marked r 0 es ≡ repeats (findIn (st .items)) es) ⌝ }
 {
     let Num::At(count, start) = read_u16(image, 5) else {
         return marks;
@@ -421,7 +611,7 @@ fn mark_repeats(s: &[u8], image: &[u8], mut marks: [u8; 65536]) -> [u8; 65536]
         let Num::At(a, e) = read_str_behind(image, at, 1) else {
             return marks;
         };
-        marks[k] = mark_of(s, image, start, k, a, e);
+        marks[k] = mark_at(s, image, places, held, start, k, at, a, e);
         let Next::At(next) = skip_entry(image, at) else {
             return marks;
         };
@@ -429,6 +619,25 @@ fn mark_repeats(s: &[u8], image: &[u8], mut marks: [u8; 65536]) -> [u8; 65536]
         k += 1;
     }
     marks
+}
+
+// Marks the entries of an image that repeat an id, with two tables to do it by: n entries and a store of m are walked once each, and only an entry
+// whose slot another one has is looked up by a walk of its own. Of 3,120 entries in 65,536 slots about 70 are.
+fn mark_entries(
+    s: &[u8],
+    image: &[u8],
+    places: &mut [usize],
+    held: &mut [u8],
+    marks: [u8; 65536],
+) -> [u8; 65536]
+    ensures { λ r. ⌜ ((st : Store) (u : ℕ) (es : List Entry) (f : ℕ) → storeOf (now (s .entry)) ≡ got st u → resourceOf (now (image .entry)) ≡ got es f
+        → marked r 0 es ≡ repeats (findIn (st .items)) es) ⌝ }
+{
+    clear(places);
+    fill_zero(held);
+    place_entries(image, places);
+    note_store(s, image, places, held);
+    mark_repeats(s, image, places, held, marks)
 }
 
 // Records, and their bytes.
@@ -624,8 +833,10 @@ pub fn add_resource(slice: &mut [u8], image: &[u8], list: &mut [u8]) -> Answer
     if !has_room(slice.len(), used, count, 1 + image.len()) {
         return Answer::Refused(6);
     }
+    let mut places = [0usize; 65536];
+    let mut held = [0u8; 65536];
     let none = [0u8; 65536];
-    let marks = mark_repeats(slice, image, none);
+    let marks = mark_entries(slice, image, &mut places, &mut held, none);
     let tally = tally_marked(image, &marks);
     if list.len() < 5 + tally.size {
         return Answer::Refused(7);
