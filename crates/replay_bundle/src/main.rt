@@ -1,5 +1,7 @@
-// Replays the oracle's vectors of new bundles and additions: every answer, every byte of the slices and of the lists; and prints the counts.
+// Replays the oracle's vectors of new bundles and additions: every answer, every byte of the slices and of the lists; and prints the counts. Then the
+// limit of a store, which is too long for a vector.
 mod cases;
+mod limit;
 
 use libc::STDOUT_FILENO;
 use records::Num;
@@ -93,4 +95,5 @@ fn main() {
     let n = io::read_full(fd, &mut buffer);
     libc::close(fd);
     replay(&buffer[..n]);
+    line(limit::limit(), b" differ at the limit of a store\n");
 }
