@@ -1,0 +1,3 @@
+-- Walks that the proofs of several functions cite.
+pub mod Apart
+pub mod InRow
