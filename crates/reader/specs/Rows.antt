@@ -11,9 +11,13 @@ abbrev pub endOf : Num → ℕ → ℕ
 endOf (At n e) at = e
 endOf Bad at = at
 
+-- the position past what p reads at a position
+abbrev pub pastAt : Parser ℕ → List ℕ → ℕ → ℕ
+pastAt p s at = endOf (numOf (p s at)) at
+
 abbrev pub rowOf : Num → Num → Num → Row
 rowOf a b c = record { first = a; second = b; third = c }
 
 -- three reads in a row, from a position on
 abbrev pub rowAt : Parser ℕ → Parser ℕ → Parser ℕ → List ℕ → ℕ → Row
-rowAt p q r s at = rowOf (numOf (p s at)) (numOf (q s (endOf (numOf (p s at)) at))) (numOf (r s (endOf (numOf (q s (endOf (numOf (p s at)) at))) (endOf (numOf (p s at)) at))))
+rowAt p q r s at = rowOf (numOf (p s at)) (numOf (q s (pastAt p s at))) (numOf (r s (pastAt q s (pastAt p s at))))
