@@ -1,4 +1,4 @@
 -- Walks that the proofs of several functions cite, and what a row says to those who call for one.
 pub mod Apart
-pub mod InRow
+pub mod Making
 pub mod Laws

@@ -1,13 +1,14 @@
 // A reader of records carries its image along with its position.
 //
 // Each function over a `Reader` takes it apart and leaves the work to a function on the image and the position, which the borrow checker covers: those of
-// `records`, and the ones at the end of this file. Other crates call `read_marked`, whose parameters are a plain slice and a number.
+// `records`, and the ones at the end of this file. Other crates call `read_marked`, `read_header` and `read_size`, whose parameters are a plain slice and
+// a number.
 ghost use mathlib.Core.Path.{_≡_};
 ghost use Prim.Native.Nat.{_-_};
 ghost use lib.ListN.{length};
 ghost use Rattle.records.specs.Got.{numOf};
 ghost use Rattle.records.specs.Bytes.{byteAt, numberAt, spanAt};
-ghost use Rattle.reader.specs.Rows.{endOf, rowOf, rowAt};
+ghost use Rattle.reader.specs.Rows.{endOf, rowOf, rowAt, sizedOf, sizedAt};
 use records::Num;
 
 // An image, and a position in it.
@@ -21,6 +22,13 @@ pub struct Row {
     pub first: Num,
     pub second: Num,
     pub third: Num,
+}
+
+// What a u32 that counts bytes answers, where those bytes start, and how many the image has from there on.
+pub struct Sized {
+    pub size: Num,
+    pub at: usize,
+    pub left: usize,
 }
 
 // == Over a reader
@@ -93,6 +101,31 @@ pub fn read_marked(image: &[u8], at: usize) -> Row
     row_of(first, second, third)
 }
 
+// A u32, a byte and a u16: how an image starts, its length, its version and its count.
+pub fn read_header(image: &[u8], at: usize) -> Row
+    ensures { λ r. ⌜ r ≡ rowAt (numberAt 4) byteAt (numberAt 2) (now (image .entry)) at ⌝ }
+{
+    let a = new(image, at);
+    let first = read_u32(a);
+    let b = past(a, first);
+    let second = read_byte(b);
+    let c = past(b, second);
+    let third = read_u16(c);
+    row_of(first, second, third)
+}
+
+// A u32 that counts bytes, and what is left for them.
+pub fn read_size(image: &[u8], at: usize) -> Sized
+    ensures { λ r. ⌜ r ≡ sizedAt (now (image .entry)) at ⌝ }
+{
+    let a = new(image, at);
+    let size = read_u32(a);
+    let b = past(a, size);
+    let start = position(b);
+    let rest = left(b);
+    sized_of(size, start, rest)
+}
+
 // == On an image and a position
 
 fn left_at(image: &[u8], at: usize) -> usize
@@ -122,4 +155,10 @@ fn row_of(first: Num, second: Num, third: Num) -> Row
         second,
         third,
     }
+}
+
+fn sized_of(size: Num, at: usize, left: usize) -> Sized
+    ensures { λ r. ⌜ r ≡ sizedOf size at left ⌝ }
+{
+    Sized { size, at, left }
 }

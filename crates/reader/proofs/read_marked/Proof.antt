@@ -1,10 +1,10 @@
--- `reader::read_marked` meets its contract: a reader is made, and a Str, a byte and a Str are read in a row (InRow.antt).
+-- `reader::read_marked` meets its contract: a reader is made, and a Str, a byte and a Str are read in a row (Making.antt).
 -- Assumes nothing.
 use contract.Running.{givenOf, tables, tablesOf}
 use denote.Triple.Spec.{tripleOf}
 use denote.Triple.Table.{entered, cited}
 use Rattle.records.specs.Bytes.{byteAt, spanAt}
-use Rattle.reader.proofs.InRow.{New, Past, RowOf, Reading, in-row-meets}
+use Rattle.reader.proofs.Making.{New, Past, RowOf, Reading, in-row-meets}
 use Rattle.reader.proofs.new.Symbol as new-def
 use Rattle.reader.proofs.new.Symbol.{name as #reader·new}
 use Rattle.reader.proofs.new.Met as new-thm
