@@ -5,7 +5,6 @@ pub mod Expressions
 pub mod Inlines
 pub mod Selects
 pub mod Binds
-pub mod Named
 pub mod Tracks
 pub mod References
 pub mod Values
