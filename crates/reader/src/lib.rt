@@ -17,7 +17,7 @@ pub struct Reader<'a> {
     pub at: usize,
 }
 
-// What three reads in a row answer, each from past the one before.
+// What three reads in a row answer, each from past the one before. Where one is malformed, those after it mean nothing.
 pub struct Row {
     pub first: Num,
     pub second: Num,
