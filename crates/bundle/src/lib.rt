@@ -645,6 +645,37 @@ fn mark_entries(
     mark_repeats(s, image, places, held, marks)
 }
 
+// By tables of 4,096 slots, which are soon cleared.
+fn mark_few(s: &[u8], image: &[u8], marks: [u8; 65536]) -> [u8; 65536]
+    ensures { λ r. ⌜ ((st : Store) (u : ℕ) (es : List Entry) (f : ℕ) → storeOf (now (s .entry)) ≡ got st u → resourceOf (now (image .entry)) ≡ got es f
+        → marked r 0 es ≡ repeats (findIn (st .items)) es) ⌝ }
+{
+    let mut places = [0usize; 4096];
+    let mut held = [0u8; 4096];
+    mark_entries(s, image, &mut places, &mut held, marks)
+}
+
+// By tables of 65,536 slots.
+fn mark_many(s: &[u8], image: &[u8], marks: [u8; 65536]) -> [u8; 65536]
+    ensures { λ r. ⌜ ((st : Store) (u : ℕ) (es : List Entry) (f : ℕ) → storeOf (now (s .entry)) ≡ got st u → resourceOf (now (image .entry)) ≡ got es f
+        → marked r 0 es ≡ repeats (findIn (st .items)) es) ⌝ }
+{
+    let mut places = [0usize; 65536];
+    let mut held = [0u8; 65536];
+    mark_entries(s, image, &mut places, &mut held, marks)
+}
+
+// Marks the entries of an image that repeat an id, by tables that suit its size: an image of 2,048 bytes has fewer than 300 entries.
+fn mark_image(s: &[u8], image: &[u8], marks: [u8; 65536]) -> [u8; 65536]
+    ensures { λ r. ⌜ ((st : Store) (u : ℕ) (es : List Entry) (f : ℕ) → storeOf (now (s .entry)) ≡ got st u → resourceOf (now (image .entry)) ≡ got es f
+        → marked r 0 es ≡ repeats (findIn (st .items)) es) ⌝ }
+{
+    if image.len() <= 2048 {
+        return mark_few(s, image, marks);
+    }
+    mark_many(s, image, marks)
+}
+
 // Records, and their bytes.
 pub struct Tally {
     pub count: usize,
@@ -838,10 +869,7 @@ pub fn add_resource(slice: &mut [u8], image: &[u8], list: &mut [u8]) -> Answer
     if !has_room(slice.len(), used, count, 1 + image.len()) {
         return Answer::Refused(6);
     }
-    let mut places = [0usize; 65536];
-    let mut held = [0u8; 65536];
-    let none = [0u8; 65536];
-    let marks = mark_entries(slice, image, &mut places, &mut held, none);
+    let marks = mark_image(slice, image, [0u8; 65536]);
     let tally = tally_marked(image, &marks);
     if list.len() < 5 + tally.size {
         return Answer::Refused(7);
