@@ -3,6 +3,7 @@ pub mod Bodies
 pub mod Elements
 pub mod Expressions
 pub mod Inlines
+pub mod Cells
 pub mod Selects
 pub mod Binds
 pub mod Tracks

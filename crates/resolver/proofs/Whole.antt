@@ -22,13 +22,13 @@ use Rattle.resolution.specs.Exec.{Machine, Limits, Ran, ran, refused, exec, sta
 use Rattle.resolution.specs.Format.{Buffers, limitsOf, maxPatterns, fresh, runPattern}
 use Rattle.walks.specs.Trail.{prefixed, patternBytes, trailOf}
 use Rattle.scope.specs.declared.state.Scope.{Scope}
-use Rattle.scope.specs.Meets.{World, world, Live, LocalsAt, no-locals, Moved, Ended, ended, stopped, Env, env, Setup, settingOf, findOf, crossOf, Here, PatternAt, maxUnfound}
+use Rattle.scope.specs.Meets.{World, world, Live, LocalsAt, no-locals, Moved, Ended, ended, stopped, Env, env, Setup, settingOf, findOf, crossOf, Here, PatternAt, depthS, maxUnfound}
 use Rattle.scope.proofs.Puts.{errors-length}
-use Rattle.resolver.specs.Formats.{RanAs, ran-as, refused-as}
+use Rattle.resolver.specs.Formats.{newS, RanAs, ran-as, refused-as}
 
 -- the state in which a run begins
 abbrev pub scope0 : List ℕ → Scope
-scope0 w = record { «text_at» = 0; «list_at» = 5; errors = 0; front = 0; back = length w; high = 0; depth = 1; begun = 0; unfound = 0; aside = false; dirty = false; local = false; «local_at» = 0; «local_count» = 0; «local_base» = 0; refused = 0 }
+scope0 w = depthS 1 (newS (length w))
 
 abbrev pub buffers : List ℕ → List ℕ → List ℕ → Buffers
 buffers x l w = record { text = x; list = l; work = w }

@@ -1,6 +1,7 @@
 -- What a formatting answers, and what it leaves of the three buffers: document 01's numbers and values for each case of the code's answer.
 use mathlib.Core.Path.{_≡_}
 use mathlib.Core.List.{List}
+use mathlib.Core.Bool.{false}
 use mathlib.Core.Option.{Option}
 use Prim.Native.Nat.{ℕ, _-_, _≤_, min}
 use lib.ListN.{length, drop}
@@ -54,6 +55,10 @@ pub data RanAs (o : Ran) (x l x′ l′ : Bytes) (r : Scope) : Type 0 where
       → part l′ 5 (r .«list_at» - 5) ≡ encAll encError (m .errors) → drop (r .«list_at») l′ ≡ drop (r .«list_at») l
       → r .errors ≡ length (m .errors) → r .begun ≡ m .begun → r .unfound ≡ min (m .unfounds) maxUnfound → r .high ≡ m .high → RanAs o x l x′ l′ r
   refused-as : (n : ℕ) → o ≡ refused n → (n ≡ 0 → ⊥) → r .refused ≡ n → RanAs o x l x′ l′ r
+
+-- the state that a run is made with; the depth is 1 once the pattern that is asked for is on the trail
+abbrev pub newS : ℕ → Scope
+newS n = record { «text_at» = 0; «list_at» = 5; errors = 0; front = 0; back = n; high = 0; depth = 0; begun = 0; unfound = 0; aside = false; dirty = false; local = false; «local_at» = 0; «local_count» = 0; «local_base» = 0; refused = 0 }
 
 -- the run of the pattern at q
 pub record RunAt (e : Env) (q : ℕ) (x l w x′ l′ w′ : Bytes) (r : Scope) : Type 0 where

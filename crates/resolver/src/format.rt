@@ -1,5 +1,5 @@
 // Formatting: a message's value or attribute, from a stored bundle.
-use crate::write::write_pattern;
+use crate::lent::resolve;
 use bundle::Found;
 use bundle::find_holder;
 use bundle::find_part;
@@ -86,26 +86,7 @@ pub fn run(
     ensures { λ r. ⌜ RunAt (env (now (store .entry)) (now (args .entry))) q (now (text .entry)) (now (list .entry)) (now (work .entry)) (now (text .exit)) (now (list .exit)) (now (work .exit)) r ⌝ }
 {
     let mut trail = [0usize; 102];
-    trail[0] = q;
-    let st = Scope {
-        text_at: 0,
-        list_at: 5,
-        errors: 0,
-        front: 0,
-        back: work.len(),
-        high: 0,
-        depth: 1,
-        begun: 0,
-        unfound: 0,
-        aside: false,
-        dirty: false,
-        local: false,
-        local_at: 0,
-        local_count: 0,
-        local_base: 0,
-        refused: 0,
-    };
-    write_pattern(store, args, text, list, work, &mut trail, st, 32, q)
+    resolve(store, args, text, list, work, &mut trail, q)
 }
 
 // What the buffers hold in the end: the workspace is zero; text and list too, where the run was refused, and else the list has its header.

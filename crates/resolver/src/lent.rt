@@ -1,0 +1,83 @@
+// The scope is lent down the whole formatting: a few thin functions over those that take it by value and hand it back.
+// The functions that are lent the scope, or lend it, are proved by hand.
+ghost use mathlib.Core.Path.{_≡_};
+ghost use lib.ListN.{length, set};
+ghost use Rattle.resolver.specs.Formats.{newS};
+ghost use Rattle.scope.specs.Meets.{world, env, PatternAt, depthS};
+use crate::write::write_pattern;
+use scope::state::Scope;
+use scope::state::set_depth;
+
+// `Scope::new`: nothing is written, listed, begun or travelled, and the workspace has `room` bytes.
+pub fn new(room: usize) -> Scope
+    ensures { λ r. ⌜ r ≡ newS room ⌝ }
+{
+    Scope {
+        text_at: 0,
+        list_at: 5,
+        errors: 0,
+        front: 0,
+        back: room,
+        high: 0,
+        depth: 0,
+        begun: 0,
+        unfound: 0,
+        aside: false,
+        dirty: false,
+        local: false,
+        local_at: 0,
+        local_count: 0,
+        local_base: 0,
+        refused: 0,
+    }
+}
+
+// The first pattern of a trail, and the depth after it.
+pub fn first_on(trail: &mut [usize; 102], st: Scope, q: usize) -> Scope
+    ensures { λ r. ⌜ (r ≡ depthS 1 st) × (now (trail .exit) ≡ set (now (trail .entry)) 0 q) ⌝ }
+{
+    trail[0] = q;
+    set_depth(st, 1)
+}
+
+// `Scope::maybe_track`, where no pattern is travelled yet.
+pub fn enter(trail: &mut [usize; 102], scope: &mut Scope, q: usize)
+    ensures { λ _. ⌜ (now (scope .exit) ≡ depthS 1 (now (scope .entry))) × (now (trail .exit) ≡ set (now (trail .entry)) 0 q) ⌝ }
+{
+    *scope = first_on(trail, *scope, q);
+}
+
+// `Pattern::write`
+pub fn write(
+    store: &[u8],
+    args: &[u8],
+    text: &mut [u8],
+    list: &mut [u8],
+    work: &mut [u8],
+    trail: &mut [usize; 102],
+    scope: &mut Scope,
+    left: usize,
+    at: usize,
+)
+    ensures { λ _. ⌜ PatternAt (env (now (store .entry)) (now (args .entry))) left at (world (now (store .entry)) (now (text .entry)) (now (list .entry)) (now (work .entry)) (now (trail .entry)) (now (scope .entry))) (world (now (store .entry)) (now (text .exit)) (now (list .exit)) (now (work .exit)) (now (trail .exit)) (now (scope .exit))) ⌝ }
+{
+    *scope = write_pattern(store, args, text, list, work, trail, *scope, left, at);
+}
+
+// `Pattern::resolve`, at a scope of its own: it is made here, lent down the whole formatting of the pattern at q, and handed on as it is then.
+pub fn resolve(
+    store: &[u8],
+    args: &[u8],
+    text: &mut [u8],
+    list: &mut [u8],
+    work: &mut [u8],
+    trail: &mut [usize; 102],
+    q: usize,
+) -> Scope
+    ensures { λ r. ⌜ PatternAt (env (now (store .entry)) (now (args .entry))) 32 q (world (now (store .entry)) (now (text .entry)) (now (list .entry)) (now (work .entry)) (set (now (trail .entry)) 0 q) (depthS 1 (newS (length (now (work .entry)))))) (world (now (store .entry)) (now (text .exit)) (now (list .exit)) (now (work .exit)) (now (trail .exit)) r) ⌝ }
+{
+    let mut scope = new(work.len());
+    enter(trail, &mut scope, q);
+    write(store, args, text, list, work, trail, &mut scope, 32, q);
+    scope
+}
