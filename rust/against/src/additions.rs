@@ -43,9 +43,10 @@ pub fn by_the_crate(
         let theirs: Vec<String> = theirs.iter().map(ToString::to_string).collect();
         same("errors of an addition", ours, theirs)?;
     }
-    // a refused function is no item
+    // the expected store holds a function that was refused too
     if case.bundle.items.len() == usize::from(ours.store()[8]) {
         same("store", ours.store(), &expected.store)?;
+        counts.stores += 1;
     }
     let message = original.get_message(&case.message);
     same(

@@ -21,6 +21,8 @@ pub struct Counts {
     pub answers: [u64; 18],
     /// Calls that were lent a damaged store, image or arguments image.
     pub damaged: u64,
+    /// Stores that the crate made and that were compared whole.
+    pub stores: u64,
 }
 
 impl Counts {
@@ -33,6 +35,7 @@ impl Counts {
         self.cases += other.cases;
         self.calls += other.calls;
         self.damaged += other.damaged;
+        self.stores += other.stores;
         for (sum, n) in self.answers.iter_mut().zip(other.answers) {
             *sum += n;
         }
@@ -43,7 +46,7 @@ impl Counts {
 pub fn compare(seed: u64, counts: &mut Counts) -> Result<(), String> {
     let case = harness::generator(seed);
     let expected = harness::expected(&case)?;
-    let mut random = Random::new(seed ^ 0x5EED_0F0D_D5);
+    let mut random = Random::new(seed ^ 0x5EED_0F0D);
     counts.cases += 1;
     let bundle = additions::by_the_crate(&case, &expected, counts)?;
     formats::by_the_crate(&case, &expected, &bundle, counts)?;
@@ -62,8 +65,8 @@ pub(crate) fn same<T: PartialEq + Debug>(what: &str, ours: T, theirs: T) -> Resu
 /// The byte that stands in a buffer before a call.
 pub(crate) const BEFORE: u8 = 0xAA;
 
-/// A buffer that is lent from some odd place of a larger one; the bytes around
-/// it must stay.
+/// A buffer that is lent by itself, so that valgrind sees its ends, or from
+/// some odd place of a larger one, where the bytes around it must stay.
 pub(crate) struct Lent {
     bytes: Vec<u8>,
     start: usize,
@@ -76,10 +79,14 @@ impl Lent {
     }
 
     pub fn with(bytes: &[u8], random: &mut Random) -> Self {
-        let start = random.below(17);
-        let mut all = vec![BEFORE; start];
+        let (start, rest) = match random.one_in(2) {
+            true => (0, 0),
+            false => (random.below(17), random.below(17)),
+        };
+        let mut all = Vec::with_capacity(start + bytes.len() + rest);
+        all.resize(start, BEFORE);
         all.extend_from_slice(bytes);
-        all.resize(start + bytes.len() + random.below(17), BEFORE);
+        all.resize(start + bytes.len() + rest, BEFORE);
         Self {
             bytes: all,
             start,

@@ -79,10 +79,11 @@ fn main() {
     let total = total.into_inner().expect("no thread failed");
     let differences = differences.into_inner().expect("no thread failed");
     println!(
-        "{} cases from seed {first}, {} calls compared, {} with damaged bytes, {:.0} s",
+        "{} cases from seed {first}, {} calls compared, {} with damaged bytes, {} stores made, {:.0} s",
         total.cases,
         total.calls,
         total.damaged,
+        total.stores,
         start.elapsed().as_secs_f64()
     );
     let answers = total.answers.iter().enumerate().filter(|(_, n)| **n > 0);
