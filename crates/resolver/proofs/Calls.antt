@@ -102,6 +102,11 @@ pub data Taken (e : Env) (left n start : ℕ) (w : World) (i p : ℕ) (first : c
   none-yet : i ≡ n → p ≡ start → now ≡ w → first ≡ val.Wrong → Taken e left n start w i p first now
   one-is : i < n → (u : World) → ValueAt e left start w u first → Kept u now → Taken e left n start w i p first now
 
+-- no more are left than there are
+pub taken-most : {e : Env} {left n start : ℕ} {w : World} {i p : ℕ} {first : code-value.Value} {now : World} → Taken e left n start w i p first now → i ≤ n
+taken-most (none-yet a b c d) = omega arith
+taken-most (one-is h u v k) = omega arith
+
 module _ {e : Env} {left n start : ℕ} {w : World} {i p : ℕ} {first : code-value.Value} {now u : World} {x : code-value.Value} where
   pub taken-first : (q : ℕ) → 0 < i → i ≡ n → Taken e left n start w i p first now → ValueAt e left p now u x → Taken e left n start w (i - 1) q x u
   taken-first q z ei (none-yet _ ep ew ef) h =

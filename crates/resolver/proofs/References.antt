@@ -9,12 +9,13 @@ use lib.ListN.{length, take, drop, length-take}
 use Rattle.records.specs.declared.Next.{Next}
 use Rattle.records.specs.declared.Next.the-variants as next
 use Rattle.records.specs.Got.{Got, got, bad}
-use Rattle.records.specs.Bytes.{part, byteAt}
+use Rattle.records.specs.Bytes.{part, byteAt, numberAt, spanAt}
 use Rattle.records.specs.Tree.{Pattern, Inline, Arguments}
 use Rattle.records.specs.Decode.{idAt, optionalAt, termAt, termArgumentsAt, entryPatternAt, expression, inline}
 use Rattle.records.specs.Images.{Kind, Entry, Store, storeOf, entryAt}
 use Rattle.records.specs.Errors.{Error, Referred, reference, noValue}
-use Rattle.records.proofs.Views.{both, never, term-elim, Body, is-string, is-number, is-function, is-message, is-term, is-variable, is-nested, inline-elim}
+use Rattle.records.proofs.Laws.{after-elim, number-inv}
+use Rattle.records.proofs.Views.{both, never, id-elim, term-elim, Body, is-string, is-number, is-function, is-message, is-term, is-variable, is-nested, inline-elim}
 use Rattle.texts.specs.Report.{referredOf, optionOf}
 use Rattle.texts.specs.declared.Referred.the-variants as referred
 use Rattle.bundle.specs.Lookup.{Holder, Find, findIn, partOf}
@@ -63,6 +64,11 @@ module _ (s : List ℕ) (at d : ℕ) {i : Bytes} {a : Option Bytes} {f : ℕ} {C
           c q′ g (rw (← ep, ← en) hn) (rw (← ea) ha) (rw (← eq) hr))
       go tag p ep (is-variable n e q ew) = let z : _≡_ {A = ℕ} 0 1 = cc in absurd (omega arith)
       go tag p ep (is-nested y e q ew) = let z : _≡_ {A = ℕ} 0 1 = cc in absurd (omega arith)
+
+-- past the end nothing is read
+pub reference-past : (s : List ℕ) (at : ℕ) → length s ≤ at → ReferenceIs s (at + 1) ref.Bad
+unfolding spanAt
+reference-past s at h = unread refl (λ n p a f hn ha. id-elim s (at + 1) hn (λ q hs et ei. after-elim (numberAt 2 s (at + 1)) _ hs (λ k c hk _. absurd (let z = number-inv s 2 (at + 1) hk in omega arith))))
 
 -- what the code read of a reference
 module _ (s : List ℕ) (at : ℕ) {r : Reference} (rd : ReferenceIs s at r) where

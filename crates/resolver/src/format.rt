@@ -1,7 +1,9 @@
-// What a formatting answers, and the pattern that it is asked for.
+// Formatting: a message's value or attribute, from a stored bundle.
+use crate::write::write_pattern;
 use bundle::Found;
 use bundle::find_holder;
 use bundle::find_part;
+use images::check_arguments;
 use images::check_store;
 use records::Next;
 use records::is_id;
@@ -10,8 +12,9 @@ use texts::fill_zero;
 use texts::put_header;
 ghost use mathlib.Core.Path.{_≡_};
 ghost use Rattle.resolution.specs.Format.{isIdOrNone};
-ghost use Rattle.resolver.specs.Formats.{PatternFound, FinishAt};
+ghost use Rattle.resolver.specs.Formats.{PatternFound, RunAt, FinishAt, Formats};
 ghost use Rattle.texts.specs.Report.{optionOf};
+ghost use Rattle.scope.specs.Meets.{env};
 
 // What a formatting carries.
 pub struct Figures {
@@ -71,6 +74,40 @@ pub fn find_pattern(store: &[u8], id: &[u8], has: bool, attribute: &[u8]) -> Par
     }
 }
 
+// The run of the pattern at q.
+pub fn run(
+    store: &[u8],
+    args: &[u8],
+    text: &mut [u8],
+    list: &mut [u8],
+    work: &mut [u8],
+    q: usize,
+) -> Scope
+    ensures { λ r. ⌜ RunAt (env (now (store .entry)) (now (args .entry))) q (now (text .entry)) (now (list .entry)) (now (work .entry)) (now (text .exit)) (now (list .exit)) (now (work .exit)) r ⌝ }
+{
+    let mut trail = [0usize; 102];
+    trail[0] = q;
+    let st = Scope {
+        text_at: 0,
+        list_at: 5,
+        errors: 0,
+        front: 0,
+        back: work.len(),
+        high: 0,
+        depth: 1,
+        begun: 0,
+        unfound: 0,
+        aside: false,
+        dirty: false,
+        local: false,
+        local_at: 0,
+        local_count: 0,
+        local_base: 0,
+        refused: 0,
+    };
+    write_pattern(store, args, text, list, work, &mut trail, st, 32, q)
+}
+
 // What the buffers hold in the end: the workspace is zero; text and list too, where the run was refused, and else the list has its header.
 pub fn finish(st: Scope, text: &mut [u8], list: &mut [u8], work: &mut [u8]) -> Answer
     ensures { λ r. ⌜ FinishAt st (now (text .entry)) (now (list .entry)) (now (work .entry)) (now (text .exit)) (now (list .exit)) (now (work .exit)) r ⌝ }
@@ -89,4 +126,32 @@ pub fn finish(st: Scope, text: &mut [u8], list: &mut [u8], work: &mut [u8]) -> A
         unfound: st.unfound,
         work: st.high,
     })
+}
+
+// Formats the message `id`, or its attribute where `has` is set, with an arguments image.
+pub fn format(
+    store: &[u8],
+    id: &[u8],
+    has: bool,
+    attribute: &[u8],
+    args: &[u8],
+    text: &mut [u8],
+    list: &mut [u8],
+    work: &mut [u8],
+) -> Answer
+    ensures { λ r. ⌜ Formats (now (store .entry)) (now (id .entry)) (optionOf has (now (attribute .entry))) (now (args .entry)) (now (text .entry)) (now (list .entry)) (now (work .entry)) (now (text .exit)) (now (list .exit)) (now (work .exit)) r ⌝ }
+{
+    match find_pattern(store, id, has, attribute) {
+        Part::Refused(n) => Answer::Refused(n),
+        Part::At(q) => {
+            let Next::At(_) = check_arguments(args) else {
+                return Answer::Refused(13);
+            };
+            if list.len() < 5 {
+                return Answer::Refused(7);
+            }
+            let st = run(store, args, text, list, work, q);
+            finish(st, text, list, work)
+        }
+    }
 }

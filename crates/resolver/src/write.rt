@@ -1,19 +1,80 @@
 // Patterns, expressions and inline expressions write each other. What falls at each call: placeables left, then nesting, then stage.
-ghost use Rattle.scope.specs.Meets.{world, env, PatternAt, ElementAt, ExpressionAt, SelectAt, InlineAt, MessageAt, TrackAt, TermAt, FoundTermAt, ValueAt, TextValueAt, PositionalAt, CalledAt};
-use records::{Next, Num, read_byte, read_u16, read_u32, read_str};
-use scope::variable::{write_variable, resolve_variable, write_result};
-use scope::reference::{read_reference, ref_error, begin, too_many};
-use bundle::{Found, find_holder, find_part};
-use texts::{Plain, Referred, move_back};
-use scope::state::{Scope, Value, Local, Resolved, Called, Positional, Referring, Reference, set_depth, set_back, set_aside, set_kept, set_locals, clear_locals, count_unfound};
-use scope::put::{put, put_literal, put_value, put_braced, put_error, put_cut, put_fsi, put_pdi, list_plain, list_no_value, list_reference};
-use walks::{skip_expression, skip_element, skip_optional, has_marks, isolates, on_trail};
-use scope::value::{literal_number, literal_string, resolve_named, find_variable, list_variable};
-use scope::select::choose;
+ghost use Prim.Native.Nat.{_+_};
+ghost use Rattle.scope.specs.Meets.{world, env, PatternAt, ElementAt, ExpressionAt, SelectAt, InlineAt, MessageAt, TrackAt, TermAt, FoundTermAt, ValueAt, TextValueAt, PositionalAt, CalledAt, ReferenceIs};
+use bundle::Found;
+use bundle::find_holder;
+use bundle::find_part;
+use records::Next;
+use records::Num;
+use records::read_byte;
+use records::read_str;
+use records::read_u16;
+use records::read_u32;
 use scope::call::number_function;
+use scope::put::list_no_value;
+use scope::put::list_plain;
+use scope::put::put;
+use scope::put::put_cut;
+use scope::put::put_error;
+use scope::put::put_fsi;
+use scope::put::put_literal;
+use scope::put::put_pdi;
+use scope::put::put_value;
+use scope::reference::begin;
+use scope::reference::read_reference;
+use scope::reference::ref_error;
+use scope::reference::too_many;
+use scope::select::choose;
+use scope::state::Called;
+use scope::state::Positional;
+use scope::state::Reference;
+use scope::state::Resolved;
+use scope::state::Scope;
+use scope::state::Value;
+use scope::state::clear_locals;
+use scope::state::count_unfound;
+use scope::state::set_aside;
+use scope::state::set_back;
+use scope::state::set_depth;
+use scope::state::set_kept;
+use scope::state::set_locals;
+use scope::value::literal_number;
+use scope::value::literal_string;
+use scope::value::resolve_named;
+use scope::variable::resolve_variable;
+use scope::variable::write_result;
+use scope::variable::write_variable;
+use texts::Plain;
+use texts::Referred;
+use texts::move_back;
+use walks::has_marks;
+use walks::isolates;
+use walks::on_trail;
+use walks::skip_element;
+use walks::skip_expression;
+
+// The reference whose tag is at `at`.
+pub fn tagged_reference(store: &[u8], at: usize) -> Reference
+    ensures { λ r. ⌜ ReferenceIs (now (store .entry)) (at + 1) r ⌝ }
+{
+    if store.len() <= at {
+        return Reference::Bad;
+    }
+    read_reference(store, at + 1)
+}
 
 // `Pattern::write`
-pub fn write_pattern(store: &[u8], args: &[u8], text: &mut [u8], list: &mut [u8], work: &mut [u8], trail: &mut [usize; 102], st: Scope, left: usize, at: usize) -> Scope
+pub fn write_pattern(
+    store: &[u8],
+    args: &[u8],
+    text: &mut [u8],
+    list: &mut [u8],
+    work: &mut [u8],
+    trail: &mut [usize; 102],
+    st: Scope,
+    left: usize,
+    at: usize,
+) -> Scope
     ensures { λ r. ⌜ PatternAt (env (now (store .entry)) (now (args .entry))) left at (world (now (store .entry)) (now (text .entry)) (now (list .entry)) (now (work .entry)) (now (trail .entry)) st) (world (now (store .entry)) (now (text .exit)) (now (list .exit)) (now (work .exit)) (now (trail .exit)) r) ⌝ }
 {
     let Num::At(_, a) = read_u32(store, at) else {
@@ -38,7 +99,18 @@ pub fn write_pattern(store: &[u8], args: &[u8], text: &mut [u8], list: &mut [u8]
 }
 
 // One turn of the loop of `Pattern::write`, with `maybe_track`.
-pub fn write_element(store: &[u8], args: &[u8], text: &mut [u8], list: &mut [u8], work: &mut [u8], trail: &mut [usize; 102], st: Scope, left: usize, iso: bool, at: usize) -> Scope
+pub fn write_element(
+    store: &[u8],
+    args: &[u8],
+    text: &mut [u8],
+    list: &mut [u8],
+    work: &mut [u8],
+    trail: &mut [usize; 102],
+    st: Scope,
+    left: usize,
+    iso: bool,
+    at: usize,
+) -> Scope
     ensures { λ r. ⌜ ElementAt (env (now (store .entry)) (now (args .entry))) left iso at (world (now (store .entry)) (now (text .entry)) (now (list .entry)) (now (work .entry)) (now (trail .entry)) st) (world (now (store .entry)) (now (text .exit)) (now (list .exit)) (now (work .exit)) (now (trail .exit)) r) ⌝ }
 {
     if st.refused != 0 {
@@ -71,7 +143,17 @@ pub fn write_element(store: &[u8], args: &[u8], text: &mut [u8], list: &mut [u8]
 }
 
 // `Expression::write`
-pub fn write_expression(store: &[u8], args: &[u8], text: &mut [u8], list: &mut [u8], work: &mut [u8], trail: &mut [usize; 102], st: Scope, left: usize, at: usize) -> Scope
+pub fn write_expression(
+    store: &[u8],
+    args: &[u8],
+    text: &mut [u8],
+    list: &mut [u8],
+    work: &mut [u8],
+    trail: &mut [usize; 102],
+    st: Scope,
+    left: usize,
+    at: usize,
+) -> Scope
     ensures { λ r. ⌜ ExpressionAt (env (now (store .entry)) (now (args .entry))) left at (world (now (store .entry)) (now (text .entry)) (now (list .entry)) (now (work .entry)) (now (trail .entry)) st) (world (now (store .entry)) (now (text .exit)) (now (list .exit)) (now (work .exit)) (now (trail .exit)) r) ⌝ }
 {
     if st.refused != 0 {
@@ -90,7 +172,17 @@ pub fn write_expression(store: &[u8], args: &[u8], text: &mut [u8], list: &mut [
 }
 
 // A select, past its tag: the selector's text is freed when its variant, or none, is chosen.
-pub fn write_select(store: &[u8], args: &[u8], text: &mut [u8], list: &mut [u8], work: &mut [u8], trail: &mut [usize; 102], st: Scope, left: usize, at: usize) -> Scope
+pub fn write_select(
+    store: &[u8],
+    args: &[u8],
+    text: &mut [u8],
+    list: &mut [u8],
+    work: &mut [u8],
+    trail: &mut [usize; 102],
+    st: Scope,
+    left: usize,
+    at: usize,
+) -> Scope
     ensures { λ r. ⌜ SelectAt (env (now (store .entry)) (now (args .entry))) left at (world (now (store .entry)) (now (text .entry)) (now (list .entry)) (now (work .entry)) (now (trail .entry)) st) (world (now (store .entry)) (now (text .exit)) (now (list .exit)) (now (work .exit)) (now (trail .exit)) r) ⌝ }
 {
     if st.refused != 0 {
@@ -114,7 +206,17 @@ pub fn write_select(store: &[u8], args: &[u8], text: &mut [u8], list: &mut [u8],
 }
 
 // `InlineExpression::write`
-pub fn write_inline(store: &[u8], args: &[u8], text: &mut [u8], list: &mut [u8], work: &mut [u8], trail: &mut [usize; 102], st: Scope, left: usize, at: usize) -> Scope
+pub fn write_inline(
+    store: &[u8],
+    args: &[u8],
+    text: &mut [u8],
+    list: &mut [u8],
+    work: &mut [u8],
+    trail: &mut [usize; 102],
+    st: Scope,
+    left: usize,
+    at: usize,
+) -> Scope
     ensures { λ r. ⌜ InlineAt (env (now (store .entry)) (now (args .entry))) left at (world (now (store .entry)) (now (text .entry)) (now (list .entry)) (now (work .entry)) (now (trail .entry)) st) (world (now (store .entry)) (now (text .exit)) (now (list .exit)) (now (work .exit)) (now (trail .exit)) r) ⌝ }
 {
     if st.refused != 0 {
@@ -152,13 +254,22 @@ pub fn write_inline(store: &[u8], args: &[u8], text: &mut [u8], list: &mut [u8],
 }
 
 // A message reference, its tag at `at`.
-pub fn write_message(store: &[u8], args: &[u8], text: &mut [u8], list: &mut [u8], work: &mut [u8], trail: &mut [usize; 102], st: Scope, at: usize) -> Scope
+pub fn write_message(
+    store: &[u8],
+    args: &[u8],
+    text: &mut [u8],
+    list: &mut [u8],
+    work: &mut [u8],
+    trail: &mut [usize; 102],
+    st: Scope,
+    at: usize,
+) -> Scope
     ensures { λ r. ⌜ MessageAt (env (now (store .entry)) (now (args .entry))) at (world (now (store .entry)) (now (text .entry)) (now (list .entry)) (now (work .entry)) (now (trail .entry)) st) (world (now (store .entry)) (now (text .exit)) (now (list .exit)) (now (work .exit)) (now (trail .exit)) r) ⌝ }
 {
     if st.refused != 0 {
         return st;
     }
-    let Reference::Is(r) = read_reference(store, at + 1) else {
+    let Reference::Is(r) = tagged_reference(store, at) else {
         return st;
     };
     let from = r.from;
@@ -187,7 +298,17 @@ pub fn write_message(store: &[u8], args: &[u8], text: &mut [u8], list: &mut [u8]
 }
 
 // `Scope::track`: the pattern at q, for the reference whose tag is at `at`.
-pub fn track(store: &[u8], args: &[u8], text: &mut [u8], list: &mut [u8], work: &mut [u8], trail: &mut [usize; 102], st: Scope, at: usize, q: usize) -> Scope
+pub fn track(
+    store: &[u8],
+    args: &[u8],
+    text: &mut [u8],
+    list: &mut [u8],
+    work: &mut [u8],
+    trail: &mut [usize; 102],
+    st: Scope,
+    at: usize,
+    q: usize,
+) -> Scope
     ensures { λ r. ⌜ TrackAt (env (now (store .entry)) (now (args .entry))) at q (world (now (store .entry)) (now (text .entry)) (now (list .entry)) (now (work .entry)) (now (trail .entry)) st) (world (now (store .entry)) (now (text .exit)) (now (list .exit)) (now (work .exit)) (now (trail .exit)) r) ⌝ }
 {
     if st.refused != 0 {
@@ -208,13 +329,23 @@ pub fn track(store: &[u8], args: &[u8], text: &mut [u8], list: &mut [u8], work: 
 }
 
 // A term reference, its tag at `at`: its arguments stay until all its text is written, and are cleared after it.
-pub fn write_term(store: &[u8], args: &[u8], text: &mut [u8], list: &mut [u8], work: &mut [u8], trail: &mut [usize; 102], st: Scope, left: usize, at: usize) -> Scope
+pub fn write_term(
+    store: &[u8],
+    args: &[u8],
+    text: &mut [u8],
+    list: &mut [u8],
+    work: &mut [u8],
+    trail: &mut [usize; 102],
+    st: Scope,
+    left: usize,
+    at: usize,
+) -> Scope
     ensures { λ r. ⌜ TermAt (env (now (store .entry)) (now (args .entry))) left at (world (now (store .entry)) (now (text .entry)) (now (list .entry)) (now (work .entry)) (now (trail .entry)) st) (world (now (store .entry)) (now (text .exit)) (now (list .exit)) (now (work .exit)) (now (trail .exit)) r) ⌝ }
 {
     if st.refused != 0 {
         return st;
     }
-    let Reference::Is(r) = read_reference(store, at + 1) else {
+    let Reference::Is(r) = tagged_reference(store, at) else {
         return st;
     };
     let old = st.back;
@@ -246,13 +377,22 @@ pub fn write_term(store: &[u8], args: &[u8], text: &mut [u8], list: &mut [u8], w
 }
 
 // The term that a reference names, looked up and written.
-pub fn write_found_term(store: &[u8], args: &[u8], text: &mut [u8], list: &mut [u8], work: &mut [u8], trail: &mut [usize; 102], st: Scope, at: usize) -> Scope
+pub fn write_found_term(
+    store: &[u8],
+    args: &[u8],
+    text: &mut [u8],
+    list: &mut [u8],
+    work: &mut [u8],
+    trail: &mut [usize; 102],
+    st: Scope,
+    at: usize,
+) -> Scope
     ensures { λ r. ⌜ FoundTermAt (env (now (store .entry)) (now (args .entry))) at (world (now (store .entry)) (now (text .entry)) (now (list .entry)) (now (work .entry)) (now (trail .entry)) st) (world (now (store .entry)) (now (text .exit)) (now (list .exit)) (now (work .exit)) (now (trail .exit)) r) ⌝ }
 {
     if st.refused != 0 {
         return st;
     }
-    let Reference::Is(r) = read_reference(store, at + 1) else {
+    let Reference::Is(r) = tagged_reference(store, at) else {
         return st;
     };
     let from = r.from;
@@ -277,17 +417,36 @@ pub fn write_found_term(store: &[u8], args: &[u8], text: &mut [u8], list: &mut [
 }
 
 // `InlineExpression::resolve`
-pub fn resolve_value(store: &[u8], args: &[u8], text: &mut [u8], list: &mut [u8], work: &mut [u8], trail: &mut [usize; 102], st: Scope, left: usize, at: usize) -> Resolved
+pub fn resolve_value(
+    store: &[u8],
+    args: &[u8],
+    text: &mut [u8],
+    list: &mut [u8],
+    work: &mut [u8],
+    trail: &mut [usize; 102],
+    st: Scope,
+    left: usize,
+    at: usize,
+) -> Resolved
     ensures { λ r. ⌜ ValueAt (env (now (store .entry)) (now (args .entry))) left at (world (now (store .entry)) (now (text .entry)) (now (list .entry)) (now (work .entry)) (now (trail .entry)) st) (world (now (store .entry)) (now (text .exit)) (now (list .exit)) (now (work .exit)) (now (trail .exit)) (r .st)) (r .value) ⌝ }
 {
     if st.refused != 0 {
-        return Resolved { st: st, value: Value::Wrong };
+        return Resolved {
+            st: st,
+            value: Value::Wrong,
+        };
     }
     if left == 0 {
-        return Resolved { st: st, value: Value::Wrong };
+        return Resolved {
+            st: st,
+            value: Value::Wrong,
+        };
     }
     let Num::At(tag, p) = read_byte(store, at) else {
-        return Resolved { st: st, value: Value::Wrong };
+        return Resolved {
+            st: st,
+            value: Value::Wrong,
+        };
     };
     if tag == 4 {
         return resolve_text(store, args, text, list, work, trail, st, left, at);
@@ -299,23 +458,44 @@ pub fn resolve_value(store: &[u8], args: &[u8], text: &mut [u8], list: &mut [u8]
         return resolve_text(store, args, text, list, work, trail, st, left, at);
     }
     let Num::At(a, e) = read_str(store, p) else {
-        return Resolved { st: st, value: Value::Wrong };
+        return Resolved {
+            st: st,
+            value: Value::Wrong,
+        };
     };
     if tag == 1 {
         return literal_string(store, work, st, a, e);
     }
     if tag == 2 {
-        return Resolved { st: st, value: literal_number(store, a, e) };
+        return Resolved {
+            st: st,
+            value: literal_number(store, a, e),
+        };
     }
     if tag == 6 {
         return resolve_variable(store, args, list, st, a, e);
     }
     let c = call_function(store, args, text, list, work, trail, st, left - 1, p);
-    Resolved { st: c.st, value: c.value }
+    let s1 = c.st;
+    let value = c.value;
+    Resolved {
+        st: s1,
+        value: value,
+    }
 }
 
 // A message, a term or an inline placeable as a text of its own: made at the workspace's front, then moved to its back.
-pub fn resolve_text(store: &[u8], args: &[u8], text: &mut [u8], list: &mut [u8], work: &mut [u8], trail: &mut [usize; 102], st: Scope, left: usize, at: usize) -> Resolved
+pub fn resolve_text(
+    store: &[u8],
+    args: &[u8],
+    text: &mut [u8],
+    list: &mut [u8],
+    work: &mut [u8],
+    trail: &mut [usize; 102],
+    st: Scope,
+    left: usize,
+    at: usize,
+) -> Resolved
     ensures { λ r. ⌜ TextValueAt (env (now (store .entry)) (now (args .entry))) left at (world (now (store .entry)) (now (text .entry)) (now (list .entry)) (now (work .entry)) (now (trail .entry)) st) (world (now (store .entry)) (now (text .exit)) (now (list .exit)) (now (work .exit)) (now (trail .exit)) (r .st)) (r .value) ⌝ }
 {
     let was = st.aside;
@@ -323,32 +503,61 @@ pub fn resolve_text(store: &[u8], args: &[u8], text: &mut [u8], list: &mut [u8],
     let s1 = set_aside(st, true);
     let s2 = write_inline(store, args, text, list, work, trail, s1, left, at);
     if s2.refused != 0 {
-        return Resolved { st: s2, value: Value::Wrong };
+        return Resolved {
+            st: s2,
+            value: Value::Wrong,
+        };
     }
     let front = s2.front;
     let back = s2.back;
     if front < start {
-        return Resolved { st: s2, value: Value::Wrong };
+        return Resolved {
+            st: s2,
+            value: Value::Wrong,
+        };
     }
     if back < front {
-        return Resolved { st: s2, value: Value::Wrong };
+        return Resolved {
+            st: s2,
+            value: Value::Wrong,
+        };
     }
     if work.len() < back {
-        return Resolved { st: s2, value: Value::Wrong };
+        return Resolved {
+            st: s2,
+            value: Value::Wrong,
+        };
     }
     let n = front - start;
     let to = back - n;
     move_back(work, start, n, to);
     let s3 = set_kept(s2, start, to, was);
-    Resolved { st: s3, value: Value::Work(to, back) }
+    Resolved {
+        st: s3,
+        value: Value::Work(to, back),
+    }
 }
 
 // The positional arguments at `at`, each resolved in turn.
-pub fn resolve_positional(store: &[u8], args: &[u8], text: &mut [u8], list: &mut [u8], work: &mut [u8], trail: &mut [usize; 102], st: Scope, left: usize, at: usize) -> Positional
+pub fn resolve_positional(
+    store: &[u8],
+    args: &[u8],
+    text: &mut [u8],
+    list: &mut [u8],
+    work: &mut [u8],
+    trail: &mut [usize; 102],
+    st: Scope,
+    left: usize,
+    at: usize,
+) -> Positional
     ensures { λ r. ⌜ PositionalAt (env (now (store .entry)) (now (args .entry))) left at (world (now (store .entry)) (now (text .entry)) (now (list .entry)) (now (work .entry)) (now (trail .entry)) st) (world (now (store .entry)) (now (text .exit)) (now (list .exit)) (now (work .exit)) (now (trail .exit)) (r .st)) (r .first) (r .end) ⌝ }
 {
     let Num::At(n, begin_at) = read_u16(store, at) else {
-        return Positional { st: st, first: Value::Wrong, end: at };
+        return Positional {
+            st: st,
+            first: Value::Wrong,
+            end: at,
+        };
     };
     let mut s = st;
     let mut first = Value::Wrong;
@@ -356,51 +565,102 @@ pub fn resolve_positional(store: &[u8], args: &[u8], text: &mut [u8], list: &mut
     let mut i = n;
     while 0 < i {
         let v = resolve_value(store, args, text, list, work, trail, s, left, p);
-        s = v.st;
+        let s1 = v.st;
+        let value = v.value;
+        s = s1;
         if i == n {
-            let x = v.value;
-            first = x;
+            first = value;
         }
         let Next::At(q) = skip_expression(store, p, left) else {
-            return Positional { st: s, first: first, end: p };
+            return Positional {
+                st: s,
+                first: first,
+                end: p,
+            };
         };
         p = q;
         i -= 1;
     }
-    Positional { st: s, first: first, end: p }
+    Positional {
+        st: s,
+        first: first,
+        end: p,
+    }
 }
 
 // A call, its Id at `at`: its arguments are freed once its result, or that it is missing, is known.
-pub fn call_function(store: &[u8], args: &[u8], text: &mut [u8], list: &mut [u8], work: &mut [u8], trail: &mut [usize; 102], st: Scope, left: usize, at: usize) -> Called
+pub fn call_function(
+    store: &[u8],
+    args: &[u8],
+    text: &mut [u8],
+    list: &mut [u8],
+    work: &mut [u8],
+    trail: &mut [usize; 102],
+    st: Scope,
+    left: usize,
+    at: usize,
+) -> Called
     ensures { λ r. ⌜ CalledAt (env (now (store .entry)) (now (args .entry))) left at (world (now (store .entry)) (now (text .entry)) (now (list .entry)) (now (work .entry)) (now (trail .entry)) st) (world (now (store .entry)) (now (text .exit)) (now (list .exit)) (now (work .exit)) (now (trail .exit)) (r .st)) (r .found) (r .value) ⌝ }
 {
     let Num::At(a, e) = read_str(store, at) else {
-        return Called { st: st, found: false, value: Value::Wrong };
+        return Called {
+            st: st,
+            found: false,
+            value: Value::Wrong,
+        };
     };
     let old = st.back;
     let g = resolve_positional(store, args, text, list, work, trail, st, left, e);
     let s1 = g.st;
     let first = g.first;
     if s1.refused != 0 {
-        return Called { st: s1, found: false, value: Value::Wrong };
+        return Called {
+            st: s1,
+            found: false,
+            value: Value::Wrong,
+        };
     }
     let base = s1.back;
     let Num::At(m, named) = read_u16(store, g.end) else {
-        return Called { st: s1, found: false, value: Value::Wrong };
+        return Called {
+            st: s1,
+            found: false,
+            value: Value::Wrong,
+        };
     };
     let s2 = resolve_named(store, work, s1, named, m);
     if s2.refused != 0 {
-        return Called { st: s2, found: false, value: Value::Wrong };
+        return Called {
+            st: s2,
+            found: false,
+            value: Value::Wrong,
+        };
     }
     match find_holder(store, &store[a..e]) {
         Found::Function => {
             let v = number_function(store, &*work, s2, named, m, base, first);
             let s3 = v.st;
             let value = v.value;
-            Called { st: set_back(s3, old), found: true, value: value }
+            Called {
+                st: set_back(s3, old),
+                found: true,
+                value: value,
+            }
         }
-        Found::Message(_) => Called { st: set_back(s2, old), found: false, value: Value::Wrong },
-        Found::Term(_) => Called { st: set_back(s2, old), found: false, value: Value::Wrong },
-        Found::Nothing => Called { st: set_back(count_unfound(s2), old), found: false, value: Value::Wrong },
+        Found::Message(_) => Called {
+            st: set_back(s2, old),
+            found: false,
+            value: Value::Wrong,
+        },
+        Found::Term(_) => Called {
+            st: set_back(s2, old),
+            found: false,
+            value: Value::Wrong,
+        },
+        Found::Nothing => Called {
+            st: set_back(count_unfound(s2), old),
+            found: false,
+            value: Value::Wrong,
+        },
     }
 }

@@ -1,0 +1,57 @@
+-- `resolver::format::format` meets its contract: the refusals in their order, and the run.
+-- Made from Proof.answers, which stands beside it: change that, and run `proofs make`.
+use Rattle.records.proofs.Laws.{next-at, next-bad}
+use Rattle.resolver.proofs.Ends.{format-arguments, format-header, format-refused, format-run}
+use borrow.Author.Needs.{needs}
+use mathlib.Core.Path.{_∙_, refl, sym}
+use native.Mathlib.Omega.{arith}
+use Rattle.resolver.proofs.format.format.Statement.{statement}
+use Rattle.resolver.proofs.format.format.Tie as tie
+
+find-pattern-requires : tie.Need-find-pattern-requires
+find-pattern-requires c κs = search needs
+
+enum-known-n : tie.Need-enum-known-n
+enum-known-n c = search needs
+
+enum-known-q : tie.Need-enum-known-q
+enum-known-q c = search needs
+
+check-arguments-requires : tie.Need-check-arguments-requires
+check-arguments-requires c κs = search needs
+
+enum-told : tie.Need-enum-told
+enum-told c = search needs
+
+enum-told-2 : tie.Need-enum-told-2
+enum-told-2 c = search needs
+
+returns : tie.Need-returns
+returns c = format-arguments _ _ _ _ _ _ _ (c .before .before .before .before .before .before .find-pattern .ensures) _ (c .before .before .before .before .q .given .1) (next-bad _ (sym (c .enum-told2 .given .1) ∙ c .before .before .check-arguments .ensures)) refl
+
+returns-2 : tie.Need-returns-2
+returns-2 c = format-header _ _ _ _ _ _ _ (c .before .before .before .before .before .before .before .find-pattern .ensures) _ (c .before .before .before .before .before .q .given .1) (next-at _ (sym (c .before .enum-told .given .1) ∙ c .before .before .before .check-arguments .ensures) .1) (c .if1 .taken) refl
+
+run-requires : tie.Need-run-requires
+run-requires c κs = search needs
+
+finish-requires : tie.Need-finish-requires
+finish-requires c κs = search needs
+
+returns-3 : tie.Need-returns-3
+returns-3 c = format-refused _ _ _ _ _ _ _ (c .before .before .before .find-pattern .ensures) (c .before .n .given .1) refl
+
+same-length : tie.Need-same-length
+same-length c = c .before .before .before .before .before .before .finish .kept .1 .0 ∙ c .before .before .before .before .before .before .before .before .before .before .before .before .before .before .before .before .run .kept .1 .1 .0
+
+same-length-2 : tie.Need-same-length-2
+same-length-2 c = c .before .before .before .before .before .before .finish .kept .1 .1 .0 ∙ c .before .before .before .before .before .before .before .before .before .before .before .before .before .before .before .before .run .kept .1 .1 .1 .0
+
+same-length-3 : tie.Need-same-length-3
+same-length-3 c = c .before .before .before .before .before .before .finish .kept .1 .1 .1 .0 ∙ c .before .before .before .before .before .before .before .before .before .before .before .before .before .before .before .before .run .kept .1 .1 .1 .1 .0
+
+returns-4 : tie.Need-returns-4
+returns-4 c = format-run _ _ _ _ _ _ _ (c .before .before .before .before .before .before .before .before .before .before .before .before .before .before .before .before .before .before .before .before .before .before .before .before .before .before .before .find-pattern .ensures) _ (c .before .before .before .before .before .before .before .before .before .before .before .before .before .before .before .before .before .before .before .before .before .before .before .before .before .q .given .1) (next-at _ (sym (c .before .before .before .before .before .before .before .before .before .before .before .before .before .before .before .before .before .before .before .before .before .enum-told .given .1) ∙ c .before .before .before .before .before .before .before .before .before .before .before .before .before .before .before .before .before .before .before .before .before .before .before .check-arguments .ensures) .1) (omega (arith, c .before .before .before .before .before .before .before .before .before .before .before .before .before .before .before .before .before .before .before .before .if1 .left)) (c .before .before .before .before .before .before .before .before .before .before .before .before .before .before .before .before .run .ensures) (c .before .before .before .before .before .before .finish .ensures)
+
+pub format-spec : {M : Type 1} → statement M
+format-spec = tie.close (tie.spec find-pattern-requires enum-known-n enum-known-q check-arguments-requires enum-told enum-told-2 returns returns-2 run-requires finish-requires returns-3 same-length same-length-2 same-length-3 returns-4)
