@@ -2,9 +2,12 @@
 // Each answers 0, or the number of its refusal, and writes its figures into the numbers that are lent to it. None has a `requires`: whatever bytes the
 // slices hold, the answer is the definition's.
 use bundle::Answer;
+use resolver::format::Answer as Formatted;
 ghost use mathlib.Core.Path.{_≡_};
 ghost use Rattle.bundle.specs.Additions.{newBundle, addResource, addResourceOverriding, addFunction};
+ghost use Rattle.texts.specs.Report.{optionOf};
 ghost use Rattle.exports.specs.Numbers.{numberOf, countOf};
+ghost use Rattle.exports.specs.Formatted.{FormatsTo};
 
 // A new bundle at the front of a slice. Refusals: 1, 2, 3.
 #[no_mangle]
@@ -61,5 +64,43 @@ pub extern "C" fn weszlagyo_add_function(slice: &mut [u8], id: &[u8], code: u8) 
     match bundle::add_function(slice, id, code) {
         Answer::Done(_) => 0,
         Answer::Refused(n) => n,
+    }
+}
+
+// Formats the message `id`, or its attribute where `has` is set, with an arguments image, and writes the formatting's five figures. Refusals:
+// 4, 8, 11, 12, 13 and 7, which change nothing; then 15, 7, 16, 17, which clear the three buffers.
+#[no_mangle]
+pub extern "C" fn weszlagyo_format(
+    store: &[u8],
+    id: &[u8],
+    has: bool,
+    attribute: &[u8],
+    arguments: &[u8],
+    text: &mut [u8],
+    list: &mut [u8],
+    work: &mut [u8],
+    written: &mut usize,
+    errors: &mut usize,
+    begun: &mut usize,
+    unfound: &mut u64,
+    used: &mut usize,
+) -> u8
+    ensures { λ r. ⌜ FormatsTo (now (store .entry)) (now (id .entry)) (optionOf has (now (attribute .entry))) (now (arguments .entry))
+        (record { text = now (text .entry); list = now (list .entry); work = now (work .entry) })
+        (record { text = now (text .exit); list = now (list .exit); work = now (work .exit) })
+        (record { written = now (written .entry); errors = now (errors .entry); begun = now (begun .entry); unfound = now (unfound .entry); used = now (used .entry) })
+        (record { written = now (written .exit); errors = now (errors .exit); begun = now (begun .exit); unfound = now (unfound .exit); used = now (used .exit) }) r ⌝ }
+{
+    match resolver::format::format(store, id, has, attribute, arguments, text, list, work) {
+        Formatted::Finished(f) => {
+            *written = f.text;
+            *errors = f.errors;
+            *begun = f.begun;
+            *unfound = f.unfound;
+            *used = f.work;
+            0
+        }
+        Formatted::Refused(n) => n,
+        Formatted::Cleared(n) => n,
     }
 }
