@@ -135,7 +135,7 @@ fn main() {
     let one = ids[12].as_str();
     let mut buffers = Buffers::with_lengths(256, 256, 256);
     let (mut text, mut list, mut work) = ([0; 256], [0; 256], [0; 256]);
-    let [raw, crate_, theirs, copy] = race([
+    let [raw, crate_, check, theirs, copy] = race([
         Timed::new(|| {
             let answer = operations::format(
                 &store,
@@ -152,11 +152,13 @@ fn main() {
             let answer = bundle.format_in(&mut buffers, one, None, Some(&args));
             black_box(answer.expect("formatted"));
         }),
+        Timed::new(|| check_of(&store)),
         Timed::new(|| format_theirs(one)),
         Timed::new(|| black_box(&mut target).copy_from_slice(black_box(&store))),
     ]);
     row("one message, the operation", raw, theirs, copy);
     row("one message, `format_in`", crate_, theirs, copy);
+    row("of which the store's check", check, theirs, copy);
 
     let [ours, theirs, copy] = race([
         Timed::new(|| {
@@ -206,10 +208,18 @@ fn made(resources: &[FluentResource]) -> FluentBundle {
     bundle
 }
 
-/// What a call costs on a store of nearly 1 MiB before it does anything: a
-/// formatting of an id that is none, which is refused once the store is
-/// checked. The original Rust has no such check; a copy and the standard
-/// library's own check of UTF-8 stand beside it.
+/// The check of a store alone: a formatting of an id that is none, which is
+/// refused once the store is checked.
+fn check_of(store: &[u8]) {
+    let no_arguments = [0, 0, 0, 7, 1, 0, 0];
+    let (text, list, work) = (&mut [], &mut [], &mut []);
+    let answer = operations::format(store, b"", None, &no_arguments, text, list, work);
+    assert_eq!(black_box(answer), Err(Refusal::NO_ID));
+}
+
+/// What a call costs on a store of nearly 1 MiB before it does anything. The
+/// original Rust has no such check; a copy and the standard library's own check
+/// of UTF-8 stand beside it.
 fn check_of_a_large_store() {
     let mut bundle = FluentBundle::default();
     let words = "A minke whale was seen off the bow; кит был виден у носа. ";
@@ -232,18 +242,7 @@ fn check_of_a_large_store() {
     let mut target = vec![0; store.len()];
     let text = words.repeat(store.len() / words.len());
     let [check, copy, utf8] = race([
-        Timed::new(|| {
-            let answer = operations::format(
-                &store,
-                b"",
-                None,
-                &[0, 0, 0, 7, 1, 0, 0],
-                &mut [],
-                &mut [],
-                &mut [],
-            );
-            assert_eq!(black_box(answer), Err(Refusal::NO_ID));
-        }),
+        Timed::new(|| check_of(&store)),
         Timed::new(|| black_box(&mut target).copy_from_slice(black_box(&store))),
         Timed::new(|| {
             black_box(std::str::from_utf8(black_box(text.as_bytes())).is_ok());
