@@ -1,0 +1,106 @@
+// The proved operations for programs in C and Rust: `rt staticlib exports` writes target/staticlib/libexports.a, and include/weszlagyo.h declares them.
+// Each answers 0, or the number of its refusal, and writes its figures into the numbers that are lent to it. None has a `requires`: whatever bytes the
+// slices hold, the answer is the definition's.
+use bundle::Answer;
+use resolver::format::Answer as Formatted;
+ghost use mathlib.Core.Path.{_≡_};
+ghost use Rattle.bundle.specs.Additions.{newBundle, addResource, addResourceOverriding, addFunction};
+ghost use Rattle.texts.specs.Report.{optionOf};
+ghost use Rattle.exports.specs.Numbers.{numberOf, countOf};
+ghost use Rattle.exports.specs.Formatted.{FormatsTo};
+
+// A new bundle at the front of a slice. Refusals: 1, 2, 3.
+#[no_mangle]
+pub extern "C" fn weszlagyo_new(slice: &mut [u8], locale: u8, isolating: u8) -> u8
+    ensures { λ r. ⌜ r ≡ numberOf (newBundle (now (slice .entry)) locale isolating .answer) ⌝ }
+    ensures { λ _. ⌜ now (slice .exit) ≡ newBundle (now (slice .entry)) locale isolating .slice ⌝ }
+{
+    match bundle::new(slice, locale, isolating) {
+        Answer::Done(_) => 0,
+        Answer::Refused(n) => n,
+    }
+}
+
+// Adds a resource whose entries yield to those of their ids; lists one Overriding record for each that does, and writes how many. Refusals: 4, 5, 6, 7.
+#[no_mangle]
+pub extern "C" fn weszlagyo_add_resource(
+    slice: &mut [u8],
+    image: &[u8],
+    list: &mut [u8],
+    count: &mut usize,
+) -> u8
+    ensures { λ r. ⌜ r ≡ numberOf (addResource (now (slice .entry)) (now (image .entry)) (now (list .entry)) .answer) ⌝ }
+    ensures { λ _. ⌜ now (slice .exit) ≡ addResource (now (slice .entry)) (now (image .entry)) (now (list .entry)) .slice ⌝ }
+    ensures { λ _. ⌜ now (list .exit) ≡ addResource (now (slice .entry)) (now (image .entry)) (now (list .entry)) .list ⌝ }
+    ensures { λ _. ⌜ now (count .exit) ≡ countOf (addResource (now (slice .entry)) (now (image .entry)) (now (list .entry)) .answer) (now (count .entry)) ⌝ }
+{
+    match bundle::add_resource(slice, image, list) {
+        Answer::Done(n) => {
+            *count = n;
+            0
+        }
+        Answer::Refused(n) => n,
+    }
+}
+
+// Adds a resource whose entries take their ids. Refusals: 4, 5, 6.
+#[no_mangle]
+pub extern "C" fn weszlagyo_add_resource_overriding(slice: &mut [u8], image: &[u8]) -> u8
+    ensures { λ r. ⌜ r ≡ numberOf (addResourceOverriding (now (slice .entry)) (now (image .entry)) .answer) ⌝ }
+    ensures { λ _. ⌜ now (slice .exit) ≡ addResourceOverriding (now (slice .entry)) (now (image .entry)) .slice ⌝ }
+{
+    match bundle::add_resource_overriding(slice, image) {
+        Answer::Done(_) => 0,
+        Answer::Refused(n) => n,
+    }
+}
+
+// Adds a function under an id that has no entry. Refusals: 4, 8, 9, 10, 6.
+#[no_mangle]
+pub extern "C" fn weszlagyo_add_function(slice: &mut [u8], id: &[u8], code: u8) -> u8
+    ensures { λ r. ⌜ r ≡ numberOf (addFunction (now (slice .entry)) (now (id .entry)) code .answer) ⌝ }
+    ensures { λ _. ⌜ now (slice .exit) ≡ addFunction (now (slice .entry)) (now (id .entry)) code .slice ⌝ }
+{
+    match bundle::add_function(slice, id, code) {
+        Answer::Done(_) => 0,
+        Answer::Refused(n) => n,
+    }
+}
+
+// Formats the message `id`, or its attribute where `has` is set, with an arguments image, and writes the formatting's five figures. Refusals:
+// 4, 8, 11, 12, 13 and 7, which change nothing; then 15, 7, 16, 17, which clear the three buffers.
+#[no_mangle]
+pub extern "C" fn weszlagyo_format(
+    store: &[u8],
+    id: &[u8],
+    has: bool,
+    attribute: &[u8],
+    arguments: &[u8],
+    text: &mut [u8],
+    list: &mut [u8],
+    work: &mut [u8],
+    written: &mut usize,
+    errors: &mut usize,
+    begun: &mut usize,
+    unfound: &mut u64,
+    used: &mut usize,
+) -> u8
+    ensures { λ r. ⌜ FormatsTo (now (store .entry)) (now (id .entry)) (optionOf has (now (attribute .entry))) (now (arguments .entry))
+        (record { text = now (text .entry); list = now (list .entry); work = now (work .entry) })
+        (record { text = now (text .exit); list = now (list .exit); work = now (work .exit) })
+        (record { written = now (written .entry); errors = now (errors .entry); begun = now (begun .entry); unfound = now (unfound .entry); used = now (used .entry) })
+        (record { written = now (written .exit); errors = now (errors .exit); begun = now (begun .exit); unfound = now (unfound .exit); used = now (used .exit) }) r ⌝ }
+{
+    match resolver::format::format(store, id, has, attribute, arguments, text, list, work) {
+        Formatted::Finished(f) => {
+            *written = f.text;
+            *errors = f.errors;
+            *begun = f.begun;
+            *unfound = f.unfound;
+            *used = f.work;
+            0
+        }
+        Formatted::Refused(n) => n,
+        Formatted::Cleared(n) => n,
+    }
+}

@@ -1,0 +1,108 @@
+/* Weszlagyo: a Fluent resolver whose every operation is proved.
+ *
+ * `rt staticlib exports` proves these functions and writes
+ * target/staticlib/libexports.a; link that. It needs nothing but memcpy and
+ * memset of the C library, allocates nothing, keeps no pointer, and has no
+ * state: calls on different slices may run at the same time.
+ *
+ * Every function answers 0 if it is done, or else the number of its refusal
+ * (below, in the order in which they are met). It is proved that the answer,
+ * the lent numbers and every lent byte are those of a written definition,
+ * whatever bytes it is lent; there is nothing that a caller must have checked.
+ * docs/01-scope.md has the layouts.
+ *
+ * What the proof takes for granted of the caller, as of any C function:
+ *  - a pointer and the length after it are a slice that is there, readable,
+ *    and writable where the pointer is not const; for a length of 0 the
+ *    pointer may be any that is not null;
+ *  - a slice or number that is written overlaps no other one of the call;
+ *  - there is stack enough: about 0.7 MiB for weszlagyo_add_resource; for
+ *    weszlagyo_format some kilobytes with ordinary messages, and up to 14 MiB
+ *    with the deepest that are allowed (100 references inside each other, each
+ *    nested to depth 32). Give it 16 MiB where resources are not trusted.
+ */
+#ifndef WESZLAGYO_H
+#define WESZLAGYO_H
+
+#include <stdbool.h>
+#include <stddef.h>
+#include <stdint.h>
+
+#ifdef __cplusplus
+extern "C" {
+#endif
+
+/* A new bundle at the front of a slice, whose later bytes stay as they are.
+ *
+ * locale: 0 en, 1 da, 2 ru, 3 cy. isolating: 1 sets placeables between U+2068
+ * and U+2069, 0 does not.
+ *
+ * Refusals, which change nothing: 1 the slice is under 9 bytes; 2 locale above
+ * 3; 3 isolating above 1. */
+uint8_t weszlagyo_new(uint8_t *slice, size_t slice_length, uint8_t locale, uint8_t isolating);
+
+/* Adds a resource image whose entries yield to those that have their ids.
+ *
+ * slice: a bundle's; the item is put after the others. list: gets the error
+ * list, one Overriding record for each entry that yields, at its front; later
+ * bytes stay. *count: gets the number of these records.
+ *
+ * Refusals, which change nothing, *count included: 4 the slice holds no
+ * well-formed store; 5 the image is malformed; 6 no room: used length and item
+ * above slice_length or 1,048,576, or 256 items; 7 the list is too short. */
+uint8_t weszlagyo_add_resource(uint8_t *slice, size_t slice_length,
+                               const uint8_t *image, size_t image_length,
+                               uint8_t *list, size_t list_length,
+                               size_t *count);
+
+/* Adds a resource image whose entries take their ids.
+ *
+ * Refusals, which change nothing: 4, 5, 6 as for weszlagyo_add_resource. */
+uint8_t weszlagyo_add_resource_overriding(uint8_t *slice, size_t slice_length,
+                                          const uint8_t *image, size_t image_length);
+
+/* Adds a function under an id (its bare bytes) that has no entry.
+ *
+ * code: 1 is NUMBER, and there is no other.
+ *
+ * Refusals, which change nothing: 4; 8 not an id (a letter, then letters,
+ * digits, - and _; 1 to 255 bytes); 9 code is not 1; 10 the id has an entry;
+ * 6. */
+uint8_t weszlagyo_add_function(uint8_t *slice, size_t slice_length,
+                               const uint8_t *id, size_t id_length,
+                               uint8_t code);
+
+/* Formats the value of a message, or an attribute of it.
+ *
+ * store: a bundle's slice, which is checked in every call. id, and attribute
+ * where has_attribute is true: bare bytes. arguments: an arguments image; none
+ * is 00 00 00 07 01 00 00. text, list: get the text (UTF-8) and the error list
+ * at their front; later bytes stay. work: the workspace, zeros afterwards.
+ *
+ * *written: bytes of text. *errors: errors in the list. *begun: placeables
+ * begun, 0 to 101. *unfound: lookups of an id without an entry, for a reference
+ * to a message, term or function. *used: the most bytes of work in use at a
+ * time.
+ *
+ * Refusals, which change nothing: 4 the store is malformed; 8 id, or the
+ * attribute that is asked for, is not an id; 11 no such message; 12 no such
+ * value or attribute; 13 the arguments are malformed; 7 list_length is under 5.
+ * Then, whichever comes first, and these fill text, list and work with zeros
+ * and leave the five numbers: 15 text is too short; 7 list is too short; 16
+ * work is too short; 17 minimumFractionDigits above 19. */
+uint8_t weszlagyo_format(const uint8_t *store, size_t store_length,
+                         const uint8_t *id, size_t id_length,
+                         bool has_attribute,
+                         const uint8_t *attribute, size_t attribute_length,
+                         const uint8_t *arguments, size_t arguments_length,
+                         uint8_t *text, size_t text_length,
+                         uint8_t *list, size_t list_length,
+                         uint8_t *work, size_t work_length,
+                         size_t *written, size_t *errors, size_t *begun,
+                         uint64_t *unfound, size_t *used);
+
+#ifdef __cplusplus
+}
+#endif
+
+#endif

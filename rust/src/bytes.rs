@@ -1,0 +1,64 @@
+//! Writing document 01's integers, strings and counts.
+
+use crate::operations::Refusal;
+
+/// Bytes that are being written; a length or count that its field can't hold
+/// is remembered.
+#[derive(Default)]
+pub struct Writer {
+    bytes: Vec<u8>,
+    too_long: bool,
+}
+
+impl Writer {
+    pub fn byte(&mut self, n: u8) {
+        self.bytes.push(n);
+    }
+
+    pub fn flag(&mut self, on: bool) {
+        self.byte(u8::from(on));
+    }
+
+    pub fn raw(&mut self, bytes: &[u8]) {
+        self.bytes.extend_from_slice(bytes);
+    }
+
+    pub fn u64(&mut self, n: u64) {
+        self.raw(&n.to_be_bytes());
+    }
+
+    /// A count or a length of 16 bits.
+    pub fn u16(&mut self, n: usize) {
+        let fits = u16::try_from(n);
+        self.too_long |= fits.is_err();
+        self.raw(&fits.unwrap_or_default().to_be_bytes());
+    }
+
+    pub fn str(&mut self, text: &str) {
+        self.u16(text.len());
+        self.raw(text.as_bytes());
+    }
+
+    /// A u32 for a length that is not known yet, to be `close`d.
+    pub fn open(&mut self) -> usize {
+        let at = self.bytes.len();
+        self.raw(&[0; 4]);
+        at
+    }
+
+    /// The length of what stands after the u32 at `at`, and of `counted` bytes
+    /// of it.
+    pub fn close(&mut self, at: usize, counted: usize) {
+        let length = u32::try_from(self.bytes.len() - at - 4 + counted);
+        self.too_long |= length.is_err();
+        self.bytes[at..at + 4].copy_from_slice(&length.unwrap_or_default().to_be_bytes());
+    }
+
+    /// The bytes, or the refusal if something did not fit its field.
+    pub fn finish(self, refusal: Refusal) -> Result<Vec<u8>, Refusal> {
+        match self.too_long {
+            true => Err(refusal),
+            false => Ok(self.bytes),
+        }
+    }
+}
