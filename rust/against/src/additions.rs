@@ -38,7 +38,9 @@ pub fn by_the_crate(
                 added.err().into_iter().collect()
             }
         };
-        counts.call(0);
+        // an entry that yields is no refusal; a function whose id is held is one
+        let refused = matches!(item, Item::Function(_)) && !said.is_empty();
+        counts.call(if refused { 10 } else { 0 });
         let ours: Vec<String> = said.iter().map(FluentError::to_string).collect();
         let theirs: Vec<String> = theirs.iter().map(ToString::to_string).collect();
         same("errors of an addition", ours, theirs)?;
@@ -73,15 +75,16 @@ pub fn by_lengths(
     counts: &mut Counts,
 ) -> Result<(), String> {
     let mut slice = expected.store.clone();
-    if random.one_in(3) {
-        hurt(random, &mut slice);
-        counts.damaged += 1;
-    }
+    let mut damaged = random.one_in(3) && hurt(random, &mut slice);
     let spare = *random.pick(&[0, 1, 14, 15, 16, 40, 600, 5000]);
     slice.resize(slice.len() + random.below(spare + 1), BEFORE);
     match random.below(5) {
+        // lent a slice of its own
         0 => new(random, counts),
-        1 => function(&slice, random, counts),
+        1 => {
+            counts.damaged += u64::from(damaged);
+            function(&slice, random, counts)
+        }
         _ => {
             let trees = case.bundle.items.iter().filter_map(|item| match item {
                 Item::Plain(tree) | Item::Overriding(tree) => Some(tree),
@@ -92,10 +95,8 @@ pub fn by_lengths(
                 true => vec![0, 0, 0, 7, 1, 0, 0],
                 false => encode::resource(trees[random.below(trees.len())]),
             };
-            if random.one_in(3) {
-                hurt(random, &mut image);
-                counts.damaged += 1;
-            }
+            damaged |= random.one_in(3) && hurt(random, &mut image);
+            counts.damaged += u64::from(damaged);
             resource(&slice, &image, random, counts)
         }
     }

@@ -127,17 +127,18 @@ pub fn damaged(
     let mut arguments = expected.arguments.clone();
     let mut id = case.message.clone().into_bytes();
     let mut attribute = case.attribute.clone().map(String::into_bytes);
-    match random.below(8) {
+    let changed = match random.below(8) {
         0..=3 => hurt(random, &mut store),
         4 | 5 => hurt(random, &mut arguments),
         6 => hurt(random, &mut id),
         _ => {
             let mut name = attribute.unwrap_or_default();
-            hurt(random, &mut name);
+            let changed = hurt(random, &mut name);
             attribute = Some(name);
+            changed
         }
-    }
-    counts.damaged += 1;
+    };
+    counts.damaged += u64::from(changed);
     // the slice of a store may be longer than the store
     store.resize(store.len() + random.below(20), BEFORE);
     let prepared = model::prepare(&store, &id, attribute.as_deref(), &arguments);

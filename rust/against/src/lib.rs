@@ -19,7 +19,8 @@ pub struct Counts {
     pub calls: u64,
     /// Calls by their answer: 0 done, or the refusal's number.
     pub answers: [u64; 18],
-    /// Calls that were lent a damaged store, image or arguments image.
+    /// Calls that were lent a store, image, arguments image, id or attribute
+    /// whose bytes were changed from what the generator made; each once.
     pub damaged: u64,
     /// Stores that the crate made and that were compared whole.
     pub stores: u64,
@@ -109,8 +110,10 @@ impl Lent {
     }
 }
 
-/// Changes, cuts or lengthens some bytes.
-pub(crate) fn hurt(random: &mut Random, bytes: &mut Vec<u8>) {
+/// Changes, cuts or lengthens some bytes, and says whether they are others
+/// then.
+pub(crate) fn hurt(random: &mut Random, bytes: &mut Vec<u8>) -> bool {
+    let before = bytes.clone();
     for _ in 0..1 + random.below(2) {
         match random.below(6) {
             0 => bytes.truncate(random.below(bytes.len() + 1)),
@@ -134,4 +137,5 @@ pub(crate) fn hurt(random: &mut Random, bytes: &mut Vec<u8>) {
             }
         }
     }
+    *bytes != before
 }
