@@ -69,3 +69,5 @@ away = { $count ->
 }
 
 who = Sylwedydd: { $observer }.
+
+report = { seen } { away } { who }

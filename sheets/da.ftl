@@ -36,3 +36,5 @@ away = { $count ->
 }
 
 who = Observatør: { $observer }.
+
+report = { seen } { away } { who }

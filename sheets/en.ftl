@@ -54,3 +54,5 @@ away = { $count ->
 }
 
 who = Observer: { $observer }.
+
+report = { seen } { away } { who }

@@ -69,3 +69,5 @@ away = { $count ->
 }
 
 who = Наблюдатель: { $observer }.
+
+report = { seen } { away } { who }

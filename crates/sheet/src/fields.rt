@@ -104,22 +104,39 @@ fn with_field(d: &mut [u8], m: Made, option: &[u8], name: &[u8], usual: &[u8]) -
     with_value(d, m, name, &word[..n], place)
 }
 
+fn with_first(d: &mut [u8], m: Made) -> Made {
+    let a = with_field(d, m, b"--species", b"species", b"porpoise");
+    with_field(d, a, b"--count", b"count", b"3")
+}
+
+fn with_second(d: &mut [u8], m: Made) -> Made {
+    let a = with_field(d, m, b"--calves", b"calves", b"1");
+    with_field(d, a, b"--distance", b"distance", b"400")
+}
+
+fn with_third(d: &mut [u8], m: Made) -> Made {
+    let a = with_field(d, m, b"--leg", b"leg", b"7");
+    with_field(d, a, b"--observer", b"observer", b"Anna Berg")
+}
+
 // All six fields.
-pub fn image(d: &mut [u8]) -> Made {
+fn with_all(d: &mut [u8]) -> Made {
     let none = Made {
         at: 7,
         count: 0,
         good: true,
     };
-    let a = with_field(d, none, b"--species", b"species", b"porpoise");
-    let b = with_field(d, a, b"--count", b"count", b"3");
-    let c = with_field(d, b, b"--calves", b"calves", b"1");
-    let e = with_field(d, c, b"--distance", b"distance", b"400");
-    let f = with_field(d, e, b"--leg", b"leg", b"7");
-    let g = with_field(d, f, b"--observer", b"observer", b"Anna Berg");
-    put_header(d, g.at);
-    put_count(d, g.count);
-    g
+    let a = with_first(d, none);
+    let b = with_second(d, a);
+    with_third(d, b)
+}
+
+// The image: the fields, and before them the header and their count.
+pub fn image(d: &mut [u8]) -> Made {
+    let m = with_all(d);
+    put_header(d, m.at);
+    put_count(d, m.count);
+    m
 }
 
 // The count of an image's records, behind its header.

@@ -70,13 +70,15 @@ fn print_figures(f: Figures) {
     io::print_decimal(STDOUT_FILENO, f.work as u64);
 }
 
+fn smoothed(b: u8) -> u8 {
+    if b < 32 { 32 } else { b }
+}
+
 // A control byte would end a line or a part of it: a space stands in its place.
 fn smooth(text: &mut [u8]) {
     let mut i = 0usize;
     while i < text.len() {
-        if text[i] < 32 {
-            text[i] = 32;
-        }
+        text[i] = smoothed(text[i]);
         i += 1;
     }
 }
@@ -238,7 +240,8 @@ fn save_store(store: &[u8]) -> bool {
     if store.len() < n {
         return false;
     }
-    save(b"--save-store", &store[..n])
+    let zero = 0usize;
+    save(b"--save-store", &store[zero..n])
 }
 
 // A language's bundle from its resource image, and its sheet.

@@ -157,6 +157,13 @@ pub fn first_wrong() -> usize {
     0
 }
 
+fn later(same: bool, at: usize, found: usize) -> usize
+    requires { ⌜ (at ≤ 256) × (found ≤ 256) ⌝ }
+    ensures { λ r. ⌜ r ≤ 256 ⌝ }
+{
+    if same { at } else { found }
+}
+
 // The place of the last option `name`, or 0; where `value` is not empty, of the last one with that value.
 fn last(name: &[u8], value: &[u8]) -> usize
     ensures { λ r. ⌜ r ≤ 256 ⌝ }
@@ -165,9 +172,7 @@ fn last(name: &[u8], value: &[u8]) -> usize
     let mut found = 0usize;
     let mut at = 1usize;
     while at < count {
-        if is_option(at, name, value) {
-            found = at;
-        }
+        found = later(is_option(at, name, value), at, found);
         let w = width_at(at);
         if w == 0 {
             return found;

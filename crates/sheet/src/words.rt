@@ -4,9 +4,14 @@ use libc::STDOUT_FILENO;
 use records::Num;
 use texts::Wrote;
 use texts::put_bytes;
+ghost use mathlib.Core.Path.{_≡_};
+ghost use Rattle.texts.specs.Append.{appended};
+ghost use Rattle.sheet.specs.Refusals.{meaning};
 
 // Puts the meaning of a refusal at a position.
-pub fn put_meaning(d: &mut [u8], at: usize, refusal: u8) -> Wrote {
+pub fn put_meaning(d: &mut [u8], at: usize, refusal: u8) -> Wrote
+    ensures { λ r. ⌜ (r, now (d .exit)) ≡ appended (now (d .entry)) at (meaning refusal) ⌝ }
+{
     match refusal {
         1 => put_bytes(d, at, b"the slice has under 9 bytes"),
         2 => put_bytes(d, at, b"the locale is above 3"),
