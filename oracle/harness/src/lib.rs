@@ -17,6 +17,7 @@ pub mod points;
 pub mod random;
 pub mod rust;
 pub mod sentences;
+pub mod sheets;
 pub mod vectors;
 
 pub use expected::{expected, Expected};
