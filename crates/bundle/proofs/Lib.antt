@@ -2,6 +2,7 @@
 pub mod Inside
 pub mod Open
 pub mod Walk
+pub mod Headers
 pub mod Marks
 pub mod Adds
 pub mod Slots

@@ -2,6 +2,7 @@
 // their contracts speak of the bytes at which the decoders of `records` read.
 use images::check_resource;
 use images::check_store;
+use reader::read_header;
 use records::Next;
 use records::Num;
 use records::is_id;
@@ -214,7 +215,9 @@ fn entry_found(s: &[u8], at: Next) -> Found
 pub fn first_in(s: &[u8], at: usize, id: &[u8]) -> Found
     ensures { λ r. ⌜ ((es : List Entry) (f : ℕ) → resourceAt (now (s .entry)) at ≡ got es f → HolderAt (now (s .entry)) (firstEntry (now (id .entry)) es) r) ⌝ }
 {
-    let Num::At(count, start) = read_u16_behind(s, at, 5) else {
+    let header = read_header(s, at);
+    let entries = header.third;
+    let Num::At(count, start) = entries else {
         return Found::Nothing;
     };
     entry_found(s, find_first(s, start, count, id))
@@ -224,7 +227,9 @@ pub fn first_in(s: &[u8], at: usize, id: &[u8]) -> Found
 pub fn last_in(s: &[u8], at: usize, id: &[u8]) -> Found
     ensures { λ r. ⌜ ((es : List Entry) (f : ℕ) → resourceAt (now (s .entry)) at ≡ got es f → HolderAt (now (s .entry)) (lastEntry (now (id .entry)) es) r) ⌝ }
 {
-    let Num::At(count, start) = read_u16_behind(s, at, 5) else {
+    let header = read_header(s, at);
+    let entries = header.third;
+    let Num::At(count, start) = entries else {
         return Found::Nothing;
     };
     entry_found(s, find_last(s, start, count, id))

@@ -100,6 +100,34 @@ selectorNumber = record {
   work = 0;
 }
 
+-- a default stands before the variant that matches: `a = { $n -> *[o] d [1] m }`, n 1: m
+unfoldable pub defaultFirst : Case
+defaultFirst = record {
+  entries = a-message "a" (choice (var "n") (default "o" (say "d" no-more) (numbered "1" (say "m" no-more) no-variant)) no-more) ∷ [];
+  message = ascii "a";
+  arguments = whole "n" 1 ∷ [];
+  text = ascii "m";
+  list = noErrors;
+  errors = 0;
+  begun = 1;
+  unfound = 0;
+  work = 0;
+}
+
+-- a selector's text is freed before the next is made: `a = { { $n } -> *[o] x }{ { $n } -> *[o] y }`, n 10: ⟨x⟩⟨y⟩; never more than two bytes of workspace
+unfoldable pub textsFreed : Case
+textsFreed = record {
+  entries = a-message "a" (choice (nested (inline (var "n"))) (default "o" (say "x" no-more) no-variant) (choice (nested (inline (var "n"))) (default "o" (say "y" no-more) no-variant) no-more)) ∷ [];
+  message = ascii "a";
+  arguments = whole "n" 10 ∷ [];
+  text = ⟨ ++ ascii "x" ++ ⟩ ++ ⟨ ++ ascii "y" ++ ⟩;
+  list = noErrors;
+  errors = 0;
+  begun = 2;
+  unfound = 0;
+  work = 2;
+}
+
 -- `b = { a }`, a the 100: 99 w, then {a}; begun 101.
 unfoldable pub throughAnother : Case
 throughAnother = record {
@@ -121,10 +149,12 @@ pub record Misreadings : Type 0 where
   pub selectorMissing-holds : Holds selectorMissing
   pub selectorText-holds : Holds selectorText
   pub selectorNumber-holds : Holds selectorNumber
+  pub defaultFirst-holds : Holds defaultFirst
+  pub textsFreed-holds : Holds textsFreed
   pub throughAnother-holds : Holds throughAnother
 
 pub misreadings : Misreadings
-unfolding computed ws aloneBare directBare outerCleared selectorMissing selectorText selectorNumber throughAnother
+unfolding computed ws aloneBare directBare outerCleared selectorMissing selectorText selectorNumber defaultFirst textsFreed throughAnother
 misreadings = record {
   aloneBare-holds = refl;
   directBare-holds = refl;
@@ -132,6 +162,8 @@ misreadings = record {
   selectorMissing-holds = refl;
   selectorText-holds = refl;
   selectorNumber-holds = refl;
+  defaultFirst-holds = refl;
+  textsFreed-holds = refl;
   throughAnother-holds = refl;
 }
 

@@ -1,4 +1,5 @@
--- Every error list is far shorter than a u32 can state, so that its limit refuses nothing that the list buffer would take.
+-- Every error list is far shorter than a u32 can state, so that its limit refuses nothing that the list buffer would take; and far fewer lookups find
+-- nothing than a u64 can state.
 use mathlib.Core.Path.{_≡_, refl, ap}
 use mathlib.Core.List.{[], _∷_, _++_}
 use mathlib.Core.Bool.{Bool, true, false}
@@ -23,13 +24,13 @@ use Rattle.resolution.specs.Exec.{listLimit}
 use Rattle.resolution.specs.Format.{maxPatterns, fresh}
 use Rattle.resolution.specs.Finished.{reports, traceOf}
 use Rattle.resolution.proofs.Held.{message-held}
-use Rattle.resolution.proofs.Tally.{tally, tally-append}
+use Rattle.resolution.proofs.Tally.{tally, tally-append, isUnfound}
 use Rattle.resolution.proofs.Counts.{Counted, counted}
 use Rattle.resolution.proofs.Fuel.{ok-fresh}
 use Rattle.resolution.proofs.Costs.{listing, most, allowance, ImageSized, AllImageSized, resolve-cost}
 
--- the bytes of a trace's errors
-listing-length : (t : Trace) → length (encAll encError (reports t)) ≡ tally listing t
+-- the bytes of a trace's errors, and its lookups that found nothing
+listing-length : (t : Trace) → length (encAll encError (reports t)) + tally isUnfound t ≡ tally listing t
 unfolding encAll
 listing-length [] = refl
 listing-length (put b ∷ t) = omega (arith, listing-length t)
@@ -42,7 +43,7 @@ listing-length (keep-text ∷ t) = omega (arith, listing-length t)
 listing-length (free n ∷ t) = omega (arith, listing-length t)
 listing-length (merged n ∷ t) = omega (arith, listing-length t)
 
-list-length : (t : Trace) → length (encErrors (reports t)) ≡ 5 + tally listing t
+list-length : (t : Trace) → length (encErrors (reports t)) + tally isUnfound t ≡ 5 + tally listing t
 unfolding encErrors encWhole
 list-length t =
     let r : Bytes = 1 ∷ encAll encError (reports t) in
@@ -57,23 +58,33 @@ module _ (v : Store) (valid : ValidStore v) where
   unfolding ValidStore maxImage
   all-fit i e h a p q = omega (arith, entry-size (v .items) (valid .1) i e h, part-size a e p q)
 
-  -- the errors that a formatting from a well-formed store reports take no more than 20 million bytes
-  pub list-bound : (st : Setting) (id : Bytes) (e : Entry) (a : Option Bytes) (p : Pattern) → asMessage (findIn (v .items) id) ≡ some e
-      → partOf a e ≡ some p → length (encErrors (reports (traceOf st (findIn (v .items)) p))) ≤ 20000000
+  -- what a formatting from a well-formed store adds to both
+  added : (st : Setting) (id : Bytes) (e : Entry) (a : Option Bytes) (p : Pattern) → asMessage (findIn (v .items) id) ≡ some e → partOf a e ≡ some p
+      → 5 + tally listing (traceOf st (findIn (v .items)) p) ≤ 20000000
   unfolding fresh
-  list-bound st id e a p h q =
+  added st id e a p h q =
       let f : ImageSized p = all-fit id e (message-held (findIn (v .items) id) e h) a p q in
       let c = resolve-cost st (findIn (v .items)) all-fit maxPatterns p (bytesOf p ∷ []) f .bound fresh in
       let out : Out Done = resolve st (findIn (v .items)) maxPatterns p (bytesOf p ∷ []) fresh in
       let n : Counted fresh (out .trace) (out .state) = counted st (findIn (v .items)) maxPatterns p (bytesOf p ∷ []) fresh ok-fresh in
-      omega (arith, c, n .ok .few, list-length (out .trace), allowance-times (out .state .begun))
+      omega (arith, c, n .ok .few, allowance-times (out .state .begun))
+
+  -- the errors that it reports take no more than 20 million bytes
+  pub list-bound : (st : Setting) (id : Bytes) (e : Entry) (a : Option Bytes) (p : Pattern) → asMessage (findIn (v .items) id) ≡ some e
+      → partOf a e ≡ some p → length (encErrors (reports (traceOf st (findIn (v .items)) p))) ≤ 20000000
+  list-bound st id e a p h q = omega (arith, added st id e a p h q, list-length (traceOf st (findIn (v .items)) p))
+
+  -- no more than 20 million of its lookups find nothing
+  pub unfound-bound : (st : Setting) (id : Bytes) (e : Entry) (a : Option Bytes) (p : Pattern) → asMessage (findIn (v .items) id) ≡ some e
+      → partOf a e ≡ some p → tally isUnfound (traceOf st (findIn (v .items)) p) ≤ 20000000
+  unfound-bound st id e a p h q = omega (arith, added st id e a p h q, listing-length (traceOf st (findIn (v .items)) p))
 
   -- at no moment do they take more
   pub prefix-bound : (st : Setting) (id : Bytes) (e : Entry) (a : Option Bytes) (p : Pattern) → asMessage (findIn (v .items) id) ≡ some e
       → partOf a e ≡ some p → (x y : Trace) → traceOf st (findIn (v .items)) p ≡ x ++ y → length (encErrors (reports x)) ≤ 20000000
   prefix-bound st id e a p h q x y d =
       let t : Trace = traceOf st (findIn (v .items)) p in
-      omega (arith, list-bound st id e a p h q, list-length t, list-length x, tally-append listing x y, ap (tally listing) d)
+      omega (arith, added st id e a p h q, list-length x, tally-append listing x y, ap (tally listing) d)
 
 -- so the limit of a u32 is never the nearer one
 pub limit-idle : (n k : ℕ) → n ≤ 20000000 → leb n (listLimit k) ≡ leb n k

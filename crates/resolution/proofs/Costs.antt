@@ -1,4 +1,4 @@
--- How long an error list can get: each placeable's expression reports no more than three times its own bytes.
+-- How long an error list can get, and how many lookups can find nothing: each placeable's expression adds no more to both than three times its own bytes.
 use mathlib.Core.Path.{_≡_, refl, _∙_}
 use mathlib.Core.List.{List, [], _∷_, _++_}
 use mathlib.Core.Bool.{Bool, true, false}
@@ -22,13 +22,13 @@ use Rattle.resolution.specs.Resolve.{Setting, Trail, Given, mark, cutSho
 use Rattle.resolution.proofs.Held.{message-held, term-held}
 use Rattle.resolution.proofs.Tally.{tally, tally-append}
 
--- the bytes that an effect adds to the list
+-- the bytes that an effect adds to the list, and one for a lookup that found nothing
 abbrev pub listing : Effect → ℕ
 listing (put b) = 0
 listing (report e) = length (encError e)
 listing begin = 0
 listing expand = 0
-listing unfound = 0
+listing unfound = 1
 listing open-text = 0
 listing keep-text = 0
 listing (free n) = 0
@@ -112,7 +112,7 @@ unfolding release
 release-cost {m = m} h = record { bound = λ s. omega (arith, h .bound s, tally-append listing (m s .trace) (free (m s .kept) ∷ [])) }
 
 -- what was looked up is known to what follows
-look-cost : {B : Type 0} {w : ℕ} (o : Option Holder) (f : Option Holder → M B) → Costs w B (f o) → Costs w B (lookFor o >>= f)
+look-cost : {B : Type 0} {w : ℕ} (o : Option Holder) (f : Option Holder → M B) → Costs w B (f o) → Costs (1 + w) B (lookFor o >>= f)
 unfolding lookFor _>>=_
 look-cost none f h = record { bound = λ s. omega (arith, h .bound s) }
 look-cost (some x) f h = record { bound = λ s. omega (arith, h .bound s) }
@@ -226,7 +226,7 @@ call-cost g none = ret-cost _
 call-cost g (some (Holder.entry e)) = ret-cost _
 call-cost g (some Holder.function) = none-then (merges-cost _ _) (ret-cost _)
 
-function-cost : (find : Find) (i : Bytes) (g : Given) → Costs 0 (Option Value) (callFunction find i g)
+function-cost : (find : Find) (i : Bytes) (g : Given) → Costs 1 (Option Value) (callFunction find i g)
 unfolding callFunction lookUp
 function-cost find i g = look-cost (find i) (λ o. call g o) (call-cost g (find i))
 
@@ -373,11 +373,11 @@ module _ (find : Find) (fit : AllImageSized find) (cross : Pattern → Trail →
   term-found-cost i a none f = more-cost (reference-most i a) (omega (arith, reference-length Referred.term i a)) (error-cost (reference Referred.term i a) _)
   term-found-cost i a (some e) f = part-cost (reference-most i a) (reference Referred.term i a) _ _ (omega (arith, reference-length Referred.term i a)) (omega arith) (λ p q. f e p refl q)
 
-  message-cost : (i : Bytes) (a : Option Bytes) → Costs (reference-most i a) Done (writeMessage cross trail find i a)
+  message-cost : (i : Bytes) (a : Option Bytes) → Costs (1 + reference-most i a) Done (writeMessage cross trail find i a)
   unfolding writeMessage lookUp
   message-cost i a = look-cost (find i) (λ o. messageFound cross trail i a (asMessage o)) (message-found-cost i a (asMessage (find i)) (λ e p h q. fit i e (message-held (find i) e h) a p q))
 
-  term-cost : (i : Bytes) (a : Option Bytes) (ns : List (Bytes × Value)) → Costs (reference-most i a) Done (writeTerm cross trail find i a ns)
+  term-cost : (i : Bytes) (a : Option Bytes) (ns : List (Bytes × Value)) → Costs (1 + reference-most i a) Done (writeTerm cross trail find i a ns)
   unfolding writeTerm lookUp
   term-cost i a ns =
       let c = term-found-cost i a (asTerm (find i)) (λ e p h q. fit i e (term-held (find i) e h) a p q) in
@@ -424,7 +424,7 @@ module _ (find : Find) (fit : AllImageSized find) (cross : Pattern → Trail →
           more-cost (3 * length (encInline (variable i))) (omega (arith, variable-size i)) (bind-none (variable-cost _ i) (λ v. variable-text-cost i v))
       i-cost (Inline.function i xs ns) f =
           more-cost (3 * length (encInline (Inline.function i xs ns))) (omega (arith, function-size i xs ns))
-          (bind-cost (release-cost (bind-none (g-cost xs ns (omega (arith, function-size i xs ns))) (λ g. function-cost find i g))) (λ v. result-cost i v))
+          (bind-cost (release-cost (bind-cost (g-cost xs ns (omega (arith, function-size i xs ns))) (λ g. function-cost find i g))) (λ v. result-cost i v))
       i-cost (Inline.message i a) f = more-cost (3 * length (encInline (Inline.message i a))) (omega (arith, message-size i a)) (message-cost i a)
       i-cost (Inline.term i a r) f =
           more-cost (3 * length (encInline (Inline.term i a r))) (omega (arith, term-size i a r))
@@ -438,7 +438,7 @@ module _ (find : Find) (fit : AllImageSized find) (cross : Pattern → Trail →
           more-cost (3 * length (encInline (variable i))) (omega (arith, variable-size i)) (bind-none (variable-cost _ i) (λ v. or-wrong-cost v))
       h-cost (Inline.function i xs ns) f =
           more-cost (3 * length (encInline (Inline.function i xs ns))) (omega (arith, function-size i xs ns))
-          (bind-none (release-cost (bind-none (g-cost xs ns (omega (arith, function-size i xs ns))) (λ g. function-cost find i g))) (λ v. or-wrong-cost v))
+          (bind-none (release-cost (bind-cost (g-cost xs ns (omega (arith, function-size i xs ns))) (λ g. function-cost find i g))) (λ v. or-wrong-cost v))
       h-cost (Inline.message i a) f =
           more-cost (3 * length (encInline (Inline.message i a))) (omega (arith, message-size i a)) (held-cost (capture-cost (message-cost i a)))
       h-cost (Inline.term i a r) f =

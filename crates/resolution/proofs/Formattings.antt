@@ -16,9 +16,13 @@ use Rattle.bundle.specs.Lookup.{Find, findIn}
 use Rattle.bundle.specs.Additions.{atFront}
 use Rattle.resolution.specs.Effect.{Bytes}
 use Rattle.resolution.specs.Resolve.{Setting}
-use Rattle.resolution.specs.Exec.{Ran, ran, refused}
+use Rattle.resolution.specs.Exec.{Ran, ran, refused, start}
 use Rattle.resolution.specs.Format.{finished, refusedRunning, Buffers, Formatted, limitsOf, zeros, refuse, orRefuse, ended, runPattern, formatWith, formatArguments, formatPart, formatEntry, formatStore, format}
-use Rattle.resolution.specs.Finished.{listOf, settingOf, Finished, Sound, withWorkspace, Sized}
+use Rattle.resolution.specs.Finished.{listOf, traceOf, settingOf, Finished, Sound, withWorkspace, Sized}
+use Rattle.layout.specs.Exact.{Octets}
+use Rattle.layout.proofs.Theorems.{store-sound}
+use Rattle.resolution.proofs.Runs.{exec-tallied}
+use Rattle.resolution.proofs.Bounded.{unfound-bound}
 use Rattle.resolution.proofs.Within.{Within, within}
 use Rattle.resolution.proofs.Lists.{list-of-front}
 use Rattle.resolution.proofs.Parts.{parts, finish, says}
@@ -45,6 +49,16 @@ module _ (s id : Bytes) (a : Option Bytes) (image : Bytes) (b : Buffers) where
         errors = r;
         placeables = placeables st find (f .part) (limitsOf b) (f .machine) (f .runs);
       }
+
+  -- no more than 20 million of its lookups find nothing
+  pub few-unfound : Octets s → (t e k u w : ℕ) → format s id a image b .answer ≡ finished t e k u w → u ≤ 20000000
+  unfolding runPattern start
+  few-unfound oct t e k u w h =
+      let f : Finished s id a image b = parts s id a image b t e k u w h in
+      let st : Setting = settingOf (f .store) (f .arguments) in
+      let find : Find = findIn (f .store .items) in
+      let r = exec-tallied (limitsOf b) (traceOf st find (f .part)) start (f .machine) (f .runs) in
+      omega (arith, says s id a image b f t e k u w h .unfound, r .unfounds, unfound-bound (f .store) (store-sound s oct (f .stored) .0) st id (f .entry) a (f .part) (f .found) (f .has))
 
   -- the figure answered is no more than the workspace's length
   pub figure-fits : (f : Finished s id a image b) → f .machine .high ≤ length (b .work)

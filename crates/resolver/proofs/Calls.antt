@@ -31,7 +31,7 @@ use Rattle.scope.proofs.Laws.{Stays, stays, here-stays, kept-same, kept-then, r
 use Rattle.scope.proofs.Steps.{runs-as}
 use Rattle.scope.proofs.Release.{release-back, release-over, runs-stopped}
 use Rattle.resolver.proofs.Binds.{look-found, look-lost, given, arguments-then}
-use Rattle.resolver.proofs.Named.{named-value}
+use Rattle.scope.proofs.Values.{named-value}
 use Rattle.resolver.proofs.References.{known-message, known-term, known-function, known-nothing}
 
 -- what was refused stays so: where a later state is not, an earlier one was not

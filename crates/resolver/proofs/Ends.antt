@@ -17,14 +17,23 @@ use Rattle.bundle.specs.Additions.{atFront}
 use Rattle.resolution.specs.Effect.{Bytes}
 use Rattle.resolution.specs.Exec.{Machine, Ran, ran, refused}
 use Rattle.resolution.specs.Format.{Answer, finished, refusedBefore, refusedRunning, Buffers, Formatted, zeros, refuse, orRefuse, ended, formatWith, formatArguments, format, limitsOf, runPattern, valuesOf}
+use Rattle.layout.specs.Exact.{Octets}
+use Rattle.resolution.proofs.Formattings.{few-unfound}
 use Rattle.scope.specs.declared.state.Scope.{Scope}
 use Rattle.scope.specs.Meets.{Env, env, Setup, settingOf, findOf, maxUnfound}
 use Rattle.resolver.specs.declared.format.Answer as code-answer
 use Rattle.resolver.specs.declared.format.Answer.the-variants as ans
 use Rattle.resolver.specs.declared.format.Part as code-part
 use Rattle.resolver.specs.declared.format.Part.the-variants as part-answer
-use Rattle.resolver.specs.Formats.{answerOf, Formats, PatternFound, refuses, finds, RanAs, ran-as, refused-as, RunAt, FinishAt}
+use Rattle.resolver.specs.Formats.{answerOf, stoppedOf, Formats, PatternFound, refuses, finds, RanAs, ran-as, refused-as, RunAt, FinishAt}
 use Rattle.resolver.proofs.Whole.{buffers}
+
+-- the count of lookups unfound is never so high that it stops
+stopped-is : (x : Answer) → ((t e b u w : ℕ) → x ≡ finished t e b u w → u ≤ maxUnfound) → stoppedOf x ≡ answerOf x
+unfolding stoppedOf answerOf
+stopped-is (finished t e b u w) h = let m : min u maxUnfound ≡ u = omega (arith, h t e b u w refl) in ap (λ (j : ℕ). ans.Finished (record { text = t; errors = e; begun = b; unfound = j; work = w })) m
+stopped-is (refusedBefore n) h = refl
+stopped-is (refusedRunning n) h = refl
 
 -- a formatting that the definition refuses before its run
 refused-is : (s id : Bytes) (a : Option Bytes) (image x l w : Bytes) (n : ℕ) {r : code-answer.Answer} → format s id a image (buffers x l w) ≡ refuse n (buffers x l w) → r ≡ ans.Refused n
@@ -61,16 +70,16 @@ module _ (s id : Bytes) (a : Option Bytes) (image x l w : Bytes) {p : code-part.
       format-header small er = found-elim (λ st used pt f hs hp k. refused-is s id a image x l w 7 (k ∙ rw (ha, lt-leb 5 (length l) small)) er)
 
       -- the run
-      pub format-run : {x₁ l₁ w₁ x₂ l₂ w₂ : Bytes} {sc : Scope} {r : code-answer.Answer} → 5 ≤ length l → RunAt (env s image) q x l w x₁ l₁ w₁ sc → FinishAt sc x₁ l₁ w₁ x₂ l₂ w₂ r
+      pub format-run : {x₁ l₁ w₁ x₂ l₂ w₂ : Bytes} {sc : Scope} {r : code-answer.Answer} → Octets s → 5 ≤ length l → RunAt (env s image) q x l w x₁ l₁ w₁ sc → FinishAt sc x₁ l₁ w₁ x₂ l₂ w₂ r
           → Formats s id a image x l w x₂ l₂ w₂ r
       unfolding formatArguments formatWith orRefuse listHeader
-      format-run {r = r} big ru fi = found-elim (λ st used pt f hs hp k.
+      format-run {r = r} oct big ru fi = found-elim (λ st used pt f hs hp k.
           let u : Setup (env s image) = record { held = st; used = used; held-at = hs; given = args; given-end = end; given-at = ha } in
           let o : Ran = runPattern (settingOf (env s image) u) (findOf (env s image) u) (limitsOf (buffers x l w)) pt in
           let g = fi .finishes o x l w (ru .runs u pt f hp big) (ru .text-size) (ru .list-size) (ru .work-size) in
           let d : format s id a image (buffers x l w) ≡ ended o (buffers x l w) = k ∙ rw (ha, le-leb 5 (length l) big) in
           record {
-            answer = g .0 ∙ sym (ap (λ (y : Formatted). answerOf (y .answer)) d);
+            answer = g .0 ∙ sym (ap (λ (y : Formatted). stoppedOf (y .answer)) d) ∙ stopped-is (format s id a image (buffers x l w) .answer) (λ t e b u v h. omega (arith, few-unfound s id a image (buffers x l w) oct t e b u v h));
             text = g .1 ∙ sym (ap (λ (y : Formatted). y .buffers .text) d);
             list = g .2 ∙ sym (ap (λ (y : Formatted). y .buffers .list) d);
             work = g .3 ∙ sym (ap (λ (y : Formatted). y .buffers .work) d);

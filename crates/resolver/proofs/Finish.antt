@@ -21,7 +21,7 @@ use Rattle.scope.specs.Meets.{maxUnfound}
 use Rattle.scope.proofs.Puts.{errors-length}
 use Rattle.resolver.specs.declared.format.Answer as code-answer
 use Rattle.resolver.specs.declared.format.Answer.the-variants as ans
-use Rattle.resolver.specs.Formats.{answerOf, RanAs, ran-as, refused-as, FinishAt}
+use Rattle.resolver.specs.Formats.{stoppedOf, RanAs, ran-as, refused-as, FinishAt}
 use Rattle.resolver.proofs.Whole.{buffers, front-is}
 
 header-size : (n : ℕ) → length (header n) ≡ 5
@@ -49,12 +49,12 @@ list-is es l l₁ n e big room records rest =
     (subst (λ (i : ℕ). drop i (headed l₁ i) ≡ drop i l₁) (sym m) (header-drop l₁ (length (encAll encError es)) (omega arith) (omega arith)) ∙ rest)
 
 abbrev Ends : Ran → Bytes → Bytes → Bytes → Bytes → Bytes → Bytes → code-answer.Answer → Type 0
-Ends o x l w x₂ l₂ w₂ r = (r ≡ answerOf (ended o (buffers x l w) .answer)) × (x₂ ≡ ended o (buffers x l w) .buffers .text) × (l₂ ≡ ended o (buffers x l w) .buffers .list) × (w₂ ≡ ended o (buffers x l w) .buffers .work)
+Ends o x l w x₂ l₂ w₂ r = (r ≡ stoppedOf (ended o (buffers x l w) .answer)) × (x₂ ≡ ended o (buffers x l w) .buffers .text) × (l₂ ≡ ended o (buffers x l w) .buffers .list) × (w₂ ≡ ended o (buffers x l w) .buffers .work)
 
 module _ (sc : Scope) (x₁ l₁ w₁ : Bytes) {x₂ l₂ w₂ : Bytes} {r : code-answer.Answer} where
   -- a run that was refused
   pub finish-cleared : (sc .refused ≡ 0 → ⊥) → x₂ ≡ replicate (length x₁) 0 → l₂ ≡ replicate (length l₁) 0 → w₂ ≡ replicate (length w₁) 0 → r ≡ ans.Cleared (sc .refused) → FinishAt sc x₁ l₁ w₁ x₂ l₂ w₂ r
-  unfolding answerOf ended zeros
+  unfolding stoppedOf ended zeros
   finish-cleared z ex el ew er = record { finishes = λ o x l w h lx ll lw. go o x l w lx ll lw h }
     where
       go : (o : Ran) (x l w : Bytes) → length x₁ ≡ length x → length l₁ ≡ length l → length w₁ ≡ length w → RanAs o x l x₁ l₁ sc → Ends o x l w x₂ l₂ w₂ r
@@ -63,7 +63,7 @@ module _ (sc : Scope) (x₁ l₁ w₁ : Bytes) {x₂ l₂ w₂ : Bytes} {r : cod
 
   -- a run that was not
   pub finish-ran : sc .refused ≡ 0 → x₂ ≡ x₁ → l₂ ≡ headed l₁ (sc .«list_at») → w₂ ≡ replicate (length w₁) 0 → r ≡ ans.Finished (record { text = sc .«text_at»; errors = sc .errors; begun = sc .begun; unfound = sc .unfound; work = sc .high }) → FinishAt sc x₁ l₁ w₁ x₂ l₂ w₂ r
-  unfolding answerOf ended zeros
+  unfolding stoppedOf ended zeros
   finish-ran z ex el ew er = record { finishes = λ o x l w h lx ll lw. go o x l w ll lw h }
     where
       go : (o : Ran) (x l w : Bytes) → length l₁ ≡ length l → length w₁ ≡ length w → RanAs o x l x₁ l₁ sc → Ends o x l w x₂ l₂ w₂ r

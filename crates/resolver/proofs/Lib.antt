@@ -6,7 +6,6 @@ pub mod Inlines
 pub mod Cells
 pub mod Selects
 pub mod Binds
-pub mod Named
 pub mod Tracks
 pub mod References
 pub mod Values

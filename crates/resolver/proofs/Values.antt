@@ -30,7 +30,7 @@ use Rattle.scope.proofs.Steps.{runs-as, runs-over}
 use Rattle.scope.proofs.Capture.{opened, live-opened, ended-capture, holds-capture, capture-stopped, capture-lies, ended-held}
 use Rattle.scope.proofs.Literals.{number-is, literal-ranged, id-short}
 use Rattle.resolver.proofs.Bodies.{string-body, number-body, message-body, term-body, variable-body, nested-body, str-body, function-body}
-use Rattle.resolver.proofs.Named.{string-value}
+use Rattle.scope.proofs.Values.{string-value}
 
 -- a value, or Error where there is none: nothing more is done
 runs-or : (o : Option Value) (w : World) → Runs (orWrong o) w w

@@ -23,11 +23,17 @@ use Rattle.resolver.specs.declared.format.Answer.the-variants as ans
 use Rattle.resolver.specs.declared.format.Part as code-part
 use Rattle.resolver.specs.declared.format.Part.the-variants as part-answer
 
--- the code's answer for the definition's; the count of lookups unfound stops at 2^64 - 1, which no store reaches
+-- the code's answer for the definition's
 unfoldable pub answerOf : Answer → code-answer.Answer
-answerOf (finished t e b u w) = ans.Finished (record { text = t; errors = e; begun = b; unfound = min u maxUnfound; work = w })
+answerOf (finished t e b u w) = ans.Finished (record { text = t; errors = e; begun = b; unfound = u; work = w })
 answerOf (refusedBefore n) = ans.Refused n
 answerOf (refusedRunning n) = ans.Cleared n
+
+-- the same with a count of lookups unfound that stops at 2^64 - 1, as the code counts; no store reaches that
+unfoldable pub stoppedOf : Answer → code-answer.Answer
+stoppedOf (finished t e b u w) = ans.Finished (record { text = t; errors = e; begun = b; unfound = min u maxUnfound; work = w })
+stoppedOf (refusedBefore n) = ans.Refused n
+stoppedOf (refusedRunning n) = ans.Cleared n
 
 -- a formatting: the answer and every byte of the three buffers are what the definition gives
 pub record Formats (s id : Bytes) (a : Option Bytes) (image x l w x′ l′ w′ : Bytes) (r : code-answer.Answer) : Type 0 where
@@ -65,7 +71,7 @@ pub record RunAt (e : Env) (q : ℕ) (x l w x′ l′ w′ : Bytes) (r : Scope) 
 -- what the buffers hold in the end, whatever the run's outcome was
 pub record FinishAt (st : Scope) (x₁ l₁ w₁ x₂ l₂ w₂ : Bytes) (r : code-answer.Answer) : Type 0 where
   pub finishes : (o : Ran) (x l w : Bytes) → RanAs o x l x₁ l₁ st → length x₁ ≡ length x → length l₁ ≡ length l → length w₁ ≡ length w
-      → (r ≡ answerOf (ended o (record { text = x; list = l; work = w }) .answer))
+      → (r ≡ stoppedOf (ended o (record { text = x; list = l; work = w }) .answer))
       × (x₂ ≡ ended o (record { text = x; list = l; work = w }) .buffers .text)
       × (l₂ ≡ ended o (record { text = x; list = l; work = w }) .buffers .list)
       × (w₂ ≡ ended o (record { text = x; list = l; work = w }) .buffers .work)

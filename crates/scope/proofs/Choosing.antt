@@ -21,6 +21,8 @@ use Rattle.numbers.proofs.Shown.{category-shown}
 use Rattle.records.specs.declared.Next.{Next}
 use Rattle.records.specs.declared.Next.the-variants as next
 use Rattle.records.specs.Got.{got, bad, Parser}
+use Rattle.images.specs.Arguments.{between}
+use Rattle.images.proofs.Laws.{between-in}
 use Rattle.records.specs.Bytes.{part, byteAt, numberAt, spanAt}
 use Rattle.records.specs.Names.{sameBytes}
 use Rattle.records.specs.Rules.{isNumber}
@@ -228,6 +230,11 @@ wrong-matches : (locale : ℕ) (k : Key) → matches locale k wrong ≡ false
 unfolding matches
 wrong-matches locale (Key.name k) = refl
 wrong-matches locale (Key.number k) = refl
+
+-- the text that is chosen by is a part of the slice that holds it
+pub chooses-between : (i : List ℕ) (at : ℕ) (r : Next) (l : List ℕ) (b e : ℕ) {t : List ℕ} → t ≡ between l b e
+    → ((locale : ℕ) → PickAt i at (chosen locale (textual t)) r) → b ≤ e → e ≤ length l → (locale : ℕ) → PickAt i at (chosen locale (textual (part l b (e - b)))) r
+chooses-between i at r l b e et k lo hi locale = subst (λ (x : List ℕ). PickAt i at (chosen locale (textual x)) r) (et ∙ between-in l b e lo hi) (k locale)
 
 -- what is held, by the cases of the code's value
 module _ (i a w : List ℕ) where

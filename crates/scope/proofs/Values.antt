@@ -226,7 +226,7 @@ unfolding ret
 ret-value a s = refl
 
 -- the values of named arguments are their texts
-string-value : (t : Bytes) (s : State) → stringValue t s .value ≡ textual (unescape t)
+pub string-value : (t : Bytes) (s : State) → stringValue t s .value ≡ textual (unescape t)
 string-value t s = go (hasBackslash t) refl
   where
     go : (b : Bool) → hasBackslash t ≡ b → stringValue t s .value ≡ textual (unescape t)

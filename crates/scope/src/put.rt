@@ -22,6 +22,7 @@ ghost use Rattle.scope.specs.Meets.{world, Acts, Kept, Holds, ErrorAt, C
 use crate::state::Scope;
 use crate::state::Value;
 use crate::state::refuse;
+use images::text_of;
 use numbers::text::number_text;
 use numbers::types::Number;
 use records::Num;
@@ -185,24 +186,8 @@ pub fn put_value(
     ensures { λ r. ⌜ ((l t : List ℕ) → Kept (world (now (store .entry)) (now (text .entry)) l (now (work .entry)) t st) (world (now (store .entry)) (now (text .exit)) l (now (work .exit)) t r)) × ((v : Rattle.numbers.specs.Value.Value) → Holds (now (store .entry)) (now (args .entry)) (now (work .entry)) (st .back) value v → (l t : List ℕ) → Acts (write (valueText v)) (world (now (store .entry)) (now (text .entry)) l (now (work .entry)) t st) (world (now (store .entry)) (now (text .exit)) l (now (work .exit)) t r)) ⌝ }
 {
     match value {
-        Value::Store(a, e) => {
-            if e < a {
-                return st;
-            }
-            if store.len() < e {
-                return st;
-            }
-            put(text, work, st, &store[a..e])
-        }
-        Value::Args(a, e) => {
-            if e < a {
-                return st;
-            }
-            if args.len() < e {
-                return st;
-            }
-            put(text, work, st, &args[a..e])
-        }
+        Value::Store(a, e) => put(text, work, st, text_of(store, a, e)),
+        Value::Args(a, e) => put(text, work, st, text_of(args, a, e)),
         Value::Work(a, e) => put_work(text, work, st, a, e),
         Value::Number(n) => put_number(text, work, st, n),
         // an empty write, which the definition counts to the highest use of the workspace as any other

@@ -13,9 +13,9 @@ use crate::put::put_error;
 use crate::state::Reference;
 use crate::state::Referring;
 use crate::state::Scope;
+use reader::read_marked;
 use records::Num;
 use records::read_byte;
-use records::read_str;
 use texts::Plain;
 use texts::Referred;
 
@@ -23,10 +23,13 @@ use texts::Referred;
 pub fn read_reference(store: &[u8], at: usize) -> Reference
     ensures { λ r. ⌜ ReferenceIs (now (store .entry)) at r ⌝ }
 {
-    let Num::At(a, e) = read_str(store, at) else {
+    let row = read_marked(store, at);
+    let id = row.first;
+    let Num::At(a, e) = id else {
         return Reference::Bad;
     };
-    let Num::At(flag, p) = read_byte(store, e) else {
+    let mark = row.second;
+    let Num::At(flag, p) = mark else {
         return Reference::Bad;
     };
     if flag == 0 {
@@ -38,7 +41,8 @@ pub fn read_reference(store: &[u8], at: usize) -> Reference
             end: p,
         });
     }
-    let Num::At(b, f) = read_str(store, p) else {
+    let attribute = row.third;
+    let Num::At(b, f) = attribute else {
         return Reference::Bad;
     };
     Reference::Is(Referring {

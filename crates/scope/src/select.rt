@@ -16,6 +16,7 @@ ghost use Rattle.records.specs.Images.{Store, storeOf};
 ghost use Rattle.resolution.specs.Resolve.{matches, firstBy, hasKey, isDefault, chosen};
 ghost use Rattle.scope.specs.Meets.{Holds, PickAt};
 use crate::state::Value;
+use images::text_of;
 use numbers::equal::same_number;
 use numbers::literal::read_literal;
 use numbers::plural::category;
@@ -188,33 +189,9 @@ pub fn choose(s: &[u8], args: &[u8], work: &[u8], value: Value, at: usize) -> Ne
     ensures { λ r. ⌜ ((v : Rattle.numbers.specs.Value.Value) (low : ℕ) (st : Store) (e : ℕ) → Holds (now (s .entry)) (now (args .entry)) (now (work .entry)) low value v → storeOf (now (s .entry)) ≡ got st e → PickAt (now (s .entry)) at (chosen (st .locale) v) r) ⌝ }
 {
     match value {
-        Value::Store(a, e) => {
-            if e < a {
-                return Next::Bad;
-            }
-            if s.len() < e {
-                return Next::Bad;
-            }
-            choose_text(s, at, &s[a..e])
-        }
-        Value::Args(a, e) => {
-            if e < a {
-                return Next::Bad;
-            }
-            if args.len() < e {
-                return Next::Bad;
-            }
-            choose_text(s, at, &args[a..e])
-        }
-        Value::Work(a, e) => {
-            if e < a {
-                return Next::Bad;
-            }
-            if work.len() < e {
-                return Next::Bad;
-            }
-            choose_text(s, at, &work[a..e])
-        }
+        Value::Store(a, e) => choose_text(s, at, text_of(s, a, e)),
+        Value::Args(a, e) => choose_text(s, at, text_of(args, a, e)),
+        Value::Work(a, e) => choose_text(s, at, text_of(work, a, e)),
         Value::Number(n) => choose_number(s, at, n),
         Value::Nothing => find_default(s, at),
         Value::Wrong => find_default(s, at),

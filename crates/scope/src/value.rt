@@ -31,9 +31,8 @@ use numbers::literal::read_literal;
 use numbers::types::Literal;
 use numbers::types::Number;
 use numbers::types::default_options;
+use reader::read_marked;
 use records::Num;
-use records::read_byte;
-use records::read_str;
 use records::same_bytes;
 use texts::Referred;
 use texts::has_backslash;
@@ -58,13 +57,17 @@ pub enum NamedRead {
 pub fn read_named(s: &[u8], at: usize) -> NamedRead
     ensures { λ r. ⌜ NamedReads (now (s .entry)) at r ⌝ }
 {
-    let Num::At(from, to) = read_str(s, at) else {
+    let row = read_marked(s, at);
+    let name = row.first;
+    let Num::At(from, to) = name else {
         return NamedRead::Bad;
     };
-    let Num::At(tag, p) = read_byte(s, to) else {
+    let mark = row.second;
+    let Num::At(tag, _) = mark else {
         return NamedRead::Bad;
     };
-    let Num::At(start, end) = read_str(s, p) else {
+    let text = row.third;
+    let Num::At(start, end) = text else {
         return NamedRead::Bad;
     };
     NamedRead::Is(NamedSpan {

@@ -18,6 +18,7 @@ ghost use Rattle.records.specs.Images.{Store, storeOf};
 ghost use Rattle.bundle.specs.Meets.{Passes};
 ghost use Rattle.resolution.specs.Resolve.{bare, onTrail};
 ghost use Rattle.walks.specs.Trail.{patternBytes, trailOf, EndAt};
+use reader::read_size;
 use records::Next;
 use records::Num;
 use records::read_byte;
@@ -262,13 +263,15 @@ pub fn locale_of(s: &[u8]) -> u8
 fn pattern_end(s: &[u8], p: usize) -> Next
     ensures { λ r. ⌜ EndAt (now (s .entry)) p r ⌝ }
 {
-    let Num::At(n, q) = read_u32(s, p) else {
+    let r = read_size(s, p);
+    let size = r.size;
+    let Num::At(n, _) = size else {
         return Next::Bad;
     };
-    if s.len() - q < n {
+    if r.left < n {
         return Next::At(s.len());
     }
-    Next::At(q + n)
+    Next::At(r.at + n)
 }
 
 // Have the patterns at a and b the same bytes?
