@@ -189,7 +189,9 @@ module _ {M : Type 1} (𝓤 : URA M) (H : Heap 𝓤) (A : Atoms 𝓤) (W : Given
   apart : ent 𝓤 (⋆ 𝓤 H A (Alive ∷ ‵ Owns ∷ [])) (⋆ 𝓤 H A (Rest ∷ ‵ (TrailAt t) ∷ ‵ (flft κ₅ q₅) ∷ []))
   apart =
       qed W (Alive ∷ ‵ Owns ∷ []) ∵
-      split ! $ move ! (1 ∷ []) $ split ! $ move ! (1 ∷ []) $ split ! $ move ! (1 ∷ []) $ split ! $ move ! (1 ∷ []) $ split ! $ move ! (1 ∷ []) $ split ! $ move ! (7 ∷ []) $ fsplit ! $ move ! (1 ∷ []) $ fsplit ! $ move ! (1 ∷ []) $ fsplit ! $ move ! (1 ∷ []) $ fsplit ! $ move ! (1 ∷ []) $ fsplit ! $ move ! (1 ∷ []) $ fsplit ! $ move ! (3 ∷ 2 ∷ []) $ join ! $ move ! (3 ∷ 0 ∷ []) $ join ! $ move ! (3 ∷ 0 ∷ []) $ join ! $ move ! (3 ∷ 0 ∷ []) $ join ! $ move ! (5 ∷ 0 ∷ []) $ join ! $ move ! (5 ∷ 0 ∷ []) $ join ! $ move ! (5 ∷ 0 ∷ []) $ join ! $ move ! (5 ∷ 0 ∷ []) $ join ! $ move ! (5 ∷ 0 ∷ []) $ join ! $ frame ! $ frame ! $ keep ! (1 ∷ []) $ done !
+      split ! $ move ! (1 ∷ []) $ split ! $ move ! (1 ∷ []) $ split ! $ move ! (1 ∷ []) $ split ! $ move ! (1 ∷ []) $ split ! $ move ! (1 ∷ []) $ split ! $ move ! (7 ∷ []) $ fsplit ! $ move ! (1 ∷ []) $ fsplit ! $ move ! (1 ∷ []) $ fsplit ! $
+      move ! (1 ∷ []) $ fsplit ! $ move ! (1 ∷ []) $ fsplit ! $ move ! (1 ∷ []) $ fsplit ! $ move ! (3 ∷ 2 ∷ []) $ join ! $ move ! (3 ∷ 0 ∷ []) $ join ! $ move ! (3 ∷ 0 ∷ []) $ join ! $ move ! (3 ∷ 0 ∷ []) $ join ! $ move ! (5 ∷ 0 ∷ []) $ join ! $
+      move ! (5 ∷ 0 ∷ []) $ join ! $ move ! (5 ∷ 0 ∷ []) $ join ! $ move ! (5 ∷ 0 ∷ []) $ join ! $ move ! (5 ∷ 0 ∷ []) $ join ! $ frame ! $ frame ! $ keep ! (1 ∷ []) $ done !
 
   -- the call of `new`: what its triple binds outside, that the caller has what it asks, and what it says
   abbrev to-new : New 𝓤 H A at-mem run .Ghost
@@ -210,15 +212,18 @@ module _ {M : Type 1} (𝓤 : URA M) (H : Heap 𝓤) (A : Atoms 𝓤) (W : Given
       (Enter 𝓤 H A at-mem run .pre (to-enter ν μ δ ζ b))
   goes-enter ν μ δ ζ b =
       qed W ((‵ (flft (ν ∷ []) fullShare) ⊛ ‵ (flft (μ ∷ []) fullShare)) ∷ (‵ (MutRef (named 0) (ν ∷ []) Trail .own (t-at δ (t .now)) (vptr (t .ptr .0) (t .ptr .1) ∷ [])) ⊛ ‵ (MutRef (named 1) (μ ∷ []) R .own (c-at ζ b h) (vptr b 0 ∷ []))) ∷ []) ∵
-      split ! $ nothing ! $ move ! (2 ∷ 0 ∷ []) $ join ! $ move ! (1 ∷ 0 ∷ []) $ join ! $ move ! (1 ∷ []) $ split ! $ nothing ! $ owned ! usize (Is usize) (uint-makes 𝓤 H A W w64) n _ (refl, n-fits) $ fjoin ! $ move ! (2 ∷ 0 ∷ []) $ fjoin ! $ move ! (1 ∷ 0 ∷ []) $ fjoin ! $ move ! (1 ∷ 0 ∷ []) $ join ! $ frame ! $ done !
+      split ! $ nothing ! $ move ! (2 ∷ 0 ∷ []) $ join ! $ move ! (1 ∷ 0 ∷ []) $ join ! $ move ! (1 ∷ []) $ split ! $ nothing ! $ owned ! usize (Is usize) (uint-makes 𝓤 H A W w64) n _ (refl, n-fits) $ fjoin ! $ move ! (2 ∷ 0 ∷ []) $ fjoin ! $
+      move ! (1 ∷ 0 ∷ []) $ fjoin ! $ move ! (1 ∷ 0 ∷ []) $ join ! $ frame ! $ done !
 
   gives-enter : (ν μ : ℕ) (δ ζ : GName) (b : ℕ) (v : Val)
       → ent 𝓤 (Enter 𝓤 H A at-mem run .post (to-enter ν μ δ ζ b) v) (H .⇛ (guard 𝓤 (v ≡ vunit) (⋆ 𝓤 H A (‵ (flft (ν ∷ []) fullShare) ∷ ‵ (flft (μ ∷ []) fullShare) ∷ ‵ (fres δ (Trail .coded .code ts₁)) ∷ ‵ (fres ζ (R .coded .code h₁)) ∷ []))))
   gives-enter ν μ δ ζ b v =
       qed W (raw (Enter 𝓤 H A at-mem run .post (to-enter ν μ δ ζ b) v) ∷ []) ∵
       updating ! $
-      use1 W (later (some (λ (r : Unit {0}). ((‵ (flft (ν ∷ []) fullShare) ⊛ ‵ (flft (μ ∷ []) fullShare) ⊛ ‵ ftrue) ⊛ ‵ (Nothing .own r (v ∷ []))) ⊛ raw (ensured 𝓤 H A enter′.ended (enter′.clauses 𝓤 H A at-mem run) (ν ∷ [], (μ ∷ [], tt)) (t-at δ (t .now), (c-at ζ b h, (n, tt))) tt r)))) (id⊢ 𝓤 _) $ await ! tt $ pick ! (λ r. split ! $ move ! (1 ∷ []) $
-      use1 W (some (λ (zs : List ℕ × (Scope × (Unit {0} × Unit {0}))). ‵ (lasts enter′.ended (ν ∷ [], (μ ∷ [], tt)) (t-at δ (t .now), (c-at ζ b h, (n, tt))) zs) ⊛ raw (fact 𝓤 ((zs .1 .0 ≡ h₁) × (zs .0 ≡ ts₁))))) (id⊢ 𝓤 _) $ pick ! (λ zs. split ! $ move ! (1 ∷ []) $ heard ! ((zs .1 .0 ≡ h₁) × (zs .0 ≡ ts₁)) (λ e. fsplit ! $ move ! (1 ∷ []) $ fsplit ! $
+      use1 W (later (some (λ (r : Unit {0}). ((‵ (flft (ν ∷ []) fullShare) ⊛ ‵ (flft (μ ∷ []) fullShare) ⊛ ‵ ftrue) ⊛ ‵ (Nothing .own r (v ∷ []))) ⊛ raw (ensured 𝓤 H A enter′.ended (enter′.clauses 𝓤 H A at-mem run) (ν ∷ [], (μ ∷ [], tt)) (t-at δ (t .now), (c-at ζ b h, (n, tt))) tt r)))) (id⊢ 𝓤 _) $
+      await ! tt $ pick ! (λ r. split ! $ move ! (1 ∷ []) $
+      use1 W (some (λ (zs : List ℕ × (Scope × (Unit {0} × Unit {0}))). ‵ (lasts enter′.ended (ν ∷ [], (μ ∷ [], tt)) (t-at δ (t .now), (c-at ζ b h, (n, tt))) zs) ⊛ raw (fact 𝓤 ((zs .1 .0 ≡ h₁) × (zs .0 ≡ ts₁))))) (id⊢ 𝓤 _) $ pick ! (λ zs. split ! $
+      move ! (1 ∷ []) $ heard ! ((zs .1 .0 ≡ h₁) × (zs .0 ≡ ts₁)) (λ e. fsplit ! $ move ! (1 ∷ []) $ fsplit ! $
       rewrite ! 0 (λ (y : Scope). ‵ (fres ζ (R .coded .code y))) (e .0) refl $ rewrite ! 2 (λ (y : List ℕ). ‵ (fres δ (Trail .coded .code y))) (e .1) refl $
       move ! (3 ∷ []) $ split ! $ move ! (1 ∷ []) $ feqL ! (λ e′. at-once ! $ check ! (ap only e′) $ split ! $ move ! (1 ∷ []) $ split ! $ move ! (2 ∷ []) $ frame ! $ frame ! $ move ! (3 ∷ []) $ frame ! $ keep ! (1 ∷ []) $ done !))))
 
@@ -236,12 +241,17 @@ module _ {M : Type 1} (𝓤 : URA M) (H : Heap 𝓤) (A : Atoms 𝓤) (W : Given
       → ent 𝓤 (⋆ 𝓤 H A (Rest ∷ (‵ (TrailAt t₁) ⊛ ‵ (flft κ₅ q₅)) ∷ (‵ (flft (ρ ∷ []) fullShare) ⊛ ‵ (MutRef (named 6) (ρ ∷ []) R .own (c-at η b h₁) (vptr b 0 ∷ []))) ∷ [])) (Write 𝓤 H A at-mem run .pre (to-write ρ η b))
   goes-write ρ η b =
       qed W (Rest ∷ (‵ (TrailAt t₁) ⊛ ‵ (flft κ₅ q₅)) ∷ (‵ (flft (ρ ∷ []) fullShare) ⊛ ‵ (MutRef (named 6) (ρ ∷ []) R .own (c-at η b h₁) (vptr b 0 ∷ []))) ∷ []) ∵
-      split ! $ move ! (1 ∷ []) $ split ! $ move ! (1 ∷ []) $ split ! $ move ! (1 ∷ []) $ split ! $ move ! (1 ∷ []) $ split ! $ move ! (1 ∷ []) $ split ! $ move ! (1 ∷ []) $ split ! $ move ! (1 ∷ []) $ split ! $ move ! (1 ∷ []) $ split ! $ move ! (10 ∷ []) $ split ! $ move ! (12 ∷ []) $ split ! $ nothing ! $ move ! (1 ∷ 0 ∷ []) $ join ! $ move ! (3 ∷ 0 ∷ []) $ join ! $ move ! (8 ∷ 0 ∷ []) $ join ! $ move ! (8 ∷ 0 ∷ []) $ join ! $ move ! (8 ∷ 0 ∷ []) $ join ! $ move ! (8 ∷ 0 ∷ []) $ join ! $ move ! (8 ∷ 0 ∷ []) $ join ! $ nothing ! $ owned ! usize (Is usize) (uint-makes 𝓤 H A W w64) n _ (refl, n-fits) $ fjoin ! $ owned ! usize (Is usize) (uint-makes 𝓤 H A W w64) 32 _ (refl, deepest-fits) $ fjoin ! $ move ! (2 ∷ 0 ∷ []) $ fjoin ! $ move ! (2 ∷ 0 ∷ []) $ fjoin ! $ move ! (3 ∷ 0 ∷ []) $ fjoin ! $ move ! (2 ∷ 0 ∷ []) $ fjoin ! $ move ! (2 ∷ 0 ∷ []) $ fjoin ! $ move ! (2 ∷ 0 ∷ []) $ fjoin ! $ move ! (2 ∷ 0 ∷ []) $ fjoin ! $ move ! (1 ∷ 0 ∷ []) $ join ! $ frame ! $ done !
+      split ! $ move ! (1 ∷ []) $ split ! $ move ! (1 ∷ []) $ split ! $ move ! (1 ∷ []) $ split ! $ move ! (1 ∷ []) $ split ! $ move ! (1 ∷ []) $ split ! $ move ! (1 ∷ []) $ split ! $ move ! (1 ∷ []) $ split ! $ move ! (1 ∷ []) $ split ! $
+      move ! (10 ∷ []) $ split ! $ move ! (12 ∷ []) $ split ! $ nothing ! $ move ! (1 ∷ 0 ∷ []) $ join ! $ move ! (3 ∷ 0 ∷ []) $ join ! $ move ! (8 ∷ 0 ∷ []) $ join ! $ move ! (8 ∷ 0 ∷ []) $ join ! $ move ! (8 ∷ 0 ∷ []) $ join ! $
+      move ! (8 ∷ 0 ∷ []) $ join ! $ move ! (8 ∷ 0 ∷ []) $ join ! $ nothing ! $ owned ! usize (Is usize) (uint-makes 𝓤 H A W w64) n _ (refl, n-fits) $ fjoin ! $ owned ! usize (Is usize) (uint-makes 𝓤 H A W w64) 32 _ (refl, deepest-fits) $ fjoin ! $
+      move ! (2 ∷ 0 ∷ []) $ fjoin ! $ move ! (2 ∷ 0 ∷ []) $ fjoin ! $ move ! (3 ∷ 0 ∷ []) $ fjoin ! $ move ! (2 ∷ 0 ∷ []) $ fjoin ! $ move ! (2 ∷ 0 ∷ []) $ fjoin ! $ move ! (2 ∷ 0 ∷ []) $ fjoin ! $ move ! (2 ∷ 0 ∷ []) $ fjoin ! $
+      move ! (1 ∷ 0 ∷ []) $ join ! $ frame ! $ done !
 
   tokens : (ρ : ℕ) → ent 𝓤 (⋆ 𝓤 H A (Alive₇ ρ ∷ [])) (⋆ 𝓤 H A (‵ (flft (ρ ∷ []) fullShare) ∷ Alive ∷ []))
   tokens ρ =
       qed W (Alive₇ ρ ∷ []) ∵
-      split ! $ move ! (1 ∷ []) $ split ! $ move ! (1 ∷ []) $ split ! $ move ! (1 ∷ []) $ split ! $ move ! (1 ∷ []) $ split ! $ move ! (1 ∷ []) $ split ! $ move ! (1 ∷ []) $ split ! $ move ! (2 ∷ 1 ∷ []) $ join ! $ move ! (2 ∷ 0 ∷ []) $ join ! $ move ! (2 ∷ 0 ∷ []) $ join ! $ move ! (2 ∷ 0 ∷ []) $ join ! $ move ! (2 ∷ 0 ∷ []) $ join ! $ move ! (2 ∷ 0 ∷ []) $ join ! $ move ! (1 ∷ []) $ frame ! $ keep ! (0 ∷ []) $ done !
+      split ! $ move ! (1 ∷ []) $ split ! $ move ! (1 ∷ []) $ split ! $ move ! (1 ∷ []) $ split ! $ move ! (1 ∷ []) $ split ! $ move ! (1 ∷ []) $ split ! $ move ! (1 ∷ []) $ split ! $ move ! (2 ∷ 1 ∷ []) $ join ! $ move ! (2 ∷ 0 ∷ []) $ join ! $
+      move ! (2 ∷ 0 ∷ []) $ join ! $ move ! (2 ∷ 0 ∷ []) $ join ! $ move ! (2 ∷ 0 ∷ []) $ join ! $ move ! (2 ∷ 0 ∷ []) $ join ! $ move ! (1 ∷ []) $ frame ! $ keep ! (0 ∷ []) $ done !
 
   -- what says the last values of the slices and of the trail
   abbrev last-of : RefT (List ℕ) → List ℕ → Fml
@@ -253,7 +263,8 @@ module _ {M : Type 1} (𝓤 : URA M) (H : Heap 𝓤) (A : Atoms 𝓤) (W : Given
   parts : (ρ : ℕ) (η : GName) (b : ℕ) (zs : Zs) → ent 𝓤 (⋆ 𝓤 H A (‵ (lasts write.ended (κs₇ ρ) (xs₇ η b) zs) ∷ [])) (⋆ 𝓤 H A (‵ (fres η (R .coded .code (zs .1 .1 .1 .1 .1 .1 .0))) ∷ Kept zs ∷ []))
   parts ρ η b zs =
       qed W (‵ (lasts write.ended (κs₇ ρ) (xs₇ η b) zs) ∷ []) ∵
-      fsplit ! $ move ! (1 ∷ []) $ fsplit ! $ move ! (1 ∷ []) $ fsplit ! $ move ! (1 ∷ []) $ fsplit ! $ move ! (1 ∷ []) $ fsplit ! $ move ! (1 ∷ []) $ fsplit ! $ move ! (1 ∷ []) $ fsplit ! $ move ! (3 ∷ 2 ∷ []) $ join ! $ move ! (3 ∷ 0 ∷ []) $ join ! $ move ! (3 ∷ 0 ∷ []) $ join ! $ move ! (1 ∷ []) $ frame ! $ keep ! (0 ∷ []) $ done !
+      fsplit ! $ move ! (1 ∷ []) $ fsplit ! $ move ! (1 ∷ []) $ fsplit ! $ move ! (1 ∷ []) $ fsplit ! $ move ! (1 ∷ []) $ fsplit ! $ move ! (1 ∷ []) $ fsplit ! $ move ! (1 ∷ []) $ fsplit ! $ move ! (3 ∷ 2 ∷ []) $ join ! $ move ! (3 ∷ 0 ∷ []) $
+      join ! $ move ! (3 ∷ 0 ∷ []) $ join ! $ move ! (1 ∷ []) $ frame ! $ keep ! (0 ∷ []) $ done !
 
   -- what `write` ensures
   abbrev Said : Zs → Type 0
@@ -262,34 +273,46 @@ module _ {M : Type 1} (𝓤 : URA M) (H : Heap 𝓤) (A : Atoms 𝓤) (W : Given
   exits : (w : Val) (zs : Zs) → Said zs → ent 𝓤 (⋆ 𝓤 H A (‵ (R .own (zs .1 .1 .1 .1 .1 .1 .0) (w ∷ [])) ∷ Alive ∷ Kept zs ∷ [])) (Post w)
   exits w zs e =
       qed W (‵ (R .own (zs .1 .1 .1 .1 .1 .1 .0) (w ∷ [])) ∷ Alive ∷ Kept zs ∷ []) ∵
-      move ! (2 ∷ []) $ split ! $ move ! (1 ∷ []) $ split ! $ move ! (1 ∷ []) $ split ! $ move ! (3 ∷ []) $ fsplit ! $ move ! (1 ∷ []) $ feqL ! (λ i. move ! (3 ∷ []) $ fsplit ! $ move ! (1 ∷ []) $ feqL ! (λ j. move ! (2 ∷ []) $ fsplit ! $ move ! (1 ∷ []) $ feqL ! (λ o.
-      suffices ! _ (ends-at 𝓤 H A resolve.ended stayed (resolve.clauses 𝓤 H A at-mem run) W ((κs, qs, tt, xs, at), tt) w (zs .1 .1 .1 .1 .1 .1 .0) (tt, (tt, (zs .1 .1 .0, (zs .1 .1 .1 .0, (zs .1 .1 .1 .1 .0, (zs .1 .1 .1 .1 .1 .0, (tt, tt))))))) (tt, (tt, (i, (j, (o, (tt, (tt, tt)))))))) $ says ! e $
-      move ! (5 ∷ []) $ frame ! $ nothing ! $ nothing ! $ fjoin ! $ move ! (4 ∷ 0 ∷ []) $ fjoin ! $ move ! (1 ∷ 0 ∷ []) $ fjoin ! $ move ! (1 ∷ 0 ∷ []) $ fjoin ! $ move ! (1 ∷ 0 ∷ []) $ fjoin ! $ nothing ! $ fjoin ! $ nothing ! $ fjoin ! $ frame ! $ keep ! (0 ∷ []) $ done !)))
+      move ! (2 ∷ []) $ split ! $ move ! (1 ∷ []) $ split ! $ move ! (1 ∷ []) $ split ! $ move ! (3 ∷ []) $ fsplit ! $ move ! (1 ∷ []) $ feqL ! (λ i. move ! (3 ∷ []) $ fsplit ! $ move ! (1 ∷ []) $ feqL ! (λ j. move ! (2 ∷ []) $ fsplit ! $
+      move ! (1 ∷ []) $ feqL ! (λ o.
+      suffices ! _ (ends-at 𝓤 H A resolve.ended stayed (resolve.clauses 𝓤 H A at-mem run) W ((κs, qs, tt, xs, at), tt) w (zs .1 .1 .1 .1 .1 .1 .0) (tt, (tt, (zs .1 .1 .0, (zs .1 .1 .1 .0, (zs .1 .1 .1 .1 .0, (zs .1 .1 .1 .1 .1 .0, (tt, tt))))))) (tt, (tt, (i, (j, (o, (tt, (tt, tt)))))))) $
+      says ! e $
+      move ! (5 ∷ []) $ frame ! $ nothing ! $ nothing ! $ fjoin ! $ move ! (4 ∷ 0 ∷ []) $ fjoin ! $ move ! (1 ∷ 0 ∷ []) $ fjoin ! $ move ! (1 ∷ 0 ∷ []) $ fjoin ! $ move ! (1 ∷ 0 ∷ []) $ fjoin ! $ nothing ! $ fjoin ! $ nothing ! $ fjoin ! $
+      frame ! $ keep ! (0 ∷ []) $ done !)))
 
   module _ (C : Calls 𝓤 H) (Λ : Loops 𝓤 H) (fm : FmC 𝓤 H (W .laws) C) (known-new : Triple 𝓤 (C #new) (New 𝓤 H A at-mem run)) (known-enter : Triple 𝓤 (C #enter) (Enter 𝓤 H A at-mem run)) (known-write : Triple 𝓤 (C #write) (Write 𝓤 H A at-mem run)) where
     walk : Room u8 (length (s .now)) → Room u8 (length (g .now)) → Room u8 (length (x .now)) → Room u8 (length (l .now)) → Room u8 (length (k .now))
         → ent 𝓤 (onEntry 𝓤 H A resolve.signature κs qs xs at) (WpFn 𝓤 H C Λ code.function (sv s ∷ sv g ∷ sv x ∷ sv l ∷ sv k ∷ vptr (t .ptr .0) (t .ptr .1) ∷ vint w64 n ∷ []) Post)
     walk rs rg rx rl rk =
         qed W (Alive ∷ ‵ Owns ∷ []) ∵ enter ! C Λ code.function (sv s ∷ sv g ∷ sv x ∷ sv l ∷ sv k ∷ vptr (t .ptr .0) (t .ptr .1) ∷ vint w64 n ∷ []) _ $
-        alloc1 ! (λ l₀. alloc1 ! (λ l₁. alloc1 ! (λ l₂. alloc1 ! (λ l₃. alloc1 ! (λ l₄. alloc1 ! (λ l₅. alloc1 ! (λ l₆. alloc1 ! (λ l₇. alloc1 ! (λ l₈. alloc1 ! (λ l₉. alloc1 ! (λ l₁₀. alloc1 ! (λ l₁₁. alloc1 ! (λ l₁₂. alloc1 ! (λ l₁₃. alloc1 ! (λ l₁₄. alloc1 ! (λ l₁₅. alloc1 ! (λ l₁₆. alloc1 ! (λ l₁₇. alloc1 ! (λ l₁₈. alloc1 ! (λ l₁₉. alloc1 ! (λ l₂₀. alloc1 ! (λ l₂₁. alloc0 ! $ params1 ! $
-        pass1 ! (init ! 40 refl (tt, (tt, (record { fits = rs .0 }, tt)))) $ pass1 ! (init ! 38 refl (tt, (tt, (record { fits = rg .0 }, tt)))) $ pass1 ! (init ! 36 refl (tt, (tt, (record { fits = rx .0 }, tt)))) $ pass1 ! (init ! 34 refl (tt, (tt, (record { fits = rl .0 }, tt)))) $ pass1 ! (init ! 32 refl (tt, (tt, (record { fits = rk .0 }, tt)))) $ pass1 ! (init ! 30 refl (tt, tt)) $ pass1 ! (init ! 28 refl (tt, record { fits = n-fits })) $ pass0 ! $
+        alloc1 ! (λ l₀. alloc1 ! (λ l₁. alloc1 ! (λ l₂. alloc1 ! (λ l₃. alloc1 ! (λ l₄. alloc1 ! (λ l₅. alloc1 ! (λ l₆. alloc1 ! (λ l₇. alloc1 ! (λ l₈. alloc1 ! (λ l₉. alloc1 ! (λ l₁₀. alloc1 ! (λ l₁₁. alloc1 ! (λ l₁₂. alloc1 ! (λ l₁₃. alloc1 ! (λ l₁₄. alloc1 ! (λ l₁₅. alloc1 ! (λ l₁₆. alloc1 ! (λ l₁₇. alloc1 ! (λ l₁₈. alloc1 ! (λ l₁₉. alloc1 ! (λ l₂₀. alloc1 ! (λ l₂₁. alloc0 ! $
+        params1 ! $
+        pass1 ! (init ! 40 refl (tt, (tt, (record { fits = rs .0 }, tt)))) $ pass1 ! (init ! 38 refl (tt, (tt, (record { fits = rg .0 }, tt)))) $ pass1 ! (init ! 36 refl (tt, (tt, (record { fits = rx .0 }, tt)))) $
+        pass1 ! (init ! 34 refl (tt, (tt, (record { fits = rl .0 }, tt)))) $ pass1 ! (init ! 32 refl (tt, (tt, (record { fits = rk .0 }, tt)))) $ pass1 ! (init ! 30 refl (tt, tt)) $ pass1 ! (init ! 28 refl (tt, record { fits = n-fits })) $
+        pass0 ! $
         move ! (44 ∷ 45 ∷ []) $ use2 W (Rest ⊛ ‵ (TrailAt t) ⊛ ‵ (flft κ₅ q₅)) apart $ split ! $ move ! (1 ∷ []) $ split ! $
         -- [the trail; its token; the slices; the locals]
         assigns ! (of-opd ! (load ! (from ! (fld ! refl (stop !))) (look-in ! 35 (sub ! 1 refl (whole !))))) (from ! (stop !)) (init ! 25 refl (tt, record { fits = rk .0 })) $
         -- `new`
         use0 W (raw (New 𝓤 H A at-mem run .pre to-new)) (goes-new (rk .0)) $ calls-at ! fm (New 𝓤 H A at-mem run) known-new to-new (and-then ! (load ! (from ! (stop !)) (look ! 26 refl)) (no-more !)) (λ u.
-        use1 W (later (some (λ (r : Scope). (‵ ftrue ⊛ ‵ (R .own r (u ∷ []))) ⊛ raw (ensured 𝓤 H A new.ended (new.clauses 𝓤 H A at-mem run) tt (length (k .now), tt) tt r)))) (id⊢ 𝓤 _) $ await ! tt $ pick ! (λ r₀. split ! $ move ! (1 ∷ []) $ use1 W (raw (fact 𝓤 (r₀ ≡ h))) (new-said r₀) $ heard ! (r₀ ≡ h) (λ e₁.
-        split ! $ rewrite ! 1 (λ (y : Scope). ‵ (R .own y (u ∷ []))) e₁ refl $ move ! (1 ∷ []) $ peeks ! R (Is R) (shows 𝓤 H A R) h (u ∷ []) (λ is. land ! (from ! (stop !)) (init ! 29 refl (LL.lawful T.the-type T′.the-laws 𝓤 H A W .typed h _ is .0)) $
+        use1 W (later (some (λ (r : Scope). (‵ ftrue ⊛ ‵ (R .own r (u ∷ []))) ⊛ raw (ensured 𝓤 H A new.ended (new.clauses 𝓤 H A at-mem run) tt (length (k .now), tt) tt r)))) (id⊢ 𝓤 _) $ await ! tt $ pick ! (λ r₀. split ! $ move ! (1 ∷ []) $
+        use1 W (raw (fact 𝓤 (r₀ ≡ h))) (new-said r₀) $ heard ! (r₀ ≡ h) (λ e₁.
+        split ! $ rewrite ! 1 (λ (y : Scope). ‵ (R .own y (u ∷ []))) e₁ refl $ move ! (1 ∷ []) $
+        peeks ! R (Is R) (shows 𝓤 H A R) h (u ∷ []) (λ is. land ! (from ! (stop !)) (init ! 29 refl (LL.lawful T.the-type T′.the-laws 𝓤 H A W .typed h _ is .0)) $
         assigns ! (of-opd ! (load ! (from ! (stop !)) (look ! 29 refl))) (from ! (stop !)) (init ! 31 refl (LL.lawful T.the-type T′.the-laws 𝓤 H A W .typed h _ is .0)) $
         assigns ! (addr ! (from ! (hop ! (look ! 35 refl) (stop !)))) (from ! (stop !)) (init ! 23 refl (tt, tt)) $
         assigns ! (addr ! (from ! (stop !))) (from ! (stop !)) (init ! 21 refl (tt, tt)) $
         -- the trail is lent again for a lifetime ν, and the scope for a lifetime μ
-        lft-new ! tt (λ ν. move ! (3 ∷ 4 ∷ []) $ use2 W (later (some (λ (δ : GName). ‵ (MutRef (named 0) (ν ∷ []) Trail .own (t-at δ (t .now)) (vptr (t .ptr .0) (t .ptr .1) ∷ [])) ⊛ ‵ (LentAgain Trail κ₅ (ν ∷ []) q₅ (t .name) (t .ptr .0) (t .ptr .1) δ (t .now))))) (lends-again 𝓤 H A W Trail (named 5) κ₅ (ν ∷ []) q₅ (t .name) (t .ptr .0) (t .ptr .1) (named 0) (t .now)) $ await ! tt $ pick ! (λ δ. split ! $
+        lft-new ! tt (λ ν. move ! (3 ∷ 4 ∷ []) $
+        use2 W (later (some (λ (δ : GName). ‵ (MutRef (named 0) (ν ∷ []) Trail .own (t-at δ (t .now)) (vptr (t .ptr .0) (t .ptr .1) ∷ [])) ⊛ ‵ (LentAgain Trail κ₅ (ν ∷ []) q₅ (t .name) (t .ptr .0) (t .ptr .1) δ (t .now))))) (lends-again 𝓤 H A W Trail (named 5) κ₅ (ν ∷ []) q₅ (t .name) (t .ptr .0) (t .ptr .1) (named 0) (t .now)) $
+        await ! tt $ pick ! (λ δ. split ! $
         lft-new ! tt (λ μ. move ! (33 ∷ []) $ use1 W (‵ (cellAt fullShare (R .mir) (u ∷ []) l₈ 0)) (W .laws .at-raw fullShare T′.mir l₈ 0 u) $ move ! (0 ∷ 5 ∷ []) $ lies ! R h (u ∷ []) l₈ 0 $
         use1 W (later (some (λ (ζ : GName). ‵ (MutRef (named 1) (μ ∷ []) R .own (c-at ζ l₈ h) (vptr l₈ 0 ∷ [])) ⊛ ‵ (flent (μ ∷ []) (Body (mem R) l₈ 0 ζ))))) (lends-ref 𝓤 H A W R (named 1) (μ ∷ []) h l₈ 0) $ await ! tt $ pick ! (λ ζ. split ! $
         -- `enter`
-        move ! (5 ∷ 2 ∷ []) $ join ! $ move ! (3 ∷ 1 ∷ []) $ join ! $ move ! (1 ∷ 0 ∷ []) $ use2 W (raw (Enter 𝓤 H A at-mem run .pre (to-enter ν μ δ ζ l₈))) (goes-enter ν μ δ ζ l₈) $ calls-at ! fm (Enter 𝓤 H A at-mem run) known-enter (to-enter ν μ δ ζ l₈) (and-then ! (load ! (from ! (stop !)) (look ! 23 refl)) (and-then ! (load ! (from ! (stop !)) (look ! 21 refl)) (and-then ! (load ! (from ! (stop !)) (look ! 32 refl)) (no-more !)))) (λ v.
-        use1 W (later (given (v ≡ vunit) (‵ (flft (ν ∷ []) fullShare) ⊛ ‵ (flft (μ ∷ []) fullShare) ⊛ ‵ (fres δ (Trail .coded .code ts₁)) ⊛ ‵ (fres ζ (R .coded .code h₁))))) (gives-enter ν μ δ ζ l₈ v) $ await ! tt $ learn ! (λ e. split ! $ move ! (1 ∷ []) $ split ! $ move ! (1 ∷ []) $ split ! $
+        move ! (5 ∷ 2 ∷ []) $ join ! $ move ! (3 ∷ 1 ∷ []) $ join ! $ move ! (1 ∷ 0 ∷ []) $ use2 W (raw (Enter 𝓤 H A at-mem run .pre (to-enter ν μ δ ζ l₈))) (goes-enter ν μ δ ζ l₈) $
+        calls-at ! fm (Enter 𝓤 H A at-mem run) known-enter (to-enter ν μ δ ζ l₈) (and-then ! (load ! (from ! (stop !)) (look ! 23 refl)) (and-then ! (load ! (from ! (stop !)) (look ! 21 refl)) (and-then ! (load ! (from ! (stop !)) (look ! 32 refl)) (no-more !)))) (λ v.
+        use1 W (later (given (v ≡ vunit) (‵ (flft (ν ∷ []) fullShare) ⊛ ‵ (flft (μ ∷ []) fullShare) ⊛ ‵ (fres δ (Trail .coded .code ts₁)) ⊛ ‵ (fres ζ (R .coded .code h₁))))) (gives-enter ν μ δ ζ l₈ v) $ await ! tt $ learn ! (λ e. split ! $
+        move ! (1 ∷ []) $ split ! $ move ! (1 ∷ []) $ split ! $
         land ! (from ! (stop !)) (init ! 28 refl (subst (λ (y : Val). Holds (hasTy tyUnit y) × WT y) (sym e) (tt, tt))) $
         -- the lifetimes are ended, and the trail and the scope come back
         move ! (3 ∷ []) $ lft-end ! tt $ move ! (0 ∷ 5 ∷ 1 ∷ []) $ use3 W (later (‵ (TrailAt t₁) ⊛ ‵ (flft κ₅ q₅))) (comes-back 𝓤 H A W Trail (named 5) κ₅ (ν ∷ []) q₅ (t .name) (t .ptr .0) (t .ptr .1) δ (t .now) ts₁) $ await ! tt $ split ! $
@@ -304,18 +327,26 @@ module _ {M : Type 1} (𝓤 : URA M) (H : Heap 𝓤) (A : Atoms 𝓤) (W : Given
         assigns ! (addr ! (from ! (hop ! (look ! 34 refl) (stop !)))) (from ! (stop !)) (init ! 7 refl (tt, tt)) $
         assigns ! (addr ! (from ! (stop !))) (from ! (stop !)) (init ! 5 refl (tt, tt)) $
         -- `write`, to which the scope is lent for a lifetime ρ
-        lft-new ! tt (λ ρ. move ! (1 ∷ []) $ use1 W (later (some (λ (η : GName). ‵ (MutRef (named 6) (ρ ∷ []) R .own (c-at η l₈ h₁) (vptr l₈ 0 ∷ [])) ⊛ ‵ (flent (ρ ∷ []) (Body (mem R) l₈ 0 η))))) (lends-ref 𝓤 H A W R (named 6) (ρ ∷ []) h₁ l₈ 0) $ await ! tt $ pick ! (λ η. split ! $
-        move ! (3 ∷ 4 ∷ []) $ join ! $ move ! (3 ∷ 1 ∷ []) $ join ! $ move ! (4 ∷ 1 ∷ 0 ∷ []) $ use3 W (raw (Write 𝓤 H A at-mem run .pre (to-write ρ η l₈))) (goes-write ρ η l₈) $ calls-at ! fm (Write 𝓤 H A at-mem run) known-write (to-write ρ η l₈) (and-then ! (load ! (from ! (stop !)) (look ! 42 refl)) (and-then ! (load ! (from ! (stop !)) (look ! 40 refl)) (and-then ! (load ! (from ! (stop !)) (look ! 15 refl)) (and-then ! (load ! (from ! (stop !)) (look ! 11 refl)) (and-then ! (load ! (from ! (stop !)) (look ! 7 refl)) (and-then ! (load ! (from ! (stop !)) (look ! 5 refl)) (and-then ! (load ! (from ! (stop !)) (look ! 3 refl)) (and-then ! (lit ! tt) (and-then ! (load ! (from ! (stop !)) (look ! 30 refl)) (no-more !)))))))))) (λ v′.
+        lft-new ! tt (λ ρ. move ! (1 ∷ []) $ use1 W (later (some (λ (η : GName). ‵ (MutRef (named 6) (ρ ∷ []) R .own (c-at η l₈ h₁) (vptr l₈ 0 ∷ [])) ⊛ ‵ (flent (ρ ∷ []) (Body (mem R) l₈ 0 η))))) (lends-ref 𝓤 H A W R (named 6) (ρ ∷ []) h₁ l₈ 0) $
+        await ! tt $ pick ! (λ η. split ! $
+        move ! (3 ∷ 4 ∷ []) $ join ! $ move ! (3 ∷ 1 ∷ []) $ join ! $ move ! (4 ∷ 1 ∷ 0 ∷ []) $ use3 W (raw (Write 𝓤 H A at-mem run .pre (to-write ρ η l₈))) (goes-write ρ η l₈) $
+        calls-at ! fm (Write 𝓤 H A at-mem run) known-write (to-write ρ η l₈) (and-then ! (load ! (from ! (stop !)) (look ! 42 refl)) (and-then ! (load ! (from ! (stop !)) (look ! 40 refl)) (and-then ! (load ! (from ! (stop !)) (look ! 15 refl)) (and-then ! (load ! (from ! (stop !)) (look ! 11 refl)) (and-then ! (load ! (from ! (stop !)) (look ! 7 refl)) (and-then ! (load ! (from ! (stop !)) (look ! 5 refl)) (and-then ! (load ! (from ! (stop !)) (look ! 3 refl)) (and-then ! (lit ! tt) (and-then ! (load ! (from ! (stop !)) (look ! 30 refl)) (no-more !)))))))))) (λ v′.
         use1 W (later (some (λ (r : Unit {0}). (Alive₇ ρ ⊛ ‵ (Nothing .own r (v′ ∷ []))) ⊛ raw (ensured 𝓤 H A write.ended (write.clauses 𝓤 H A at-mem run) (κs₇ ρ) (xs₇ η l₈) tt r)))) (id⊢ 𝓤 _) $ await ! tt $ pick ! (λ r. split ! $ move ! (1 ∷ []) $
         use1 W (some (λ (zs : Zs). ‵ (lasts write.ended (κs₇ ρ) (xs₇ η l₈) zs) ⊛ raw (fact 𝓤 (Said zs)))) (id⊢ 𝓤 _) $ pick ! (λ zs. split ! $ move ! (1 ∷ []) $ heard ! (Said zs) (λ e′.
-        use1 W (‵ (fres η (R .coded .code (zs .1 .1 .1 .1 .1 .1 .0))) ⊛ Kept zs) (parts ρ η l₈ zs) $ split ! $ move ! (2 ∷ []) $ split ! $ move ! (1 ∷ []) $ feqL ! (λ e₀. land ! (from ! (stop !)) (store ! 25 refl (subst (λ (y : Val). Holds (hasTy tyUnit y) × WT y) (sym (ap only e₀)) (tt, tt))) $
-        use1 W (‵ (flft (ρ ∷ []) fullShare) ⊛ Alive) (tokens ρ) $ split ! $ lft-end ! tt $ move ! (0 ∷ 4 ∷ 2 ∷ []) $ use3 W (later (‵ (mem R .lies (zs .1 .1 .1 .1 .1 .1 .0) l₈ 0))) (ref-back 𝓤 H A W R (ρ ∷ []) η (zs .1 .1 .1 .1 .1 .1 .0) l₈ 0) $ await ! tt $
+        use1 W (‵ (fres η (R .coded .code (zs .1 .1 .1 .1 .1 .1 .0))) ⊛ Kept zs) (parts ρ η l₈ zs) $ split ! $ move ! (2 ∷ []) $ split ! $ move ! (1 ∷ []) $
+        feqL ! (λ e₀. land ! (from ! (stop !)) (store ! 25 refl (subst (λ (y : Val). Holds (hasTy tyUnit y) × WT y) (sym (ap only e₀)) (tt, tt))) $
+        use1 W (‵ (flft (ρ ∷ []) fullShare) ⊛ Alive) (tokens ρ) $ split ! $ lft-end ! tt $ move ! (0 ∷ 4 ∷ 2 ∷ []) $ use3 W (later (‵ (mem R .lies (zs .1 .1 .1 .1 .1 .1 .0) l₈ 0))) (ref-back 𝓤 H A W R (ρ ∷ []) η (zs .1 .1 .1 .1 .1 .1 .0) l₈ 0) $
+        await ! tt $
         lay ! R (zs .1 .1 .1 .1 .1 .1 .0) l₈ 0 (λ vs. one-cell ! R (Is R) (shows 𝓤 H A R) (LL.val T.the-type T′.the-laws) (LL.tells T.the-type T′.the-laws) fullShare (zs .1 .1 .1 .1 .1 .1 .0) vs l₈ 0 (λ w is′.
         use1 W (‵ (fat fullShare T′.mir l₈ 0 w)) (W .laws .raw-at fullShare T′.mir l₈ 0 w) $
         -- [_8; what the scope owns; the tokens; the last slices and the last trail; true; the locals]
         assigns ! (of-opd ! (load ! (from ! (stop !)) (look ! 0 refl))) (from ! (stop !)) (init ! 46 refl (LL.lawful T.the-type T′.the-laws 𝓤 H A W .typed (zs .1 .1 .1 .1 .1 .1 .0) _ is′ .0)) $
-        returns ! (look ! 46 refl) $ forget ! 5 refl $ forget ! 7 refl $ forget ! 9 refl $ forget ! 11 refl $ forget ! 13 refl $ forget ! 15 refl $ forget ! 17 refl $ forget ! 19 refl $ forget ! 21 refl $ forget ! 23 refl $ forget ! 25 refl $ forget ! 27 refl $ forget ! 29 refl $ forget ! 0 refl $ forget ! 32 refl $ forget ! 34 refl $ forget ! 36 refl $ forget ! 38 refl $ forget ! 40 refl $ forget ! 42 refl $ forget ! 44 refl $ forget ! 46 refl $
-        move ! (46 ∷ 47 ∷ []) $ free1 ! $ move ! (44 ∷ 45 ∷ []) $ free1 ! $ move ! (42 ∷ 43 ∷ []) $ free1 ! $ move ! (40 ∷ 41 ∷ []) $ free1 ! $ move ! (38 ∷ 39 ∷ []) $ free1 ! $ move ! (36 ∷ 37 ∷ []) $ free1 ! $ move ! (34 ∷ 35 ∷ []) $ free1 ! $ move ! (32 ∷ 33 ∷ []) $ free1 ! $ move ! (0 ∷ 31 ∷ []) $ free1 ! $ move ! (28 ∷ 29 ∷ []) $ free1 ! $ move ! (26 ∷ 27 ∷ []) $ free1 ! $ move ! (24 ∷ 25 ∷ []) $ free1 ! $ move ! (22 ∷ 23 ∷ []) $ free1 ! $ move ! (20 ∷ 21 ∷ []) $ free1 ! $ move ! (18 ∷ 19 ∷ []) $ free1 ! $ move ! (16 ∷ 17 ∷ []) $ free1 ! $ move ! (14 ∷ 15 ∷ []) $ free1 ! $ move ! (12 ∷ 13 ∷ []) $ free1 ! $ move ! (10 ∷ 11 ∷ []) $ free1 ! $ move ! (8 ∷ 9 ∷ []) $ free1 ! $ move ! (6 ∷ 7 ∷ []) $ free1 ! $ move ! (4 ∷ 5 ∷ []) $ free1 ! $ free0 ! $
+        returns ! (look ! 46 refl) $ forget ! 5 refl $ forget ! 7 refl $ forget ! 9 refl $ forget ! 11 refl $ forget ! 13 refl $ forget ! 15 refl $ forget ! 17 refl $ forget ! 19 refl $ forget ! 21 refl $ forget ! 23 refl $ forget ! 25 refl $
+        forget ! 27 refl $ forget ! 29 refl $ forget ! 0 refl $ forget ! 32 refl $ forget ! 34 refl $ forget ! 36 refl $ forget ! 38 refl $ forget ! 40 refl $ forget ! 42 refl $ forget ! 44 refl $ forget ! 46 refl $
+        move ! (46 ∷ 47 ∷ []) $ free1 ! $ move ! (44 ∷ 45 ∷ []) $ free1 ! $ move ! (42 ∷ 43 ∷ []) $ free1 ! $ move ! (40 ∷ 41 ∷ []) $ free1 ! $ move ! (38 ∷ 39 ∷ []) $ free1 ! $ move ! (36 ∷ 37 ∷ []) $ free1 ! $ move ! (34 ∷ 35 ∷ []) $ free1 ! $
+        move ! (32 ∷ 33 ∷ []) $ free1 ! $ move ! (0 ∷ 31 ∷ []) $ free1 ! $ move ! (28 ∷ 29 ∷ []) $ free1 ! $ move ! (26 ∷ 27 ∷ []) $ free1 ! $ move ! (24 ∷ 25 ∷ []) $ free1 ! $ move ! (22 ∷ 23 ∷ []) $ free1 ! $ move ! (20 ∷ 21 ∷ []) $ free1 ! $
+        move ! (18 ∷ 19 ∷ []) $ free1 ! $ move ! (16 ∷ 17 ∷ []) $ free1 ! $ move ! (14 ∷ 15 ∷ []) $ free1 ! $ move ! (12 ∷ 13 ∷ []) $ free1 ! $ move ! (10 ∷ 11 ∷ []) $ free1 ! $ move ! (8 ∷ 9 ∷ []) $ free1 ! $ move ! (6 ∷ 7 ∷ []) $ free1 ! $
+        move ! (4 ∷ 5 ∷ []) $ free1 ! $ free0 ! $
         keep ! (0 ∷ 1 ∷ 2 ∷ []) $ by ! (exits w zs e′))))))))))))))))))))))))))))))))))))))))))
 
 module _ {M : Type 1} (𝓤 : URA M) (H : Heap 𝓤) (A : Atoms 𝓤) (W : Given 𝓤 H A) (mem : Memory → SProp 𝓤) (run : Routine → Fun 𝓤) where
