@@ -10,6 +10,9 @@ use libc::STDERR_FILENO;
 use libc::STDOUT_FILENO;
 use records::Num;
 use resolver::format::Figures;
+ghost use mathlib.Core.Path.{_≡_};
+ghost use Rattle.bundle.specs.Gives.{gave};
+ghost use Rattle.sheet.specs.Sheets.{filledBundle, sheetBundle};
 
 fn print(s: &[u8]) {
     io::write_all(STDOUT_FILENO, s);
@@ -244,17 +247,31 @@ fn save_store(store: &[u8]) -> bool {
     save(b"--save-store", &store[zero..n])
 }
 
-// A language's bundle from its resource image, and its sheet.
+// NUMBER, and the resource of a sheet, in a new bundle.
+fn fill_bundle(store: &mut [u8], image: &[u8], list: &mut [u8]) -> Answer
+    ensures { λ r. ⌜ gave r (now (store .exit)) (now (list .exit)) ≡ filledBundle (now (store .entry)) (now (list .entry)) (now (image .entry)) ⌝ }
+{
+    match bundle::add_function(store, b"NUMBER", 1) {
+        Answer::Refused(n) => Answer::Refused(n),
+        Answer::Done(_) => bundle::add_resource(store, image, list),
+    }
+}
+
+// The bundle of a sheet.
+fn make_bundle(store: &mut [u8], locale: u8, isolating: u8, image: &[u8], list: &mut [u8]) -> Answer
+    ensures { λ r. ⌜ gave r (now (store .exit)) (now (list .exit)) ≡ sheetBundle (now (store .entry)) (now (list .entry)) locale isolating (now (image .entry)) ⌝ }
+{
+    match bundle::new(store, locale, isolating) {
+        Answer::Refused(n) => Answer::Refused(n),
+        Answer::Done(_) => fill_bundle(store, image, list),
+    }
+}
+
+// A language's sheet, from its resource image.
 fn print_language(locale: u8, language: &[u8], image: &[u8], args: &[u8]) -> bool {
     let mut store = [0u8; 16384];
     let mut list = [0u8; 1024];
-    if !is_done(bundle::new(&mut store, locale, isolating())) {
-        return false;
-    }
-    if !is_done(bundle::add_function(&mut store, b"NUMBER", 1)) {
-        return false;
-    }
-    if !is_done(bundle::add_resource(&mut store, image, &mut list)) {
+    if !is_done(make_bundle(&mut store, locale, isolating(), image, &mut list)) {
         return false;
     }
     if !save_store(&store) {

@@ -1,7 +1,7 @@
 //! The page: self-contained HTML, a section for each language.
 
 use crate::ask::{Answer, LANGUAGES};
-use crate::differ::words;
+use crate::differ::differing;
 use crate::{Row, Table};
 use std::fmt::Write as _;
 
@@ -49,7 +49,7 @@ fn section(out: &mut String, tables: &[Table], k: usize, code: &str, name: &str)
 
 fn table(out: &mut String, t: &Table, k: usize, code: &str, name: &str) {
     let (anchor, title, columns) = (&t.anchor, &t.title, t.columns.len());
-    put(out, format_args!("<table id=\"{code}-{anchor}\" class=\"of-{columns}\">\n<thead>\n"));
+    put(out, format_args!("<table id=\"{code}-{anchor}\" class=\"of-{columns}\">\n<colgroup><col class=\"head\">{}</colgroup>\n<thead>\n", "<col>".repeat(columns)));
     put(out, format_args!("<tr><th class=\"title\" colspan=\"{}\"><span lang=\"{code}\">{name}</span> · {title}</th></tr>\n", columns + 1));
     put(out, format_args!("<tr><th scope=\"col\" class=\"head\">{}</th>", t.rows_are));
     for c in &t.columns {
@@ -87,18 +87,7 @@ fn grouped(head: &str) -> String {
 
 fn sentence(out: &mut String, column: &str, a: &Answer, above: Option<&str>, number: &str, code: &str) {
     put(out, format_args!("<td data-column=\"{}\"><p lang=\"{code}\">", escaped(column)));
-    for (i, (word, new)) in words(above, &a.text).into_iter().enumerate() {
-        if i > 0 {
-            out.push(' ');
-        }
-        let bare = word.trim_end_matches(['.', ',']);
-        let word = escaped(word);
-        match (new, bare == number) {
-            (true, true) => put(out, format_args!("<b class=\"n\">{word}</b>")),
-            (true, false) => put(out, format_args!("<mark>{word}</mark>")),
-            (false, _) => out.push_str(&word),
-        }
-    }
+    marked(out, &a.text, above, number);
     out.push_str("</p>");
     if !a.errors.is_empty() {
         out.push_str("<ul class=\"wrong\">");
@@ -109,6 +98,34 @@ fn sentence(out: &mut String, column: &str, a: &Answer, above: Option<&str>, num
         out.push_str("</ul>");
     }
     put(out, format_args!("<div class=\"figures\">begun {} · unfound {}</div></td>\n", a.begun, a.unfound));
+}
+
+/// The words, those that differ from the sentence above marked, and the row's
+/// own number set apart.
+fn marked(out: &mut String, text: &str, above: Option<&str>, number: &str) {
+    let mut inside = false;
+    for (word, new) in differing(above, text) {
+        let own = new && word.text == number;
+        if inside && (own || !new) {
+            out.push_str("</mark>");
+            inside = false;
+        }
+        if word.spaced {
+            out.push(' ');
+        }
+        if new && !own && !inside {
+            out.push_str("<mark>");
+            inside = true;
+        }
+        let word = escaped(word.text);
+        match own {
+            true => put(out, format_args!("<b class=\"n\">{word}</b>")),
+            false => out.push_str(&word),
+        }
+    }
+    if inside {
+        out.push_str("</mark>");
+    }
 }
 
 /// Equal errors that follow one another, once with their number.

@@ -1,5 +1,4 @@
 -- Safe, and it ends: a record less is left after each turn.
--- Made from Proof.answers, which stands beside it: change that, and run `proofs make`.
 use borrow.Author.Needs.{needs}
 use Rattle.sheet.proofs.print_errors.Statement.{statement}
 use Rattle.sheet.proofs.print_errors.Tie as tie

@@ -1,5 +1,4 @@
 -- Safe, and it ends: each turn passes a word at least. What is found is the place of a word that was looked at.
--- Made from Proof.answers, which stands beside it: change that, and run `proofs make`.
 use Prim.Native.Nat.{_-_, _≤_}
 use borrow.Author.Needs.{needs}
 use Rattle.sheet.proofs.options.last.Statement.{statement}

@@ -1,5 +1,4 @@
 -- The words are those of the refusal's number: each arm puts its own, and a number that no arm has is not listed.
--- Made from Proof.answers, which stands beside it: change that, and run `proofs make`.
 use Prim.Native.Nat.{suc, zero, ℕ}
 use Rattle.sheet.specs.Refusals.{meaning, unlisted}
 use Rattle.texts.specs.Append.{appended}
