@@ -27,7 +27,10 @@ fn arguments(fields: &[(&str, &str)]) -> Vec<(String, Value)> {
         Some((number, _)) => Value::Number(number),
         None => Value::Text(text.into()),
     };
-    fields.iter().map(|(n, v)| (n.to_string(), value(v))).collect()
+    fields
+        .iter()
+        .map(|(n, v)| (n.to_string(), value(v)))
+        .collect()
 }
 
 /// The text of a message, and the count of its errors; the Rust and the model
@@ -66,7 +69,8 @@ fn the_program_prints_what_the_rust_prints() {
             if locale > 0 {
                 page.push('\n');
             }
-            for (indent, message) in [("", "sheet"), ("  ", "seen"), ("  ", "away"), ("  ", "who")] {
+            for (indent, message) in [("", "sheet"), ("  ", "seen"), ("  ", "away"), ("  ", "who")]
+            {
                 let (text, errors) = said(locale, message, &USUAL);
                 assert_eq!(errors, 0, "{text}");
                 page.push_str(&format!("{indent}{text}\n"));

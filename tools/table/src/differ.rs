@@ -12,9 +12,15 @@ fn words(text: &str) -> Vec<Word<'_>> {
     for (i, part) in text.split(' ').enumerate() {
         let word = part.trim_end_matches(['.', ',', ':']);
         let (word, mark) = part.split_at(word.len());
-        out.push(Word { text: word, spaced: i > 0 });
+        out.push(Word {
+            text: word,
+            spaced: i > 0,
+        });
         if !mark.is_empty() {
-            out.push(Word { text: mark, spaced: false });
+            out.push(Word {
+                text: mark,
+                spaced: false,
+            });
         }
     }
     out
@@ -59,12 +65,18 @@ mod tests {
 
     fn new(before: &str, text: &str) -> Vec<String> {
         let all = differing(Some(before), text);
-        all.iter().filter(|w| w.1).map(|w| w.0.text.into()).collect()
+        all.iter()
+            .filter(|w| w.1)
+            .map(|w| w.0.text.into())
+            .collect()
     }
 
     #[test]
     fn what_is_new_is_marked() {
-        assert_eq!(new("1 whale was seen.", "2 whales were seen."), ["2", "whales", "were"]);
+        assert_eq!(
+            new("1 whale was seen.", "2 whales were seen."),
+            ["2", "whales", "were"]
+        );
         assert_eq!(new("2 whales were seen", "3 whales were seen"), ["3"]);
         assert_eq!(new("on leg 7.", "on leg 7, with"), [",", "with"]);
         assert_eq!(new("a b c", "a b c"), [""; 0]);

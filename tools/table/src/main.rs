@@ -33,7 +33,21 @@ const SPECIES: [&str; 5] = ["porpoise", "minke", "humpback", "dolphin", "seal"];
 /// The counts: 0 to 30, and where a large number's last digits matter.
 fn counts() -> Vec<u64> {
     let large = [
-        31, 32, 35, 41, 100, 101, 102, 103, 106, 111, 112, 121, 1000, 1001, 1_000_000,
+        31,
+        32,
+        35,
+        41,
+        100,
+        101,
+        102,
+        103,
+        106,
+        111,
+        112,
+        121,
+        1000,
+        1001,
+        1_000_000,
         999_999_999_999_999,
     ];
     (0..=30).chain(large).collect()
@@ -125,7 +139,11 @@ fn by_number(program: &ask::Program) -> Table {
         Row {
             head: n.to_string(),
             after_gap: is_after_gap(&numbers, i),
-            cells: vec![of(n, 400, 7, "seen"), of(1, n, 7, "away"), of(1, 400, n, "seen")],
+            cells: vec![
+                of(n, 400, 7, "seen"),
+                of(1, n, 7, "away"),
+                of(1, 400, n, "seen"),
+            ],
         }
     };
     Table {
@@ -161,7 +179,11 @@ fn main() {
         eprintln!("table: {out} can't be written: {e}");
         exit(1);
     }
-    let cells: usize = tables.iter().flat_map(|t| &t.rows).map(|r| r.cells.len()).sum();
+    let cells: usize = tables
+        .iter()
+        .flat_map(|t| &t.rows)
+        .map(|r| r.cells.len())
+        .sum();
     println!("{out}: {} sentences, {} bytes", cells * 4, page.len());
 }
 
