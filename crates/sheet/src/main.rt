@@ -402,29 +402,6 @@ fn print_all(args: &[u8]) {
     }
 }
 
-// Whether the values that name a field or a language do. Of a wrong one it says so.
-fn is_named_well() -> bool {
-    let no = options::value_of(b"--no");
-    if no != 0 {
-        let mut word = io::buffer();
-        let n = os::arg(no, &mut word);
-        if !options::is_field(&word[..n]) {
-            options::say_bad(no, b"a field, as species or count");
-            return false;
-        }
-    }
-    let language = options::value_of(b"--language");
-    if language != 0 {
-        let mut word = io::buffer();
-        let n = os::arg(language, &mut word);
-        if !options::is_language(&word[..n]) {
-            options::say_bad(language, b"a language (en, da, ru or cy)");
-            return false;
-        }
-    }
-    true
-}
-
 fn main() {
     let wrong = options::first_wrong();
     if wrong != 0 {
@@ -433,9 +410,6 @@ fn main() {
     }
     if options::has(b"--help") {
         help();
-        return;
-    }
-    if !is_named_well() {
         return;
     }
     let mut args = [0u8; 65537];

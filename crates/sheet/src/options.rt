@@ -34,7 +34,7 @@ pub fn is_number_field(name: &[u8]) -> bool {
     same_bytes(name, b"leg")
 }
 
-pub fn is_field(name: &[u8]) -> bool {
+fn is_field(name: &[u8]) -> bool {
     if is_number_field(name) {
         return true;
     }
@@ -44,7 +44,7 @@ pub fn is_field(name: &[u8]) -> bool {
     same_bytes(name, b"observer")
 }
 
-pub fn is_language(name: &[u8]) -> bool {
+fn is_language(name: &[u8]) -> bool {
     if same_bytes(name, b"en") {
         return true;
     }
@@ -140,7 +140,22 @@ fn is_at(at: usize, name: &[u8]) -> bool {
     same_bytes(&word[..n], name)
 }
 
-// The first word that is no option, or that lacks its value: its place, or 0.
+// Whether the value of the option at a place names what it has to: a field behind `--no`, a language behind `--language`.
+fn is_named_well(at: usize) -> bool
+    requires { ⌜ at ≤ 256 ⌝ }
+{
+    let mut word = io::buffer();
+    let n = os::arg(at + 1, &mut word);
+    if is_at(at, b"--no") {
+        return is_field(&word[..n]);
+    }
+    if is_at(at, b"--language") {
+        return is_language(&word[..n]);
+    }
+    true
+}
+
+// The first word that is no option, or that lacks its value, or whose value names nothing: its place, or 0.
 pub fn first_wrong() -> usize {
     let count = words();
     let mut at = 1usize;
@@ -150,6 +165,9 @@ pub fn first_wrong() -> usize {
             return at;
         }
         if count < at + w {
+            return at;
+        }
+        if !is_named_well(at) {
             return at;
         }
         at += w;
@@ -219,6 +237,21 @@ fn say_word(at: usize) {
     io::write_all(STDERR_FILENO, &word[..n]);
 }
 
+// Says what the option at a place needs, and what it has.
+fn say_value(at: usize) {
+    say_word(at);
+    if is_at(at, b"--no") {
+        io::write_all(
+            STDERR_FILENO,
+            b" needs a field (species, count, calves, distance, leg or observer)",
+        );
+    } else if is_at(at, b"--language") {
+        io::write_all(STDERR_FILENO, b" needs a language (en, da, ru or cy)");
+    } else {
+        io::write_all(STDERR_FILENO, b" needs a value");
+    }
+}
+
 // Says what is wrong with the option at a place.
 pub fn say_wrong(at: usize) {
     io::write_all(STDERR_FILENO, b"sheet: ");
@@ -226,8 +259,7 @@ pub fn say_wrong(at: usize) {
         io::write_all(STDERR_FILENO, b"there is no option ");
         say_word(at);
     } else {
-        say_word(at);
-        io::write_all(STDERR_FILENO, b" needs a value");
+        say_value(at);
     }
     io::write_all(STDERR_FILENO, b"; --help says how to use it\n");
 }

@@ -110,12 +110,23 @@ fn write_kind(s: &[u8], at: usize) {
     }
 }
 
+// What an Overriding record says, from its kind on.
+fn write_overriding(s: &[u8], at: usize) {
+    if byte(s, at) == 1 {
+        io::write_all(STDOUT_FILENO, b"message: \"");
+    } else {
+        io::write_all(STDOUT_FILENO, b"term: \"");
+    }
+    write_str(s, next(at, 1));
+    io::write_all(STDOUT_FILENO, b"\".");
+}
+
 // The words of a record, from its tag on: those of the Rust.
 pub fn write_error(s: &[u8], at: usize) {
     match byte(s, at) {
         1 => {
-            io::write_all(STDOUT_FILENO, b"Attempt to override an existing entry: ");
-            write_str(s, next(at, 2));
+            io::write_all(STDOUT_FILENO, b"Attempt to override an existing ");
+            write_overriding(s, next(at, 1));
         }
         2 => write_kind(s, next(at, 1)),
         3 => {

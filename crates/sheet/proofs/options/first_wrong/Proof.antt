@@ -28,6 +28,12 @@ add-if2 c = search needs
 returns-2 : tie.Need-returns-2 Inv-loop μ-loop
 returns-2 c = search needs
 
+is-named-well-requires : tie.Need-is-named-well-requires Inv-loop μ-loop
+is-named-well-requires c κs = search needs
+
+returns-3 : tie.Need-returns-3 Inv-loop μ-loop
+returns-3 c = search needs
+
 add-at : tie.Need-add-at Inv-loop μ-loop
 add-at c = search needs
 
@@ -37,8 +43,8 @@ loop-less c = search needs
 loop-again : tie.Need-loop-again Inv-loop μ-loop
 loop-again c = search needs
 
-returns-3 : tie.Need-returns-3 Inv-loop μ-loop
-returns-3 c = search needs
+returns-4 : tie.Need-returns-4 Inv-loop μ-loop
+returns-4 c = search needs
 
 pub first-wrong-spec : {M : Type 1} → statement M
-first-wrong-spec = tie.close (tie.spec Inv-loop μ-loop words-requires loop-holds width-at-requires returns add-if2 returns-2 add-at loop-less loop-again returns-3)
+first-wrong-spec = tie.close (tie.spec Inv-loop μ-loop words-requires loop-holds width-at-requires returns add-if2 returns-2 is-named-well-requires returns-3 add-at loop-less loop-again returns-4)
