@@ -1,14 +1,17 @@
 // The cases, each compared with what the oracle answered: 0 where they agree, 1 where they differ.
 use bundle::Answer;
 use records::Num;
-ghost use Prim.Native.Nat.{_≤_};
-ghost use lib.ListN.{length};
+ghost use mathlib.Core.Path.{_≡_};
+ghost use Prim.Native.Nat.{_<_, _≤_};
+ghost use lib.ListN.{length, getD};
 
 // What a case lends is at most so long.
 const ROOM: usize = 65536;
 
 // A byte past the end reads as 0.
-pub fn byte(s: &[u8], at: usize) -> u8 {
+pub fn byte(s: &[u8], at: usize) -> u8
+    ensures { λ r. ⌜ (at < length (now (s .entry)) → r ≡ getD (now (s .entry)) at 0) × (length (now (s .entry)) ≤ at → r ≡ 0) ⌝ }
+{
     if at < s.len() { s[at] } else { 0 }
 }
 

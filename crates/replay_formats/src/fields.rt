@@ -1,9 +1,12 @@
 // The fields of a case. A byte or a number past the end reads as 0.
 use records::Num;
-ghost use Prim.Native.Nat.{_≤_};
-ghost use lib.ListN.{length};
+ghost use mathlib.Core.Path.{_≡_};
+ghost use Prim.Native.Nat.{_<_, _≤_};
+ghost use lib.ListN.{length, getD};
 
-pub fn byte(s: &[u8], at: usize) -> u8 {
+pub fn byte(s: &[u8], at: usize) -> u8
+    ensures { λ r. ⌜ (at < length (now (s .entry)) → r ≡ getD (now (s .entry)) at 0) × (length (now (s .entry)) ≤ at → r ≡ 0) ⌝ }
+{
     if at < s.len() { s[at] } else { 0 }
 }
 
