@@ -1,5 +1,4 @@
 -- `bundle::add_function` meets its contract: each refusal in its order, and the item behind the others.
--- Made from Proof.answers, which stands beside it: change that, and run `proofs make`.
 use Rattle.bundle.proofs.Adds.{fitting, function-10, function-4, function-6, function-8, function-9, function-done, function-length, has-room-is, item-put, no-room, store-used}
 use Rattle.bundle.proofs.Marks.{short-id}
 use Rattle.records.proofs.Views.{next-is, next-none}

@@ -1,5 +1,4 @@
 -- `bundle::add_resource` meets its contract: each refusal in its order; the item behind the others, and the list of the entries that repeat an id.
--- Made from Proof.answers, which stands beside it: change that, and run `proofs make`.
 use Rattle.bundle.proofs.Adds.{fitting, has-room-is, image-small, item-put, list-done, no-room, plain-4, plain-5, plain-6, plain-7, plain-done, store-used, tally-count, tally-size}
 use Rattle.bundle.proofs.Marks.{tally-small}
 use Rattle.records.proofs.Views.{next-is, next-none}

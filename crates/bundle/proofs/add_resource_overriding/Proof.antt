@@ -1,5 +1,4 @@
 -- `bundle::add_resource_overriding` meets its contract: each refusal in its order, and the item behind the others.
--- Made from Proof.answers, which stands beside it: change that, and run `proofs make`.
 use Rattle.bundle.proofs.Adds.{fitting, has-room-is, image-small, item-put, no-room, over-4, over-5, over-6, over-done, store-used}
 use Rattle.records.proofs.Views.{next-is, next-none}
 use Rattle.texts.proofs.Place.{length-over}

@@ -1,5 +1,4 @@
 -- `bundle::after_item` meets its contract: by the item's mode.
--- Made from Proof.answers, which stands beside it: change that, and run `proofs make`.
 use Rattle.bundle.proofs.Walk.{after-bad, after-function, after-overriding, after-plain}
 use Rattle.records.proofs.Views.{num-is, num-none}
 use borrow.Author.Needs.{needs}

@@ -1,5 +1,4 @@
 -- `bundle::clear` meets its contract. The loop's invariant: what was passed is 0.
--- Made from Proof.answers, which stands beside it: change that, and run `proofs make`.
 use Prim.Native.Nat.{_-_, _<_, ℕ}
 use Rattle.bundle.proofs.Slots.{clear-end, clear-turn}
 use borrow.Author.Needs.{needs}

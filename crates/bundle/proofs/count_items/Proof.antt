@@ -1,5 +1,4 @@
 -- `bundle::count_items` meets its contract: the count says how many items were read.
--- Made from Proof.answers, which stands beside it: change that, and run `proofs make`.
 use Rattle.bundle.proofs.Adds.{count-bad, count-is}
 use Rattle.records.proofs.Views.{num-is, num-none}
 use borrow.Author.Needs.{needs}

@@ -1,5 +1,4 @@
 -- `bundle::entry_found` meets its contract: the kind byte of the entry says what it is.
--- Made from Proof.answers, which stands beside it: change that, and run `proofs make`.
 use Rattle.bundle.proofs.Walk.{is-message, is-term, kind-bad, no-kind}
 use Rattle.records.proofs.Views.{num-is, num-none}
 use borrow.Author.Needs.{needs}

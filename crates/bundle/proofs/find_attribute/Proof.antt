@@ -1,5 +1,4 @@
 -- `bundle::find_attribute` meets its contract: the attributes stand behind the Id and the value.
--- Made from Proof.answers, which stands beside it: change that, and run `proofs make`.
 use Rattle.bundle.proofs.Walk.{attribute-no-count, attribute-no-entry, attribute-no-value, attribute-start, told}
 use Rattle.records.proofs.Views.{num-is, num-none}
 use borrow.Author.Needs.{needs}

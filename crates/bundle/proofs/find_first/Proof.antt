@@ -1,5 +1,4 @@
 -- `bundle::find_first` meets its contract. The loop's invariant: what is found among the entries that are left is found among all.
--- Made from Proof.answers, which stands beside it: change that, and run `proofs make`.
 use Rattle.bundle.proofs.Walk.{FirstFrom, behind-in, first-bad, first-here, first-next, first-none, first-stuck, told}
 use Rattle.records.proofs.Views.{num-is, num-none}
 use Rattle.records.specs.declared.Next.{Next}

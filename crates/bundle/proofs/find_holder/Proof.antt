@@ -1,5 +1,4 @@
 -- `bundle::find_holder` meets its contract. The loop's invariant: what the items that are left make of what was found so far is what all make of nothing.
--- Made from Proof.answers, which stands beside it: change that, and run `proofs make`.
 use Rattle.bundle.proofs.Walk.{HoldersFrom, holders-bad, holders-next, holders-none, holders-start, holders-stuck, told}
 use Rattle.bundle.specs.declared.Found.{Found}
 use Rattle.records.proofs.Views.{num-is, num-none}

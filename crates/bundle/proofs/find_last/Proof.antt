@@ -1,5 +1,4 @@
 -- `bundle::find_last` meets its contract. The loop's invariant: what the entries that are left make of the last one so far is what all make of none.
--- Made from Proof.answers, which stands beside it: change that, and run `proofs make`.
 use Rattle.bundle.proofs.Walk.{LastFrom, behind-in, last-bad, last-next, last-none, last-start, last-stuck, told}
 use Rattle.records.proofs.Views.{num-is, num-none}
 use Rattle.records.specs.declared.Next.{Next}

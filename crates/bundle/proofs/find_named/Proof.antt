@@ -1,5 +1,4 @@
 -- `bundle::find_named` meets its contract. The loop's invariant: what is found among the attributes that are left is found among all.
--- Made from Proof.answers, which stands beside it: change that, and run `proofs make`.
 use Rattle.bundle.proofs.Walk.{NamedFrom, named-bad, named-here, named-next, named-none, named-stuck, told}
 use Rattle.records.proofs.Laws.{str-in}
 use Rattle.records.proofs.Views.{str-bad, str-is}

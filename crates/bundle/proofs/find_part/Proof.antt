@@ -1,5 +1,4 @@
 -- `bundle::find_part` meets its contract: by what is asked.
--- Made from Proof.answers, which stands beside it: change that, and run `proofs make`.
 use Rattle.bundle.specs.Lookup.{partOf}
 use Rattle.bundle.specs.Meets.{asked}
 use borrow.Author.Needs.{needs}

@@ -1,5 +1,4 @@
 -- `bundle::find_value` meets its contract: the Flag behind the Id says whether there is one.
--- Made from Proof.answers, which stands beside it: change that, and run `proofs make`.
 use Rattle.bundle.proofs.Walk.{value-absent, value-no-entry, value-no-flag, value-present}
 use Rattle.records.proofs.Views.{num-is, num-none}
 use borrow.Author.Needs.{needs}

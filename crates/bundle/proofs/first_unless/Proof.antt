@@ -1,5 +1,4 @@
 -- `bundle::first_unless` meets its contract: what held the id holds it still.
--- Made from Proof.answers, which stands beside it: change that, and run `proofs make`.
 use Rattle.bundle.proofs.Walk.{function-held, message-held, or-held, or-other, term-held}
 use borrow.Author.Needs.{needs}
 use mathlib.Core.Path.{sym}

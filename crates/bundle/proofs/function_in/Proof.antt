@@ -1,5 +1,4 @@
 -- `bundle::function_in` meets its contract: the record's Id stands behind its length, version and code.
--- Made from Proof.answers, which stands beside it: change that, and run `proofs make`.
 use Rattle.bundle.proofs.Walk.{behind-in, function-bad, function-here, function-other}
 use Rattle.records.proofs.Views.{num-is, num-none}
 use borrow.Author.Needs.{needs}

@@ -1,5 +1,4 @@
 -- `bundle::has_holder` meets its contract: by what was found.
--- Made from Proof.answers, which stands beside it: change that, and run `proofs make`.
 use Rattle.bundle.proofs.Marks.{held-is, held-not}
 use Rattle.bundle.proofs.Walk.{function-held, message-held, term-held}
 use borrow.Author.Needs.{needs}

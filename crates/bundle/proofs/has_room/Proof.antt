@@ -1,5 +1,4 @@
 -- `bundle::has_room` meets its contract: by the three limits.
--- Made from Proof.answers, which stands beside it: change that, and run `proofs make`.
 use Rattle.bundle.proofs.Adds.{room-items, room-no-slice, room-no-store}
 use borrow.Author.Needs.{needs}
 use mathlib.Core.Path.{refl}

@@ -1,5 +1,4 @@
 -- `bundle::is_among` meets its contract: by what was found.
--- Made from Proof.answers, which stands beside it: change that, and run `proofs make`.
 use Rattle.bundle.proofs.Marks.{among-is, among-not}
 use borrow.Author.Needs.{needs}
 use Rattle.bundle.proofs.is_among.Statement.{statement}

@@ -1,5 +1,4 @@
 -- `bundle::kind_of` meets its contract: by the byte.
--- Made from Proof.answers, which stands beside it: change that, and run `proofs make`.
 use Rattle.bundle.specs.Gives.{kindBy}
 use borrow.Author.Tests.{eq-eqb, ne-eqb}
 use Rattle.bundle.proofs.kind_of.Statement.{statement}

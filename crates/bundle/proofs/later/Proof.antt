@@ -1,5 +1,4 @@
 -- `bundle::later` meets its contract: by cases of the test.
--- Made from Proof.answers, which stands beside it: change that, and run `proofs make`.
 use Rattle.bundle.specs.Meets.{laterOf}
 use Rattle.bundle.proofs.later.Statement.{statement}
 use Rattle.bundle.proofs.later.Tie as tie

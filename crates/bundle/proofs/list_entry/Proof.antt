@@ -1,5 +1,4 @@
 -- `bundle::list_entry` meets its contract: a marked entry's record is written.
--- Made from Proof.answers, which stands beside it: change that, and run `proofs make`.
 use Rattle.bundle.proofs.Marks.{lists-bad, lists-full, lists-no-id, lists-none, lists-one}
 use Rattle.bundle.proofs.Walk.{behind-in}
 use Rattle.records.proofs.Views.{num-is, num-none}

@@ -1,5 +1,4 @@
 -- `bundle::list_marked` meets its contract. The loop's invariant: a list to which the records of the entries that are left are appended has those of all.
--- Made from Proof.answers, which stands beside it: change that, and run `proofs make`.
 use Prim.Native.Nat.{_-_, ℕ}
 use Rattle.bundle.proofs.Marks.{ListFrom, list-next, list-no-count, list-none, list-start, list-stuck, u16-small}
 use Rattle.bundle.proofs.Walk.{told}

@@ -1,5 +1,4 @@
 -- `bundle::mark_at` meets its contract: an entry that stands in its slot is marked as its slot is; any other by walking.
--- Made from Proof.answers, which stands beside it: change that, and run `proofs make`.
 use Rattle.bundle.proofs.Slots.{mark-quick}
 use borrow.Author.Needs.{needs}
 use native.Mathlib.Omega.{arith}

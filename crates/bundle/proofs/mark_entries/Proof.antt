@@ -1,5 +1,4 @@
 -- `bundle::mark_entries` meets its contract: the tables are cleared and filled, and the marks go by them.
--- Made from Proof.answers, which stands beside it: change that, and run `proofs make`.
 use Rattle.bundle.proofs.Slots.{ready}
 use borrow.Author.Needs.{needs}
 use Rattle.bundle.proofs.mark_entries.Statement.{statement}

@@ -1,5 +1,4 @@
 -- `bundle::mark_of` meets its contract: an id is held by an entry before, or in the store.
--- Made from Proof.answers, which stands beside it: change that, and run `proofs make`.
 use Rattle.bundle.proofs.Marks.{mark-among, mark-free, mark-held}
 use borrow.Author.Needs.{needs}
 use mathlib.Core.Path.{_∙_, sym}

@@ -1,5 +1,4 @@
 -- `bundle::mark_repeats` meets its contract. The loop's invariant: marks that are right for the entries that are left are right for all.
--- Made from Proof.answers, which stands beside it: change that, and run `proofs make`.
 use Prim.Native.Nat.{_-_, ℕ}
 use Rattle.bundle.proofs.Marks.{MarkFrom, marks-bad, marks-next, marks-no-count, marks-none, marks-start, marks-stuck, u16-small}
 use Rattle.bundle.proofs.Walk.{behind-in, told}

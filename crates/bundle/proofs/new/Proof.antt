@@ -1,5 +1,4 @@
 -- `bundle::new` meets its contract: each refusal by its test, and the nine bytes of an empty store.
--- Made from Proof.answers, which stands beside it: change that, and run `proofs make`.
 use Rattle.bundle.proofs.Adds.{new-1, new-2, new-3, new-done}
 use borrow.Author.Needs.{needs}
 use lib.ListN.{length-set}

@@ -1,5 +1,4 @@
 -- `bundle::note_entries` meets its contract. The loop's invariant: what is noted of the entries that are left is noted of all.
--- Made from Proof.answers, which stands beside it: change that, and run `proofs make`.
 use Prim.Native.Nat.{ℕ}
 use Rattle.bundle.proofs.Slots.{entries-bad, entries-next, entries-none, entries-stuck}
 use Rattle.bundle.proofs.Walk.{behind-in, told}

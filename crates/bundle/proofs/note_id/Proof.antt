@@ -1,5 +1,4 @@
 -- `bundle::note_id` meets its contract: an id is noted where the entry in its slot has it.
--- Made from Proof.answers, which stands beside it: change that, and run `proofs make`.
 use Rattle.bundle.proofs.Slots.{notes-other, notes-same, notes-unlike, notes-unread, notes-vacant}
 use Rattle.bundle.proofs.Walk.{behind-in}
 use Rattle.records.proofs.Views.{num-is, num-none}

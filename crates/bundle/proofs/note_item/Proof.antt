@@ -1,5 +1,4 @@
 -- `bundle::note_item` meets its contract: a function's Id, or the ids of a resource's entries.
--- Made from Proof.answers, which stands beside it: change that, and run `proofs make`.
 use Rattle.bundle.proofs.Slots.{function-noted, function-unread, item-unread, resource-noted, resource-unread}
 use Rattle.bundle.proofs.Walk.{behind-in}
 use Rattle.records.proofs.Views.{num-is, num-none}

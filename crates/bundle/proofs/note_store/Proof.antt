@@ -1,5 +1,4 @@
 -- `bundle::note_store` meets its contract. The loop's invariant: what is noted of the items that are left is noted of all.
--- Made from Proof.answers, which stands beside it: change that, and run `proofs make`.
 use Prim.Native.Nat.{ℕ}
 use Rattle.bundle.proofs.Slots.{NotesItems, items-next, items-none, items-stuck, store-noted, store-unread}
 use Rattle.bundle.proofs.Walk.{told}

@@ -1,5 +1,4 @@
 -- `bundle::or_else` meets its contract: what holds an id is the first of the two, unless that is nothing.
--- Made from Proof.answers, which stands beside it: change that, and run `proofs make`.
 use Rattle.bundle.proofs.Walk.{function-held, message-held, or-held, or-other, term-held}
 use borrow.Author.Needs.{needs}
 use mathlib.Core.Path.{sym}

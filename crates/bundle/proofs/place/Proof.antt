@@ -1,5 +1,4 @@
 -- `bundle::place` meets its contract: a slot that is free takes the position.
--- Made from Proof.answers, which stands beside it: change that, and run `proofs make`.
 use Rattle.bundle.proofs.Slots.{placed-free, placed-not, placed-out}
 use borrow.Author.Needs.{needs}
 use Rattle.bundle.proofs.place.Statement.{statement}

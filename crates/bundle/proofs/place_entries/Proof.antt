@@ -1,5 +1,4 @@
 -- `bundle::place_entries` meets its contract. The loop's invariant: a table in which the entries that are left are placed has them all.
--- Made from Proof.answers, which stands beside it: change that, and run `proofs make`.
 use Prim.Native.Nat.{_-_, ℕ}
 use Rattle.bundle.proofs.Marks.{u16-small}
 use Rattle.bundle.proofs.Slots.{PlaceFrom, place-all, place-bad, place-next, place-none, place-stuck, place-unread, place-vacant, placed-length}

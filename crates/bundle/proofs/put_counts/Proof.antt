@@ -1,5 +1,4 @@
 -- `bundle::put_counts` meets its contract: two numbers, each over the bytes that stood there.
--- Made from Proof.answers, which stands beside it: change that, and run `proofs make`.
 use Rattle.bundle.proofs.Adds.{counts-over}
 use borrow.Author.Needs.{needs}
 use Rattle.bundle.proofs.put_counts.Statement.{statement}

@@ -1,5 +1,4 @@
 -- `bundle::put_function` meets its contract: the pieces of the record, one behind the other.
--- Made from Proof.answers, which stands beside it: change that, and run `proofs make`.
 use Prim.Native.Nat.{_+_}
 use Rattle.bundle.proofs.Adds.{function-head-length, function-put-length, function-written, written-length}
 use Rattle.records.specs.Bytes.{toBe}

@@ -1,5 +1,4 @@
 -- `bundle::put_resource` meets its contract: the mode, and the image behind it.
--- Made from Proof.answers, which stands beside it: change that, and run `proofs make`.
 use Rattle.bundle.proofs.Adds.{resource-length, resource-written}
 use borrow.Author.Needs.{needs}
 use lib.ListN.{length-set}

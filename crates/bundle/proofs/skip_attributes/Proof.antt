@@ -1,5 +1,4 @@
 -- `bundle::skip_attributes` meets its contract. The loop's invariant: where the attributes that are left end, all of them end.
--- Made from Proof.answers, which stands beside it: change that, and run `proofs make`.
 use Rattle.bundle.proofs.Walk.{attribute-bad, attribute-step, attributes-bad, attributes-start, many-ends, many-goes, many-stuck, told}
 use Rattle.bundle.specs.Meets.{Passes}
 use Rattle.records.proofs.Views.{next-is, next-none, num-is, num-none}

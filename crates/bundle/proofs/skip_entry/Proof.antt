@@ -1,5 +1,4 @@
 -- `bundle::skip_entry` meets its contract: past the Id, the value and the attributes.
--- Made from Proof.answers, which stands beside it: change that, and run `proofs make`.
 use Rattle.bundle.proofs.Walk.{entry-bad, entry-passes, entry-stuck, told}
 use Rattle.records.proofs.Views.{num-is, num-none}
 use borrow.Author.Needs.{needs}

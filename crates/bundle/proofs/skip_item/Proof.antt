@@ -1,5 +1,4 @@
 -- `bundle::skip_item` meets its contract: behind the mode byte stands a record that fills its length.
--- Made from Proof.answers, which stands beside it: change that, and run `proofs make`.
 use Rattle.bundle.proofs.Walk.{item-bad, item-no-length, item-passes}
 use Rattle.records.proofs.Views.{next-is, next-none, num-is, num-none}
 use borrow.Author.Needs.{needs}

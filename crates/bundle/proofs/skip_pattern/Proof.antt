@@ -1,5 +1,4 @@
 -- `bundle::skip_pattern` meets its contract: a pattern ends where its length says, and within the bytes.
--- Made from Proof.answers, which stands beside it: change that, and run `proofs make`.
 use Rattle.bundle.proofs.Walk.{pattern-bad, pattern-passes}
 use Rattle.records.proofs.Views.{num-is, num-none}
 use borrow.Author.Needs.{needs}

@@ -1,5 +1,4 @@
 -- `bundle::skip_value` meets its contract: the Flag says whether a pattern follows.
--- Made from Proof.answers, which stands beside it: change that, and run `proofs make`.
 use Rattle.bundle.proofs.Walk.{value-bad, value-none, value-some}
 use Rattle.records.proofs.Views.{num-is, num-none}
 use borrow.Author.Needs.{needs}

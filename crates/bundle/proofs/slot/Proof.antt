@@ -1,5 +1,4 @@
 -- `bundle::slot` meets its contract. The loop's invariant: what the bytes that are left make of the number so far is what all make of 0; and it is small.
--- Made from Proof.answers, which stands beside it: change that, and run `proofs make`.
 use Prim.Native.Nat.{_%_, _*_, _+_, _-_, _<_, ℕ}
 use Rattle.bundle.specs.Slots.{hashStep, slotOf}
 use Rattle.records.proofs.Laws.{run-done, run-turn}

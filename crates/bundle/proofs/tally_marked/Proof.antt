@@ -1,5 +1,4 @@
 -- `bundle::tally_marked` meets its contract. The loop's invariant: the tally so far, with the records of the entries that are left, is that of all; and it is small.
--- Made from Proof.answers, which stands beside it: change that, and run `proofs make`.
 use Prim.Native.Nat.{_*_, _-_, _≤_}
 use Rattle.bundle.proofs.Marks.{TallyFrom, id-small, tally-bad, tally-next, tally-no-count, tally-none, tally-start, tally-stuck, u16-small}
 use Rattle.bundle.proofs.Walk.{behind-in, told}

@@ -1,5 +1,4 @@
 -- `bundle::tally_more` meets its contract: by the mark.
--- Made from Proof.answers, which stands beside it: change that, and run `proofs make`.
 use Rattle.bundle.proofs.Marks.{tally-one, tally-same}
 use borrow.Author.Needs.{needs}
 use Rattle.bundle.proofs.tally_more.Statement.{statement}

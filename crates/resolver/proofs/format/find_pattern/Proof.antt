@@ -1,5 +1,4 @@
 -- `resolver::format::find_pattern` meets its contract: each refusal in its order, and then the position of the part.
--- Made from Proof.answers, which stands beside it: change that, and run `proofs make`.
 use Rattle.records.proofs.Views.{next-is, next-none}
 use Rattle.resolver.proofs.Patterns.{part-asked, pattern-at, pattern-function, pattern-no-attribute-id, pattern-no-id, pattern-no-part, pattern-no-store, pattern-nothing, pattern-term}
 use borrow.Author.Needs.{needs}

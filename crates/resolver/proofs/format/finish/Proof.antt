@@ -1,5 +1,4 @@
 -- `resolver::format::finish` meets its contract: cleared where the run was refused, and else the header over the records.
--- Made from Proof.answers, which stands beside it: change that, and run `proofs make`.
 use Rattle.resolver.proofs.Finish.{finish-cleared, finish-ran}
 use borrow.Author.Needs.{needs}
 use mathlib.Core.Path.{refl}

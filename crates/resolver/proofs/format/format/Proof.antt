@@ -1,5 +1,4 @@
 -- `resolver::format::format` meets its contract: the refusals in their order, and the run.
--- Made from Proof.answers, which stands beside it: change that, and run `proofs make`.
 use Rattle.layout.proofs.Stands.{octets-of}
 use Rattle.records.proofs.Laws.{next-at, next-bad}
 use Rattle.resolver.proofs.Ends.{format-arguments, format-header, format-refused, format-run}

@@ -1,5 +1,4 @@
 -- `resolver::format::is_id_or_none` meets its contract: by whether there is an attribute.
--- Made from Proof.answers, which stands beside it: change that, and run `proofs make`.
 use Rattle.resolution.specs.Format.{isIdOrNone}
 use Rattle.texts.specs.Report.{optionOf}
 use borrow.Author.Needs.{needs}

@@ -1,5 +1,4 @@
 -- `resolver::format::run` meets its contract: the state that is made, with the pattern on the trail, is the definition's first, and the pattern's run is the whole run.
--- Made from Proof.answers, which stands beside it: change that, and run `proofs make`.
 use Rattle.resolver.proofs.Whole.{whole-run}
 use borrow.Author.Needs.{needs}
 use mathlib.Core.Path.{refl}

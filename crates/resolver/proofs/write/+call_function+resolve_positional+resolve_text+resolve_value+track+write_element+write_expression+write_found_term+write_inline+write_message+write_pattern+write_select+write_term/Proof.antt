@@ -1,6 +1,5 @@
 -- The writers meet their contracts: for each way in which one returns a law stands, over the contracts of the calls on that way.
 -- What falls at each call: the placeables that may still be begun, then the nesting left, then the stage.
--- Made from Proof.answers, which stands beside it: change that, and run `proofs make`.
 mod Base
 mod CallFunction
 mod ResolvePositional

@@ -1,5 +1,4 @@
 -- `resolver::write::tagged_reference` meets its contract: past the store's end nothing is read, and before it the tag takes one byte.
--- Made from Proof.answers, which stands beside it: change that, and run `proofs make`.
 use Rattle.resolver.proofs.References.{reference-past}
 use borrow.Author.Needs.{needs}
 use Rattle.resolver.proofs.write.tagged_reference.Statement.{statement}

@@ -1,5 +1,4 @@
 -- `scope::call::merge_named` meets its contract: each turn merges the first of the named arguments that are left.
--- Made from Proof.answers, which stands beside it: change that, and run `proofs make`.
 use Prim.Native.Nat.{ℕ}
 use Rattle.numbers.specs.Shown.{shownOptions}
 use Rattle.records.specs.Decode.{many, namedAt}

@@ -1,5 +1,4 @@
 -- `scope::call::merge_one` meets its contract: the option is merged as the definition merges its literal's value.
--- Made from Proof.answers, which stands beside it: change that, and run `proofs make`.
 use Rattle.scope.proofs.Calls.{merge-digits, merge-digits-bad, merge-marked, merge-out, merge-past, merge-plain, merge-short}
 use Rattle.scope.proofs.Values.{flip-false, flip-true}
 use borrow.Author.Needs.{needs}

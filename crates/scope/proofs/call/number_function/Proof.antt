@@ -1,5 +1,4 @@
 -- `scope::call::number_function` meets its contract: a number's options are merged, or the call is refused; anything else gives Error.
--- Made from Proof.answers, which stands beside it: change that, and run `proofs make`.
 use Prim.Native.Nat.{ℕ}
 use Rattle.scope.proofs.Results.{number-long, number-merged, number-other, number-over}
 use borrow.Author.Needs.{needs}

@@ -1,5 +1,4 @@
 -- `scope::put::put_value` meets its contract, by what the value is.
--- Made from Proof.answers, which stands beside it: change that, and run `proofs make`.
 use Rattle.images.proofs.Laws.{between-in}
 use Rattle.resolution.specs.Effect.{write}
 use Rattle.scope.proofs.Buffers.{holds-args, holds-nothing, holds-number, holds-store, holds-work, holds-wrong}

@@ -1,5 +1,4 @@
 -- `scope::select::choose` meets its contract, by where the value lies; none and an error match no key.
--- Made from Proof.answers, which stands beside it: change that, and run `proofs make`.
 use Rattle.scope.proofs.Choosing.{choice-args, choice-nothing, choice-number, choice-store, choice-work, choice-wrong, chooses-between}
 use borrow.Author.Needs.{needs}
 use Rattle.scope.proofs.select.choose.Statement.{statement}

@@ -1,5 +1,4 @@
 -- `scope::value::argument_value` meets its contract: each answer of the search is the value that it means.
--- Made from Proof.answers, which stands beside it: change that, and run `proofs make`.
 use Rattle.scope.proofs.Variables.{argument-as, argument-missing, argument-nothing, argument-number, argument-text}
 use borrow.Author.Needs.{needs}
 use Rattle.scope.proofs.value.argument_value.Statement.{statement}

@@ -1,5 +1,4 @@
 -- `scope::value::find_variable` meets its contract: among the term's arguments where there are any, else among the formatting's.
--- Made from Proof.answers, which stands beside it: change that, and run `proofs make`.
 use Rattle.scope.proofs.Variables.{variable-given, variable-inside}
 use borrow.Author.Needs.{needs}
 use Rattle.scope.proofs.value.find_variable.Statement.{statement}

@@ -1,5 +1,4 @@
 -- `scope::value::kept` meets its contract: the back moves down, and the highest use is the greater of two.
--- Made from Proof.answers, which stands beside it: change that, and run `proofs make`.
 use Prim.Native.Nat.{_+_, _-_, max, ℕ}
 use Rattle.scope.specs.Values.{heldS}
 use borrow.Author.Needs.{needs}

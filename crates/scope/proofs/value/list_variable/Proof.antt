@@ -1,5 +1,4 @@
 -- `scope::value::list_variable` meets its contract: nothing inside a term, outside the reference is listed.
--- Made from Proof.answers, which stands beside it: change that, and run `proofs make`.
 use Rattle.scope.proofs.Variables.{missing-listed, missing-silent}
 use Rattle.texts.specs.Report.{optionOf, referredOf}
 use borrow.Author.Needs.{needs}

@@ -1,5 +1,4 @@
 -- `scope::value::literal_at` meets its contract: a number, a part of the store, or a text that ends at the base.
--- Made from Proof.answers, which stands beside it: change that, and run `proofs make`.
 use Rattle.scope.proofs.Named.{literal-digits-at, literal-marked, literal-out, literal-plain, literal-short}
 use Rattle.scope.proofs.Values.{flip-false, flip-true}
 use borrow.Author.Needs.{needs}

@@ -1,5 +1,4 @@
 -- `scope::value::literal_number` meets its contract: what was read is the literal's number.
--- Made from Proof.answers, which stands beside it: change that, and run `proofs make`.
 use Rattle.scope.proofs.Merges.{literal-bad, literal-is}
 use borrow.Author.Needs.{needs}
 use mathlib.Core.Path.{ap}

@@ -1,5 +1,4 @@
 -- `scope::value::literal_string` meets its contract: a literal without a backslash stays in the store, any other is kept at the workspace's back, or refused.
--- Made from Proof.answers, which stands beside it: change that, and run `proofs make`.
 use Rattle.scope.proofs.Values.{flip-false, flip-true, string-full, string-here, string-kept, string-out, string-over, written-at}
 use borrow.Author.Needs.{needs}
 use mathlib.Core.Path.{_∙_, refl, sym}

@@ -1,5 +1,4 @@
 -- `scope::value::resolve_named` meets its contract: each turn resolves the first of the named arguments that are left.
--- Made from Proof.answers, which stands beside it: change that, and run `proofs make`.
 use Prim.Native.Nat.{ℕ}
 use Rattle.scope.proofs.Values.{named-digits-as, named-end, named-string-as, named-unread}
 use Rattle.scope.specs.Meets.{NamedAt}

@@ -1,5 +1,4 @@
 -- `scope::value::taken` meets its contract: a string with a backslash takes the bytes that it reads as, any other literal none.
--- Made from Proof.answers, which stands beside it: change that, and run `proofs make`.
 use Rattle.scope.proofs.Named.{taken-digits, taken-marked, taken-out, taken-plain}
 use borrow.Author.Needs.{needs}
 use mathlib.Core.Path.{_∙_, sym}

@@ -1,5 +1,4 @@
 -- `scope::variable::is_wrong` meets its contract: only Error is.
--- Made from Proof.answers, which stands beside it: change that, and run `proofs make`.
 use Prim.Native.Nat.{ℕ}
 use borrow.Author.Needs.{needs}
 use mathlib.Core.Path.{_≡_}

@@ -1,5 +1,4 @@
 -- `scope::variable::resolve_variable` meets its contract: the value where the variable is there, else Error.
--- Made from Proof.answers, which stands beside it: change that, and run `proofs make`.
 use Rattle.scope.proofs.Variables.{resolve-found, resolve-missing, resolve-out}
 use borrow.Author.Needs.{needs}
 use native.Mathlib.Omega.{arith}

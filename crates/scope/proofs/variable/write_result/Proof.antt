@@ -1,5 +1,4 @@
 -- `scope::variable::write_result` meets its contract: the value's text, the name of a function that gave Error, or a reference to one that is missing.
--- Made from Proof.answers, which stands beside it: change that, and run `proofs make`.
 use Rattle.scope.proofs.Written.{result-none, result-out, result-value, result-wrong}
 use Rattle.texts.specs.Report.{optionOf, referredOf}
 use borrow.Author.Needs.{needs}

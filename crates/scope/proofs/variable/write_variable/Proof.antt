@@ -1,5 +1,4 @@
 -- `scope::variable::write_variable` meets its contract: the value's text where the variable is there, else its name in braces.
--- Made from Proof.answers, which stands beside it: change that, and run `proofs make`.
 use Rattle.scope.proofs.Variables.{write-found, write-missing, write-out}
 use borrow.Author.Needs.{needs}
 use native.Mathlib.Omega.{arith}

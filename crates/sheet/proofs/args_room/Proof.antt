@@ -1,0 +1,12 @@
+-- `sheet::args_room` meets its contract: a repeat has its length, which need not be counted out.
+use mathlib.Core.Path.{sym}
+use Prim.Native.Nat.{ℕ}
+use lib.ListN.{length-replicate}
+use Rattle.sheet.proofs.args_room.Statement.{statement}
+use Rattle.sheet.proofs.args_room.Tie as tie
+
+returns : tie.Need-returns
+returns c = sym (length-replicate {A = ℕ} 65537 0)
+
+pub args-room-spec : {M : Type 1} → statement M
+args-room-spec = tie.close (tie.spec returns)

@@ -1,0 +1,4 @@
+pub mod Options
+pub mod Finds
+pub mod Fields
+pub mod Making

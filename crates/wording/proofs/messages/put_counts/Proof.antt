@@ -1,0 +1,37 @@
+-- `wording::messages::put_counts` meets its contract: each count stands behind the one before it.
+use Rattle.wording.proofs.Pouring.{pour-then}
+use Rattle.wording.specs.Messages.{countWords, named}
+use borrow.Author.Needs.{needs}
+use mathlib.Core.List.{[], _∷_}
+use Rattle.wording.proofs.messages.put_counts.Statement.{statement}
+use Rattle.wording.proofs.messages.put_counts.Tie as tie
+
+slice-aggregate-put-named : tie.Need-slice-aggregate-put-named
+slice-aggregate-put-named c = search needs
+
+put-named-requires : tie.Need-put-named-requires
+put-named-requires c κs = search needs
+
+slice-aggregate-put-named-2 : tie.Need-slice-aggregate-put-named-2
+slice-aggregate-put-named-2 c = search needs
+
+put-named-requires-2 : tie.Need-put-named-requires-2
+put-named-requires-2 c κs = search needs
+
+slice-aggregate-put-named-3 : tie.Need-slice-aggregate-put-named-3
+slice-aggregate-put-named-3 c = search needs
+
+put-named-requires-3 : tie.Need-put-named-requires-3
+put-named-requires-3 c κs = search needs
+
+same-length : tie.Need-same-length
+same-length c = search needs
+
+returns : tie.Need-returns
+unfolding countWords
+returns c =
+    pour-then _ _ (named (9 ∷ []) (c .before .before .before .before .before .before .before .before .before .before .before .before .before .before .before .before .args .f .begun)) _ (c .before .before .before .before .before .before .before .before .before .before .before .before .put-named .ensures)
+    (pour-then _ _ (named (9 ∷ []) (c .before .before .before .before .before .before .before .before .before .before .before .before .before .before .before .before .args .f .unfound)) _ (c .before .before .before .before .before .before .before .put-named2 .ensures) (c .before .before .put-named3 .ensures))
+
+pub put-counts-spec : {M : Type 1} → statement M
+put-counts-spec = tie.close (tie.spec slice-aggregate-put-named put-named-requires slice-aggregate-put-named-2 put-named-requires-2 slice-aggregate-put-named-3 put-named-requires-3 same-length returns)
