@@ -1,12 +1,12 @@
 -- Definitions are shut until a proof opens them. A case of given bytes is proved by computing, which needs all that a formatting rests on: the names
 -- below, by crate. `opened` opens them all.
-use Rattle.numbers.specs.Bytes as numbers-bytes
-use Rattle.numbers.specs.Decimal as numbers-decimal
-use Rattle.numbers.specs.Literal as numbers-literal
-use Rattle.numbers.specs.Text as numbers-text
+use Rattle.decimals.specs.Bytes as numbers-bytes
+use Rattle.decimals.specs.Decimal as numbers-decimal
+use Rattle.literals.specs.Literal as numbers-literal
+use Rattle.decimals.specs.Text as numbers-text
 use Rattle.numbers.specs.Equal as numbers-equal
 use Rattle.numbers.specs.Value as numbers-value
-use Rattle.numbers.specs.Plural as numbers-plural
+use Rattle.plural.specs.Plural as numbers-plural
 use Rattle.records.specs.Got as records-got
 use Rattle.records.specs.Bytes as records-bytes
 use Rattle.records.specs.Rules as records-rules

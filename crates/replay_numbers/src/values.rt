@@ -4,12 +4,12 @@ use crate::fields::flag;
 use crate::fields::past;
 use crate::fields::u32_at;
 use crate::fields::u64_at;
-use numbers::types::Count;
-use numbers::types::Display;
-use numbers::types::Kind;
-use numbers::types::Number;
-use numbers::types::Options;
-use numbers::types::Style;
+use decimals::types::Count;
+use decimals::types::Display;
+use decimals::types::Kind;
+use decimals::types::Number;
+use decimals::types::Options;
+use decimals::types::Style;
 
 // A Decimal has 10 bytes, a Minimum 2, Options 30.
 pub const DECIMAL: usize = 10;

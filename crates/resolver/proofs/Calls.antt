@@ -7,7 +7,7 @@ use Prim.Native.Nat.{ℕ, zero, suc, _+_, _-_, _≤_, _<_}
 use native.Mathlib.Omega.{arith}
 use Rattle.numbers.specs.Number.{Number}
 use Rattle.numbers.specs.Value.{Value, textual, numeric, nothing, wrong, numberFunction}
-use Rattle.numbers.specs.declared.types.Number as code-number
+use Rattle.decimals.specs.declared.types.Number as code-number
 use Rattle.records.specs.declared.Next.{Next}
 use Rattle.records.specs.declared.Next.the-variants as next
 use Rattle.records.specs.Got.{Got, got, bad}

@@ -9,7 +9,7 @@ use lib.ListN.{length, take, drop, length-drop}
 use lib.Seq.{length-take-le}
 use Rattle.numbers.specs.Number.{Number, isNumber, literal, inRange}
 use Rattle.numbers.specs.Value.{Value, numeric, valueText}
-use Rattle.numbers.specs.Shown.{shown}
+use Rattle.decimals.specs.Relations.Shown.{shown}
 use Rattle.texts.specs.Unescape.{unescape}
 use Rattle.records.specs.declared.Num.{Num}
 use Rattle.records.specs.declared.Num.the-variants as num

@@ -9,7 +9,7 @@ use lib.ListN.{length, take, drop, length-take, length-drop}
 use lib.Seq.{length-take-le}
 use Rattle.numbers.specs.Number.{Number, isNumber, literal, inRange}
 use Rattle.numbers.specs.Value.{Value, textual, numeric, nothing, wrong}
-use Rattle.numbers.specs.Shown.{shown}
+use Rattle.decimals.specs.Relations.Shown.{shown}
 use Rattle.records.specs.Got.{Got, got, bad}
 use Rattle.records.specs.Bytes.{part, byteAt, strAt}
 use Rattle.records.specs.Tree.{Inline, variable}

@@ -11,10 +11,10 @@ use lib.Seq.{paste, paste-suc, drop-paste, getD-take, getD-drop}
 use borrow.Author.Tests.{leb-false}
 use Rattle.numbers.specs.Number.{Number, inRange, numberText, rangedText}
 use Rattle.numbers.specs.Value.{Value, numeric, valueText}
-use Rattle.numbers.specs.Shown.{shown, told}
-use Rattle.numbers.specs.declared.types.Number as code-number
-use Rattle.numbers.proofs.Shown.{count-there}
-use Rattle.numbers.proofs.Writing.{ranged-in}
+use Rattle.decimals.specs.Relations.Shown.{shown, told}
+use Rattle.decimals.specs.declared.types.Number as code-number
+use Rattle.decimals.proofs.Shown.{count-there}
+use Rattle.decimals.proofs.Writing.{ranged-in}
 use Rattle.records.specs.Bytes.{part}
 use Rattle.records.specs.Errors.{Error, Referred, noValue, reference, encError}
 use Rattle.records.proofs.Local.{length-part}

@@ -5,16 +5,18 @@ use mathlib.Core.Bool.{true, false}
 use Prim.Native.Nat.{ℕ, _-_, _≤_, _<_}
 use native.Mathlib.Omega.{arith}
 use lib.ListN.{length}
-use Rattle.numbers.specs.Decimal.{Options, Number}
-use Rattle.numbers.specs.Literal.{literal}
+use Rattle.decimals.specs.Decimal.{Options, Number}
+use Rattle.literals.specs.Literal.{literal}
 use Rattle.numbers.specs.Value.{Value, textual, numeric, mergeOne, mergeText}
-use Rattle.numbers.specs.Shown.{shownOptions, toldOptions, told, literalOf, mergedOf}
-use Rattle.numbers.specs.declared.types.Number as code-number
-use Rattle.numbers.specs.declared.types.Options as code-options
-use Rattle.numbers.specs.declared.types.Literal as code-literal
-use Rattle.numbers.specs.declared.types.Literal.the-variants as literals
-use Rattle.numbers.specs.declared.types.Merged as code-merged
-use Rattle.numbers.specs.declared.types.Merged.the-variants as merges
+use Rattle.decimals.specs.Relations.Shown.{shownOptions, toldOptions, told}
+use Rattle.literals.specs.Relations.Shown.{literalOf}
+use Rattle.numbers.specs.Relations.Shown.{mergedOf}
+use Rattle.decimals.specs.declared.types.Number as code-number
+use Rattle.decimals.specs.declared.types.Options as code-options
+use Rattle.literals.specs.declared.literal.Literal as code-literal
+use Rattle.literals.specs.declared.literal.Literal.the-variants as literals
+use Rattle.numbers.specs.declared.merge.Merged as code-merged
+use Rattle.numbers.specs.declared.merge.Merged.the-variants as merges
 use Rattle.texts.specs.Unescape.{unescape, hasBackslash}
 use Rattle.texts.proofs.Reading.{unescape-plain}
 use Rattle.records.specs.Got.{got}

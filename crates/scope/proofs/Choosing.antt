@@ -7,17 +7,18 @@ use Prim.Native.Nat.{ℕ, suc, _-_, _≤_, _<_}
 use native.Mathlib.Omega.{arith}
 use lib.ListN.{length}
 use lib.Dec.{eqb}
-use Rattle.numbers.specs.Bytes.{sameBytes as same-n}
+use Rattle.decimals.specs.Bytes.{sameBytes as same-n}
 use Rattle.numbers.specs.Number.{Number, defaultOptions, literal, sameNumber}
-use Rattle.numbers.specs.Literal.{readNumber, withFraction}
-use Rattle.numbers.specs.Plural.{category, keyword}
+use Rattle.literals.specs.Literal.{readNumber, withFraction}
+use Rattle.plural.specs.Plural.{category, keyword}
 use Rattle.numbers.specs.Value.{Value, textual, numeric, nothing, wrong}
-use Rattle.numbers.specs.Shown.{shown, told, literalOf}
-use Rattle.numbers.specs.declared.types.Number as code-number
-use Rattle.numbers.specs.declared.types.Literal as code-literal
-use Rattle.numbers.specs.declared.types.Literal.the-variants as literals
+use Rattle.decimals.specs.Relations.Shown.{shown, told}
+use Rattle.literals.specs.Relations.Shown.{literalOf}
+use Rattle.decimals.specs.declared.types.Number as code-number
+use Rattle.literals.specs.declared.literal.Literal as code-literal
+use Rattle.literals.specs.declared.literal.Literal.the-variants as literals
 use Rattle.numbers.proofs.Equality.{flag-enough}
-use Rattle.numbers.proofs.Shown.{category-shown}
+use Rattle.plural.proofs.Categories.{category-shown}
 use Rattle.records.specs.declared.Next.{Next}
 use Rattle.records.specs.declared.Next.the-variants as next
 use Rattle.records.specs.Got.{got, bad, Parser}

@@ -8,7 +8,7 @@ use native.Mathlib.Omega.{arith}
 use lib.ListN.{length}
 use Rattle.numbers.specs.Number.{literal, isNumber}
 use Rattle.numbers.specs.Value.{Value, textual, numeric}
-use Rattle.numbers.specs.Shown.{shown}
+use Rattle.decimals.specs.Relations.Shown.{shown}
 use Rattle.texts.specs.Unescape.{unescape, hasBackslash}
 use Rattle.texts.proofs.Reading.{unescape-plain}
 use Rattle.records.specs.Got.{got, bad}

@@ -9,8 +9,8 @@ use lib.ListN.{length, drop, length-take}
 use borrow.Author.Tests.{lt-ltb, le-leb}
 use Rattle.numbers.specs.Number.{Number, defaultOptions, inRange, orZero, digitsLimit, scaleLimit}
 use Rattle.numbers.specs.Value.{Value, textual, wrong, valueText}
-use Rattle.numbers.specs.Shown.{shownOptions}
-use Rattle.numbers.specs.declared.types.Options as code-options
+use Rattle.decimals.specs.Relations.Shown.{shownOptions}
+use Rattle.decimals.specs.declared.types.Options as code-options
 use Rattle.records.specs.Got.{got}
 use Rattle.records.specs.Bytes.{part}
 use Rattle.records.specs.Names.{sameBytes}

@@ -8,7 +8,7 @@ use lib.ListN.{length, take, drop, getD}
 use lib.Dec.{ltb}
 use Rattle.numbers.specs.Number.{Number, literal, inRange}
 use Rattle.numbers.specs.Value.{Value, textual, numeric, nothing, wrong, numberFunction}
-use Rattle.numbers.specs.Shown.{shown}
+use Rattle.decimals.specs.Relations.Shown.{shown}
 use Rattle.texts.specs.Unescape.{unescape, hasBackslash}
 use Rattle.records.specs.Got.{Got, got, bad}
 use Rattle.records.specs.Bytes.{part, numberAt}
@@ -31,7 +31,7 @@ use Rattle.scope.specs.declared.state.Local as code-local
 use Rattle.scope.specs.declared.state.Reference as code-reference
 use Rattle.scope.specs.declared.state.Reference.the-variants as ref
 use Rattle.scope.specs.declared.state.Local.the-variants as loc
-use Rattle.numbers.specs.declared.types.Number as code-number
+use Rattle.decimals.specs.declared.types.Number as code-number
 use Rattle.resolution.specs.Effect.{Bytes, Locals, State, Out, M, Done, ret, _>>=_, _>>_, emit, write, report, capture, release}
 use Rattle.resolution.specs.Resolve.{Setting, Trail, lastNamed, dotted, braced, errorText, errorOf, cutShort, held, stringValue, namedValues, mergesOf, writeRefError, getVariable, writeVariable, orWrong, writeResult, track, lookUp, asTerm, termFound, writeMessage, writeTerm, callFunction, resolve, writePattern, writeElements, writeElement, writeExpression, writeInline, resolveInline, termArguments, getArguments}
 use Rattle.resolution.specs.Exec.{Machine, Limits, Ran, ran, refused, exec}

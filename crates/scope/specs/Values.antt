@@ -7,10 +7,11 @@ use Prim.Native.Nat.{ℕ, _-_, _≤_, _<_}
 use lib.ListN.{length}
 use Rattle.numbers.specs.Number.{Options, isNumber, digitsLimit, scaleLimit}
 use Rattle.numbers.specs.Value.{Value, tooLong, mergeOne}
-use Rattle.numbers.specs.Shown.{shownOptions, mergedOf}
-use Rattle.numbers.specs.declared.types.Options as code-options
-use Rattle.numbers.specs.declared.types.Merged as code-merged
-use Rattle.numbers.specs.declared.types.Merged.the-variants as merges
+use Rattle.decimals.specs.Relations.Shown.{shownOptions}
+use Rattle.numbers.specs.Relations.Shown.{mergedOf}
+use Rattle.decimals.specs.declared.types.Options as code-options
+use Rattle.numbers.specs.declared.merge.Merged as code-merged
+use Rattle.numbers.specs.declared.merge.Merged.the-variants as merges
 use Rattle.records.specs.Got.{got}
 use Rattle.records.specs.Bytes.{part}
 use Rattle.records.specs.Tree.{Literal}

@@ -4,7 +4,7 @@ ghost use mathlib.Core.List.{List};
 ghost use Prim.Native.Nat.{ℕ};
 ghost use Rattle.resolution.specs.Effect.{unfound, emit};
 ghost use Rattle.scope.specs.Meets.{world, Acts, refuseS, depthS, backS, asideS, keptS, localsS, clearS};
-use numbers::types::Number;
+use decimals::types::Number;
 
 // What changes while a message is formatted.
 pub struct Scope {

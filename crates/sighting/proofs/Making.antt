@@ -6,11 +6,12 @@ use mathlib.Core.Option.{Option, some, none}
 use Prim.Native.Nat.{ℕ, _+_, _-_, _≤_}
 use native.Mathlib.Omega.{arith}
 use lib.ListN.{length, length-append}
-use Rattle.numbers.specs.Literal.{isNumber, literal}
-use Rattle.numbers.specs.Shown.{shown, literalOf}
-use Rattle.numbers.specs.declared.types.Number as code-number
-use Rattle.numbers.specs.declared.types.Literal as code-literal
-use Rattle.numbers.specs.declared.types.Literal.the-variants as literals
+use Rattle.literals.specs.Literal.{isNumber, literal}
+use Rattle.decimals.specs.Relations.Shown.{shown}
+use Rattle.literals.specs.Relations.Shown.{literalOf}
+use Rattle.decimals.specs.declared.types.Number as code-number
+use Rattle.literals.specs.declared.literal.Literal as code-literal
+use Rattle.literals.specs.declared.literal.Literal.the-variants as literals
 use Rattle.records.specs.Bytes.{part}
 use Rattle.records.specs.Images.{Argument}
 use Rattle.records.specs.Encode.{encAll, encNamedArgument}

@@ -4,8 +4,8 @@ use mathlib.Core.Bool.{Bool, true, false}
 use mathlib.Core.List.{List, [], _∷_, _++_}
 use mathlib.Core.Option.{Option, some, none}
 use lib.ListN.{length}
-use Rattle.numbers.specs.Literal.{isNumber, literal}
-use Rattle.numbers.specs.Decimal.{Number}
+use Rattle.literals.specs.Literal.{isNumber, literal}
+use Rattle.decimals.specs.Decimal.{Number}
 use Rattle.records.specs.Bytes.{toBe}
 use Rattle.records.specs.Images.{Argument}
 use Rattle.records.specs.Encode.{encAll, encNamedArgument}

@@ -9,8 +9,8 @@ use lib.ListN.{length, take}
 use lib.Dec.{ltb}
 use borrow.Author.Tests.{lt-ltb}
 use Rattle.io.specs.Digits.{glyph, digits, Fewest}
-use Rattle.numbers.specs.Text.{decimal}
-use Rattle.numbers.proofs.Writing.{decimal-small, decimal-more}
+use Rattle.decimals.specs.Text.{decimal}
+use Rattle.decimals.proofs.Writing.{decimal-small, decimal-more}
 use Rattle.wording.specs.Poured.{poured}
 
 -- a digit below 10

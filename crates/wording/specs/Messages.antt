@@ -3,7 +3,7 @@ use Prim.Native.Nat.{ℕ}
 use mathlib.Core.Bool.{Bool, true, false}
 use mathlib.Core.List.{List, [], _∷_, _++_}
 use lib.Dec.{ltb}
-use Rattle.numbers.specs.Text.{decimal}
+use Rattle.decimals.specs.Text.{decimal}
 use Rattle.wording.specs.declared.messages.Figures.{Figures}
 use Rattle.wording.specs.Errors.{errorOf, wordsOf}
 use Rattle.wording.specs.Refusals.{meaning}

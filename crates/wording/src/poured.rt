@@ -4,7 +4,7 @@ use texts::put_bytes;
 ghost use mathlib.Core.Path.{_≡_};
 ghost use Prim.Native.Nat.{_-_, min};
 ghost use lib.ListN.{length};
-ghost use Rattle.numbers.specs.Text.{decimal};
+ghost use Rattle.decimals.specs.Text.{decimal};
 ghost use Rattle.wording.specs.Poured.{poured};
 
 // How many of n bytes fit behind a position.

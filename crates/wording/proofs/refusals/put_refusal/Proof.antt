@@ -1,5 +1,5 @@
 -- `wording::refusals::put_refusal` meets its contract: each part stands behind the one before it.
-use Rattle.numbers.specs.Text.{decimal}
+use Rattle.decimals.specs.Text.{decimal}
 use Rattle.wording.proofs.Pouring.{pour-then}
 use Rattle.wording.specs.Messages.{refusalHead, refusalWords}
 use Rattle.wording.specs.Refusals.{meaning}
