@@ -1,13 +1,8 @@
 -- Bytes as lists of numbers, and the tests on them.
-use Prim.Native.Nat.{ℕ, _+_}
+use Prim.Native.Nat.{ℕ}
 use mathlib.Core.List.{List, [], _∷_}
 use mathlib.Core.Bool.{Bool, true, false, _&&_}
-use lib.ListN.{take, drop}
 use lib.Dec.{leb, eqb}
-
--- the n bytes from a position on
-abbrev pub part : List ℕ → ℕ → ℕ → List ℕ
-part s at n = take n (drop at s)
 
 -- "equal bytes"
 unfoldable pub sameBytes : List ℕ → List ℕ → Bool
@@ -28,6 +23,6 @@ choose false a b = b
 abbrev pub within : ℕ → ℕ → ℕ → Bool
 within lo hi b = leb lo b && leb b hi
 
--- "digits": 0 to 9 in ASCII
+-- "digits": `0` (48) to `9` (57) in ASCII
 unfoldable pub digit : ℕ → Bool
 digit b = within 48 57 b

@@ -5,9 +5,10 @@ use mathlib.Core.Bool.{Bool, true, false, _&&_}
 use mathlib.Core.Option.{Option, none, some}
 use lib.ListN.{replicate}
 use lib.Dec.{ltb, leb}
+use Rattle.decimals.specs.Ascii.{ascii}
 use Rattle.decimals.specs.Decimal.{Options, Number, shortest, orZero, digitsLimit, scaleLimit, fractionLimit}
 
--- the lowest w digits of n, the highest first
+-- the lowest w digits of n, the highest first; 48 is `0`
 unfoldable pub digitsOf : ℕ → ℕ → List ℕ
 digitsOf zero n = []
 digitsOf (suc w) n = digitsOf w (n / 10) ++ ((48 + n % 10) ∷ [])
@@ -23,10 +24,10 @@ decimal n = digitsOf (width n n) n
 
 -- "`-` kept on zero"
 unfoldable pub signText : Bool → List ℕ
-signText true = 45 ∷ []
+signText true = ascii "-"
 signText false = []
 
--- "then zeros are added up to the minimum, and with no dot present a dot is written first, so minimum 0 gives `5.`"
+-- "then zeros are added up to the minimum, and with no dot present a dot is written first, so minimum 0 gives `5.`"; 46 is `.`
 unfoldable pub fractionText : Option ℕ → ℕ → ℕ → List ℕ
 fractionText none d zero = []
 fractionText none d (suc s) = 46 ∷ digitsOf (suc s) d

@@ -7,7 +7,8 @@ use lib.Dec.{ltb, leb, eqb}
 use Rattle.decimals.specs.Bytes.{run, choose, digit}
 use Rattle.decimals.specs.Decimal.{Options, Number, defaultOptions, orZero}
 
--- "optional `-`, digits, optionally `.` and digits": 0 before all, 1 after the sign, 2 in the whole part, 3 after the dot, 4 in the fraction, 5 none
+-- "optional `-`, digits, optionally `.` and digits": 0 before all, 1 after the sign, 2 in the whole part, 3 after the dot, 4 in the fraction, 5 none;
+-- 45 is `-`, 46 is `.`
 unfoldable pub numberStep : ℕ → ℕ → ℕ
 numberStep q b =
     choose (digit b) (choose (ltb q 3) 2 (choose (ltb q 5) 4 5))

@@ -6,6 +6,7 @@ use mathlib.Core.Option.{Option, none, some}
 use mathlib.Core.List.{List, [], _∷_, _++_}
 use Prim.Native.Nat.{ℕ, _+_, _≤_}
 use lib.ListN.{length}
+use Rattle.decimals.specs.Ascii.{ascii}
 use Rattle.decimals.specs.Bytes.{digit}
 
 unfoldable pub allDigits : List ℕ → Bool
@@ -19,10 +20,10 @@ pub record Digits (l : List ℕ) : Type 0 where
 
 -- "optional `-`"
 unfoldable pub minus : Bool → List ℕ
-minus true = 45 ∷ []
+minus true = ascii "-"
 minus false = []
 
--- "optionally `.` and digits": the text, what it must be, and how many digits it has
+-- "optionally `.` and digits": the text (46 is `.`), what it must be, and how many digits it has
 unfoldable pub dotted : Option (List ℕ) → List ℕ
 dotted none = []
 dotted (some f) = 46 ∷ f
