@@ -8,8 +8,9 @@ use lib.ListN.{length, drop, length-append, length-drop}
 use lib.Dec.{leb, eqb}
 use borrow.Author.Tests.{leb-true}
 use Rattle.records.specs.Got.{Got, got, bad}
-use Rattle.records.specs.Bytes.{toBe, run}
-use Rattle.records.specs.Rules.{idStep, isId}
+use Rattle.records.specs.Bytes.{toBe}
+use Rattle.rules.specs.Run.{run}
+use Rattle.rules.specs.Rules.{idStep, isId}
 use Rattle.records.specs.Images.{Entry, Item, Store, isSome, maxStore, maxItems, maxLocale, storeOf, resourceOf}
 use Rattle.records.specs.Encode.{encStr, encWhole, encFunction, encItem, encAll, encStore}
 use Rattle.records.specs.Errors.{Error, encErrors}

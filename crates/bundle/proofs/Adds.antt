@@ -11,9 +11,10 @@ use lib.Dec.{eqb, ltb, leb}
 use borrow.Author.Tests.{eq-eqb, ne-eqb, le-leb, lt-leb, lt-ltb, le-ltb, leb-true, ltb-true, not-true, not-false}
 use Rattle.records.specs.declared.Next.{Next}
 use Rattle.records.specs.declared.Next.the-variants as next
-use Rattle.records.specs.Got.{Got, got, bad, Parser, nextOf}
+use Rattle.records.specs.Got.{Got, got, bad, Parser}
+use Rattle.records.specs.Relations.Answer.{nextOf}
 use Rattle.records.specs.Bytes.{part, toBe, numberAt}
-use Rattle.records.specs.Rules.{isId}
+use Rattle.rules.specs.Rules.{isId}
 use Rattle.records.specs.Encode.{encAll, encCounted, encFlag, encStr, encWhole, encFunction, encItem, encStore}
 use Rattle.records.specs.Errors.{Error, encError, encErrors}
 use Rattle.records.specs.Decode.{many}

@@ -6,14 +6,15 @@ use Prim.Native.Nat.{ℕ, _+_, _≤_}
 use native.Mathlib.Omega.{arith}
 use lib.ListN.{length}
 use Rattle.records.specs.declared.Num.the-variants as num
-use Rattle.records.specs.Got.{got, numOf}
+use Rattle.records.specs.Got.{got}
+use Rattle.records.specs.Relations.Answer.{numOf}
 use Rattle.records.specs.Bytes.{part, byteAt, bytesAt, numberAt}
 use Rattle.records.specs.Decode.{many}
 use Rattle.records.specs.Images.{Entry, oneAt, entryAt, resourceAt}
 use Rattle.records.proofs.Laws.{after-elim, test-elim, bytes-in, number-inv}
 use Rattle.records.proofs.Views.{one-elim, num-is, num-none}
 use Rattle.reader.specs.declared.Row.{Row}
-use Rattle.reader.specs.Rows.{rowAt}
+use Rattle.reader.specs.Relations.Rows.{rowAt}
 use Rattle.reader.proofs.Laws.{first-is, second-is, third-is}
 use Rattle.bundle.specs.declared.Found.{Found}
 use Rattle.bundle.specs.Lookup.{Holder}

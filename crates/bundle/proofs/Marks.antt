@@ -14,10 +14,12 @@ use Rattle.records.specs.declared.Next.{Next}
 use Rattle.records.specs.declared.Num.{Num}
 use Rattle.records.specs.declared.Next.the-variants as next
 use Rattle.records.specs.declared.Num.the-variants as num
-use Rattle.records.specs.Got.{Got, got, bad, Parser, after, nextOf, numOf}
-use Rattle.records.specs.Bytes.{part, byteAt, bytesAt, numberAt, spanAt, run}
-use Rattle.records.specs.Rules.{isId, idStep}
-use Rattle.records.specs.Names.{sameBytes}
+use Rattle.records.specs.Got.{Got, got, bad, Parser, after}
+use Rattle.records.specs.Relations.Answer.{nextOf, numOf}
+use Rattle.records.specs.Bytes.{part, byteAt, bytesAt, numberAt, spanAt}
+use Rattle.rules.specs.Run.{run}
+use Rattle.rules.specs.Rules.{isId, idStep}
+use Rattle.rules.specs.Same.{sameBytes}
 use Rattle.records.specs.Encode.{encAll}
 use Rattle.records.specs.Errors.{Error, overriding, encError}
 use Rattle.records.specs.Decode.{many, optionalAt, idAt, entryPatternAt}

@@ -10,7 +10,7 @@ use lib.Dec.{eqb, ltb, leb}
 use borrow.Author.Tests.{eqb-true, eqb-false, ltb-true, leb-true}
 use Rattle.records.specs.Got.{Got, got, bad, Parser, after}
 use Rattle.records.specs.Bytes.{part, byteAt, bytesAt, numberAt, spanAt}
-use Rattle.records.specs.Rules.{isId}
+use Rattle.rules.specs.Rules.{isId}
 use Rattle.records.specs.Tree.{Pattern}
 use Rattle.records.specs.Decode.{many, flagAt, optionalAt, idAt, entryPatternAt}
 use Rattle.records.specs.Images.{Kind, Entry, Item, Store, maxImage, maxStore, maxItems, oneAt, kindAt, attributesAt, entryAt, resourceAt, functionAt, itemAt, localeAt, storeOf, wholeOf, resourceOf}

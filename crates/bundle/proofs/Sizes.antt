@@ -7,7 +7,7 @@ use Prim.Native.Nat.{ℕ, _+_, _≤_}
 use native.Mathlib.Omega.{arith}
 use lib.ListN.{length, length-append}
 use Rattle.records.specs.Bytes.{toBe}
-use Rattle.records.specs.Names.{sameBytes}
+use Rattle.rules.specs.Same.{sameBytes}
 use Rattle.records.specs.Tree.{Pattern}
 use Rattle.records.specs.Images.{Attribute, Entry, Item, maxImage}
 use Rattle.records.specs.Encode.{encStr, encOptional, encAll, encCounted, encWhole, encPattern, encAttribute, encEntry, encResource}

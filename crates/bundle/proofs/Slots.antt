@@ -13,12 +13,13 @@ use borrow.Author.Tests.{eq-eqb, ne-eqb, eqb-true, eqb-false, ltb-true, ltb-fals
 use Rattle.records.specs.declared.Next.{Next}
 use Rattle.records.specs.declared.Next.the-variants as next
 use Rattle.records.specs.Got.{Got, got, bad, Parser}
-use Rattle.records.specs.Bytes.{part, byteAt, numberAt, spanAt, run}
-use Rattle.records.specs.Names.{sameBytes}
+use Rattle.records.specs.Bytes.{part, byteAt, numberAt, spanAt}
+use Rattle.rules.specs.Run.{run}
+use Rattle.rules.specs.Same.{sameBytes}
 use Rattle.records.specs.Decode.{many}
 use Rattle.records.specs.Images.{Entry, Item, Store, isSome, entryAt, itemAt, resourceAt, functionAt, storeOf, resourceOf}
 use Rattle.records.proofs.Laws.{after-elim}
-use Rattle.records.proofs.Same.{same-eq}
+use Rattle.rules.proofs.SameBytes.{same-eq}
 use Rattle.records.proofs.Views.{both, never, many-cons, many-nil}
 use Rattle.bundle.specs.Lookup.{Holder, Find, orElse, onlyNamed, firstEntry, lastEntry, holderAfter, findFrom, findIn}
 use Rattle.bundle.specs.Meets.{Passes, behind}

@@ -11,9 +11,10 @@ use Rattle.records.specs.declared.Next.{Next}
 use Rattle.records.specs.declared.Num.{Num}
 use Rattle.records.specs.declared.Next.the-variants as next
 use Rattle.records.specs.declared.Num.the-variants as num
-use Rattle.records.specs.Got.{Got, got, bad, Parser, after, nextOf, numOf}
+use Rattle.records.specs.Got.{Got, got, bad, Parser, after}
+use Rattle.records.specs.Relations.Answer.{nextOf, numOf}
 use Rattle.records.specs.Bytes.{part, byteAt, bytesAt, numberAt, spanAt, strAt}
-use Rattle.records.specs.Names.{sameBytes}
+use Rattle.rules.specs.Same.{sameBytes}
 use Rattle.records.specs.Tree.{Pattern}
 use Rattle.records.specs.Decode.{many, optionalAt, idAt, entryPatternAt, expression, maxDepth}
 use Rattle.records.specs.Images.{Kind, Attribute, Entry, Item, Store, attributeAt, attributesAt, entryAt, resourceAt, functionAt, itemAt, storeOf}

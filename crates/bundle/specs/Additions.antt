@@ -7,8 +7,8 @@ use lib.ListN.{length, drop}
 use lib.Dec.{ltb, leb, eqb}
 use Rattle.records.specs.Got.{Got, got, bad}
 use Rattle.records.specs.Bytes.{part, toBe}
-use Rattle.records.specs.Rules.{isId}
-use Rattle.records.specs.Names.{sameBytes}
+use Rattle.rules.specs.Rules.{isId}
+use Rattle.rules.specs.Same.{sameBytes}
 use Rattle.records.specs.Images.{Kind, Entry, Item, Store, maxStore, maxItems, maxLocale, isSome, storeOf, resourceOf}
 use Rattle.records.specs.Encode.{encResource, encFunction, encFlag, encStore}
 use Rattle.records.specs.Errors.{Error, encErrors}

@@ -3,7 +3,7 @@ use mathlib.Core.Bool.{Bool, true, false}
 use mathlib.Core.List.{List, [], _∷_}
 use mathlib.Core.Option.{Option, some, none}
 use Prim.Native.Nat.{ℕ}
-use Rattle.records.specs.Names.{sameBytes}
+use Rattle.rules.specs.Same.{sameBytes}
 use Rattle.records.specs.Tree.{Pattern}
 use Rattle.records.specs.Images.{Kind, Attribute, Entry, Item}
 

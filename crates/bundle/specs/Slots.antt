@@ -7,7 +7,8 @@ use mathlib.Core.Option.{none}
 use lib.ListN.{length, getD, set}
 use lib.Dec.{eqb}
 use Rattle.records.specs.Got.{got}
-use Rattle.records.specs.Bytes.{run, part, numberAt, spanAt}
+use Rattle.rules.specs.Run.{run}
+use Rattle.records.specs.Bytes.{part, numberAt, spanAt}
 use Rattle.records.specs.Decode.{many}
 use Rattle.records.specs.Images.{Entry, Item, isSome, entryAt, itemAt}
 use Rattle.bundle.specs.Lookup.{Find, firstEntry, holderAfter}

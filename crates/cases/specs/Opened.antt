@@ -9,8 +9,10 @@ use Rattle.numbers.specs.Value as numbers-value
 use Rattle.numbers.specs.Plural as numbers-plural
 use Rattle.records.specs.Got as records-got
 use Rattle.records.specs.Bytes as records-bytes
-use Rattle.records.specs.Rules as records-rules
+use Rattle.rules.specs.Run as rules-run
+use Rattle.rules.specs.Rules as records-rules
 use Rattle.records.specs.Names as records-names
+use Rattle.rules.specs.Same as rules-same
 use Rattle.records.specs.Decode as records-decode
 use Rattle.records.specs.Images as records-images
 use Rattle.records.specs.Encode as records-encode
@@ -56,7 +58,7 @@ unfolding records-got.after records-got.test records-got.pick
 recordsGot = tt
 
 unfoldable pub recordsBytes : Unit {0}
-unfolding records-bytes.bytesAt records-bytes.byteAt records-bytes.numberAt records-bytes.spanAt records-bytes.run records-bytes.toBe
+unfolding records-bytes.bytesAt records-bytes.byteAt records-bytes.numberAt records-bytes.spanAt rules-run.run records-bytes.toBe
 recordsBytes = tt
 
 unfoldable pub recordsRules : Unit {0}
@@ -64,7 +66,7 @@ unfolding records-rules.letter records-rules.digit records-rules.idStep records-
 recordsRules = tt
 
 unfoldable pub recordsNames : Unit {0}
-unfolding records-names.sameBytes records-names.among records-names.distinct
+unfolding rules-same.sameBytes records-names.among records-names.distinct
 recordsNames = tt
 
 unfoldable pub recordsDecode : Unit {0}

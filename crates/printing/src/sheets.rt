@@ -1,7 +1,7 @@
 // The messages of a sheet, formatted and put into a buffer as they are printed.
 use crate::bundles::make_bundle;
 use bundle::Answer;
-use records::same_bytes;
+use rules::same_bytes;
 use sighting::options::Value;
 use sighting::options::has;
 use sighting::options::value_of;

@@ -2,7 +2,7 @@
 ghost use mathlib.Core.Path.{_≡_};
 ghost use Prim.Native.Nat.{_+_, _≤_, _<_};
 ghost use lib.ListN.{length};
-ghost use Rattle.records.specs.Got.{nextOf, numOf};
+ghost use Rattle.records.specs.Relations.Answer.{nextOf, numOf};
 ghost use Rattle.records.specs.Bytes.{be, part, byteAt, numberAt, spanAt, strAt, bytesAt};
 use crate::Next;
 use crate::Num;

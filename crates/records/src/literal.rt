@@ -1,6 +1,6 @@
 // Records that hold no other: Ids, texts, literals, keys, Flags.
 ghost use mathlib.Core.Path.{_≡_};
-ghost use Rattle.records.specs.Got.{nextOf};
+ghost use Rattle.records.specs.Relations.Answer.{nextOf};
 ghost use Rattle.records.specs.Decode.{idAt, textAt, stringAt, literalNumberAt, literalAt, keyAt, flagAt, optionalAt};
 ghost use Rattle.records.specs.Images.{oneAt};
 use crate::Next;

@@ -1,6 +1,6 @@
 // Patterns and expressions, and what they hold: one cycle of calls.
 ghost use mathlib.Core.Path.{_≡_};
-ghost use Rattle.records.specs.Got.{nextOf};
+ghost use Rattle.records.specs.Relations.Answer.{nextOf};
 ghost use Rattle.records.specs.Tree.{no-variant, or};
 ghost use Rattle.records.specs.Decode.{many, elementAt, elementsAt, patternAt, variantAt, inlinesAt, argumentsAt, termAt, selectAt, inlineBody, expression, inline};
 use crate::Next;

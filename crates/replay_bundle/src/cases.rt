@@ -96,7 +96,7 @@ fn fresh(s: &[u8], slice: &mut [u8]) -> u64 {
     let b = blob(s, 8);
     let from = b.from;
     let to = b.to;
-    if records::same_bytes(slice, &s[from..to]) {
+    if rules::same_bytes(slice, &s[from..to]) {
         return 0;
     }
     1
@@ -128,11 +128,11 @@ fn kept(s: &[u8], at: usize, slice: &[u8], list: &[u8]) -> u64 {
     let b = blob(s, at);
     let from = b.from;
     let to = b.to;
-    if records::same_bytes(slice, &s[from..to]) {
+    if rules::same_bytes(slice, &s[from..to]) {
         let c = blob(s, to);
         let from2 = c.from;
         let to2 = c.to;
-        if records::same_bytes(list, &s[from2..to2]) {
+        if rules::same_bytes(list, &s[from2..to2]) {
             return 0;
         }
     }
@@ -198,7 +198,7 @@ fn given(s: &[u8], end: usize, slice: &mut [u8], id: &[u8]) -> u64 {
     let c = blob(s, past(s, end, 2));
     let from = c.from;
     let to = c.to;
-    if records::same_bytes(slice, &s[from..to]) {
+    if rules::same_bytes(slice, &s[from..to]) {
         return 0;
     }
     1

@@ -46,7 +46,7 @@ fn begins(s: &[u8], front: &[u8]) -> bool {
         return false;
     }
     let zero = 0usize;
-    if records::same_bytes(&s[zero..n], front) {
+    if rules::same_bytes(&s[zero..n], front) {
         return all_are(&s[n..], BEFORE);
     }
     false

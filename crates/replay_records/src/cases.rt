@@ -1,5 +1,5 @@
 // The cases, each compared with what the oracle answered: 0 where they agree, 1 where they differ.
-use images::Given;
+use arguments::Given;
 use records::Next;
 use records::Num;
 use texts::Wrote;
@@ -72,7 +72,7 @@ fn accepted(kind: u8, s: &[u8]) -> bool {
     } else if kind == 5 {
         yes(images::check_resource(s))
     } else {
-        yes(images::check_arguments(s))
+        yes(arguments::check_arguments(s))
     }
 }
 
@@ -115,7 +115,7 @@ pub fn find_case(s: &[u8]) -> u64 {
     let at = n.to;
     let kind = byte(s, at);
     let args = &s[from..to];
-    match images::find_argument(args, &s[name..at]) {
+    match arguments::find_argument(args, &s[name..at]) {
         Given::Missing => differs(kind == 0),
         Given::Text(a, e) => {
             if kind == 1 {
@@ -123,7 +123,7 @@ pub fn find_case(s: &[u8]) -> u64 {
                     let w = string(s, at + 1);
                     let x = w.from;
                     let y = w.to;
-                    return differs(records::same_bytes(images::text_of(args, a, e), &s[x..y]));
+                    return differs(rules::same_bytes(arguments::text_of(args, a, e), &s[x..y]));
                 }
             }
             1
@@ -134,7 +134,7 @@ pub fn find_case(s: &[u8]) -> u64 {
                     let p = at + 1;
                     if byte(s, p) == flag(sign) {
                         if p < s.len() {
-                            if let Num::At(d, q) = images::read_u64(s, p + 1) {
+                            if let Num::At(d, q) = arguments::read_u64(s, p + 1) {
                                 if d as u64 == digits {
                                     return differs(byte(s, q) == scale);
                                 }
@@ -155,7 +155,7 @@ fn reads_as(d: &[u8], n: usize, text: &[u8]) -> bool {
         return false;
     }
     let zero = 0usize;
-    records::same_bytes(&d[zero..n], text)
+    rules::same_bytes(&d[zero..n], text)
 }
 
 // Str string literal, Str text: the text that the literal reads as.

@@ -8,7 +8,7 @@ use lib.Dec.{leb}
 use Rattle.numbers.specs.Number.{defaultOptions}
 use Rattle.numbers.specs.Value.{Value, textual, numeric}
 use Rattle.records.specs.Got.{Got, got, bad}
-use Rattle.records.specs.Rules.{isId}
+use Rattle.rules.specs.Rules.{isId}
 use Rattle.records.specs.Tree.{Pattern}
 use Rattle.records.specs.Images.{Entry, Store, Argument, storeOf, argumentsOf}
 use Rattle.records.specs.Errors.{encErrors, listHeader}

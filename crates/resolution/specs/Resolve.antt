@@ -8,7 +8,7 @@ use Rattle.numbers.specs.Number.{Number, literal, sameNumber}
 use Rattle.numbers.specs.Value.{Value, textual, numeric, nothing, wrong, valueText, numberFunction, minimumFractionDigitsName, toCount}
 use Rattle.numbers.specs.Plural.{category, keyword}
 use Rattle.texts.specs.Unescape.{unescape, hasBackslash}
-use Rattle.records.specs.Names.{sameBytes}
+use Rattle.rules.specs.Same.{sameBytes}
 use Rattle.records.specs.Tree.{Literal, Key, Named, Pattern, pattern, Elements, no-more, more, Element, text, placeable, Expression, inline, select, Inline, variable, nested, Arguments, without, with-args, Inlines, no-inline, and, Variants, no-variant, or, Variant, variant}
 use Rattle.records.specs.Images.{Kind, Entry}
 use Rattle.records.specs.Errors.{Error, Referred, reference, noValue, missingDefault, cyclic}

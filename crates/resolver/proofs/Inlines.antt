@@ -13,9 +13,10 @@ use Rattle.numbers.specs.Shown.{shown}
 use Rattle.texts.specs.Unescape.{unescape}
 use Rattle.records.specs.declared.Num.{Num}
 use Rattle.records.specs.declared.Num.the-variants as num
-use Rattle.records.specs.Got.{Got, got, bad, numOf}
+use Rattle.records.specs.Got.{Got, got, bad}
+use Rattle.records.specs.Relations.Answer.{numOf}
 use Rattle.records.specs.Bytes.{part, byteAt, spanAt, strAt}
-use Rattle.records.specs.Rules as rules
+use Rattle.rules.specs.Rules as rules
 use Rattle.records.specs.Tree.{Expression, Inline, Inlines, Named, variable, function, message, term, nested}
 use Rattle.records.specs.Decode.{idAt, literalNumberAt, argumentsAt, expression, inline}
 use Rattle.records.proofs.Laws.{str-in}

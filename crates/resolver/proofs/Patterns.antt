@@ -8,7 +8,7 @@ use native.Mathlib.Omega.{arith}
 use Rattle.records.specs.declared.Next.{Next}
 use Rattle.records.specs.declared.Next.the-variants as next
 use Rattle.records.specs.Got.{Got, got, bad}
-use Rattle.records.specs.Rules.{isId}
+use Rattle.rules.specs.Rules.{isId}
 use Rattle.records.specs.Tree.{Pattern}
 use Rattle.records.specs.Decode.{entryPatternAt}
 use Rattle.records.specs.Images.{Kind, Entry, Store, storeOf, entryAt}

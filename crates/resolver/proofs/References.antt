@@ -14,7 +14,7 @@ use Rattle.records.specs.Tree.{Pattern, Inline, Arguments}
 use Rattle.records.specs.Decode.{idAt, optionalAt, termAt, termArgumentsAt, entryPatternAt, expression, inline}
 use Rattle.records.specs.Images.{Kind, Entry, Store, storeOf, entryAt}
 use Rattle.records.specs.Errors.{Error, Referred, reference, noValue}
-use Rattle.records.proofs.Laws.{after-elim, number-inv}
+use Rattle.records.proofs.Laws.{after-elim, number-inv, byte-inv}
 use Rattle.records.proofs.Views.{both, never, id-elim, term-elim, Body, is-string, is-number, is-function, is-message, is-term, is-variable, is-nested, inline-elim}
 use Rattle.texts.specs.Report.{referredOf, optionOf}
 use Rattle.texts.specs.declared.Referred.the-variants as referred
@@ -22,7 +22,6 @@ use Rattle.bundle.specs.Lookup.{Holder, Find, findIn, partOf}
 use Rattle.bundle.specs.Meets.{HolderAt, message-at, term-at, function-at, nothing-at, PartAt, part-at, no-part, asked}
 use Rattle.bundle.specs.declared.Found.{Found}
 use Rattle.bundle.specs.declared.Found.the-variants as found
-use Rattle.images.proofs.Views.{byte-inv}
 use Rattle.resolution.specs.Effect.{Bytes, report, unfound, M, Done, emit, write, _>>=_, _>>_}
 use Rattle.resolution.specs.Resolve.{Trail, dotted, errorText, braced, writeRefError, lookUp, messageOnly, termOnly, asMessage, asTerm, track, onPart, missingPart, messageFound, termFound, writeMessage}
 use Rattle.scope.specs.declared.state.Scope.{Scope}

@@ -21,11 +21,11 @@ use Rattle.numbers.proofs.Shown.{category-shown}
 use Rattle.records.specs.declared.Next.{Next}
 use Rattle.records.specs.declared.Next.the-variants as next
 use Rattle.records.specs.Got.{got, bad, Parser}
-use Rattle.images.specs.Arguments.{between}
-use Rattle.images.proofs.Laws.{between-in}
+use Rattle.arguments.specs.Relations.Given.{between}
+use Rattle.arguments.proofs.Laws.{between-in}
 use Rattle.records.specs.Bytes.{part, byteAt, numberAt, spanAt}
-use Rattle.records.specs.Names.{sameBytes}
-use Rattle.records.specs.Rules.{isNumber}
+use Rattle.rules.specs.Same.{sameBytes}
+use Rattle.rules.specs.Rules.{isNumber}
 use Rattle.records.specs.Tree.{Key, Pattern, Expression, Variants, no-variant, or, Variant, variant}
 use Rattle.records.specs.Decode.{many, literalNumberAt, keyAt, patternAt, variantAt, expression}
 use Rattle.records.specs.Images.{Store, storeOf}

@@ -9,9 +9,9 @@ use lib.ListN.{length}
 use lib.Dec.{eqb, ltb, leb}
 use borrow.Author.Tests.{eqb-true, leb-true, ltb-true, ltb-false, le-leb, lt-ltb}
 use Rattle.records.specs.Got.{got}
-use Rattle.records.specs.Bytes.{run as run-r}
-use Rattle.records.specs.Names.{sameBytes as same-r}
-use Rattle.records.specs.Rules.{choose as choose-r, digit as digit-r, idStep, isId, numberStep as step-r, digitStep, isNumber as isNumber-r}
+use Rattle.rules.specs.Run.{run as run-r}
+use Rattle.rules.specs.Same.{sameBytes as same-r}
+use Rattle.rules.specs.Rules.{choose as choose-r, digit as digit-r, idStep, isId, numberStep as step-r, digitStep, isNumber as isNumber-r}
 use Rattle.records.specs.Decode.{idAt}
 use Rattle.records.proofs.Views.{id-elim}
 use Rattle.numbers.specs.Bytes.{run, choose, digit, sameBytes}

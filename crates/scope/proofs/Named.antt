@@ -13,8 +13,8 @@ use Rattle.texts.specs.Unescape.{unescape, hasBackslash}
 use Rattle.texts.proofs.Reading.{unescape-plain}
 use Rattle.records.specs.Got.{got, bad}
 use Rattle.records.specs.Bytes.{part, byteAt, spanAt}
-use Rattle.records.specs.Rules.{isString, isNumber as isNumber-r}
-use Rattle.records.specs.Names.{sameBytes}
+use Rattle.rules.specs.Rules.{isString, isNumber as isNumber-r}
+use Rattle.rules.specs.Same.{sameBytes}
 use Rattle.records.specs.Tree.{Literal, Named}
 use Rattle.records.specs.Decode.{many, namedAt, literalAt, stringAt, literalNumberAt}
 use Rattle.records.proofs.Laws.{span-in}

@@ -9,8 +9,9 @@ use lib.ListN.{length}
 use lib.Dec.{eqb}
 use borrow.Author.Tests.{leb-true}
 use Rattle.records.specs.Got.{got, bad}
-use Rattle.records.specs.Bytes.{part, byteAt, strAt, run}
-use Rattle.records.specs.Rules.{idStep, isId}
+use Rattle.records.specs.Bytes.{part, byteAt, strAt}
+use Rattle.rules.specs.Run.{run}
+use Rattle.rules.specs.Rules.{idStep, isId}
 use Rattle.records.specs.Tree.{Inline, Arguments}
 use Rattle.records.specs.Decode.{idAt, optionalAt, expression, inline}
 use Rattle.records.specs.Errors.{Referred, reference, Error}

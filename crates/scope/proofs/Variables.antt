@@ -13,17 +13,18 @@ use Rattle.numbers.specs.Shown.{shownOptions}
 use Rattle.numbers.specs.declared.types.Options as code-options
 use Rattle.records.specs.Got.{got}
 use Rattle.records.specs.Bytes.{part}
-use Rattle.records.specs.Names.{sameBytes}
+use Rattle.rules.specs.Same.{sameBytes}
 use Rattle.records.specs.Tree.{Named}
 use Rattle.records.specs.Decode.{many, namedAt}
 use Rattle.records.specs.Images.{Argument, argumentAt, argumentsOf, argumentValueAt}
 use Rattle.records.specs.Errors.{Referred, reference}
 use Rattle.records.proofs.Views.{many-cons, many-nil}
-use Rattle.images.specs.Arguments.{instead, lastFrom, lastNamed as lastArgument, meant, Within}
-use Rattle.images.specs.declared.Given.{Given}
-use Rattle.images.specs.declared.Given.the-variants as given
-use Rattle.images.proofs.Laws.{between-in}
-use Rattle.images.proofs.Views.{argument-elim, argument-value-elim, argument-number-elim, arguments-image-elim}
+use Rattle.arguments.specs.Arguments.{instead, lastFrom, lastNamed as lastArgument}
+use Rattle.arguments.specs.Relations.Given.{meant, Within}
+use Rattle.arguments.specs.declared.Given.{Given}
+use Rattle.arguments.specs.declared.Given.the-variants as given
+use Rattle.arguments.proofs.Laws.{between-in}
+use Rattle.arguments.proofs.Views.{argument-elim, argument-value-elim, argument-number-elim, arguments-image-elim}
 use Rattle.bundle.specs.Lookup.{orElse, onlyNamed}
 use Rattle.resolution.specs.Effect.{Bytes, report, Locals, State, Out, M, ret, _>>=_, _>>_, emit, write, getLocals}
 use Rattle.resolution.specs.Resolve.{lastNamed, foundOr, variableIn, getVariable, writeVariable, orWrong, braced}

@@ -22,7 +22,7 @@ ghost use Rattle.scope.specs.Meets.{world, Acts, Kept, Holds, ErrorAt, C
 use crate::state::Scope;
 use crate::state::Value;
 use crate::state::refuse;
-use images::text_of;
+use arguments::text_of;
 use numbers::text::number_text;
 use numbers::types::Number;
 use records::Num;

@@ -8,11 +8,11 @@ use native.Mathlib.Omega.{arith}
 use lib.ListN.{length}
 use Rattle.records.specs.declared.Num.{Num}
 use Rattle.records.specs.declared.Num.the-variants as num
-use Rattle.records.specs.Got.{numOf}
+use Rattle.records.specs.Relations.Answer.{numOf}
 use Rattle.records.specs.Bytes.{part, spanAt}
-use Rattle.records.specs.Names.{sameBytes}
+use Rattle.rules.specs.Same.{sameBytes}
 use Rattle.records.proofs.Laws.{str-in}
-use Rattle.records.proofs.Same.{same-eq}
+use Rattle.rules.proofs.SameBytes.{same-eq}
 use Rattle.records.proofs.Views.{num-is, num-none}
 use Rattle.wording.specs.Strs.{strsBy, strsAt}
 use Rattle.sighting.specs.Options.{Word, isOneOf, flags, takesValue, pickOptions, optionsFrom, optionsOf, instead, lastFrom, isSome, anyIs, noWord}

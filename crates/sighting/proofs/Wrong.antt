@@ -6,7 +6,7 @@ use Prim.Native.Nat.{ℕ, _-_, _<_}
 use native.Mathlib.Omega.{arith}
 use Rattle.records.specs.declared.Num.{Num}
 use Rattle.records.specs.declared.Num.the-variants as num
-use Rattle.records.specs.Got.{numOf}
+use Rattle.records.specs.Relations.Answer.{numOf}
 use Rattle.records.specs.Bytes.{part, spanAt}
 use Rattle.wording.specs.Strs.{strsAt}
 use Rattle.wording.specs.Poured.{poured}

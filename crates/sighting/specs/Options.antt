@@ -3,7 +3,7 @@ use Prim.Native.Nat.{ℕ}
 use mathlib.Core.Bool.{Bool, true, false, _&&_, _||_}
 use mathlib.Core.List.{List, [], _∷_, _++_}
 use mathlib.Core.Option.{Option, some, none}
-use Rattle.records.specs.Names.{sameBytes}
+use Rattle.rules.specs.Same.{sameBytes}
 
 abbrev pub Word : Type 0
 Word = List ℕ

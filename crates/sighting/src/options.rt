@@ -1,14 +1,14 @@
 // The words of the command line: n Strs in a row. An option is a word of its own, or a word and its value; of equal options the last holds.
 use records::Num;
 use records::read_str;
-use records::same_bytes;
+use rules::same_bytes;
 use wording::poured::put;
 ghost use mathlib.Core.Path.{_≡_};
 ghost use mathlib.Core.Bool.{_&&_};
 ghost use Prim.Native.Nat.{_-_, _≤_};
 ghost use lib.ListN.{length};
 ghost use Rattle.records.specs.Bytes.{part};
-ghost use Rattle.records.specs.Names.{sameBytes};
+ghost use Rattle.rules.specs.Same.{sameBytes};
 ghost use Rattle.wording.specs.Poured.{poured};
 ghost use Rattle.wording.specs.Strs.{strsAt};
 ghost use Rattle.sighting.specs.Options.{isOneOf, flags, numberFields, isField, languages, fieldOptions, sources, takesValue, isNamed, needs, unknownWords, needWords, wrongWords, noWord, isGiven, isLeftOut};

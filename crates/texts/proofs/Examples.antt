@@ -4,7 +4,7 @@ use mathlib.Core.List.{List, [], _∷_, _++_, map}
 use mathlib.Core.Option.{none}
 use Prim.Native.Nat.{ℕ}
 use Rattle.records.specs.Bytes.{toBe}
-use Rattle.records.specs.Rules.{digit, hex}
+use Rattle.rules.specs.Rules.{digit, hex}
 use Rattle.records.specs.Encode.{encStr, encOptional, encAll, encWhole}
 use Rattle.records.specs.Errors.{Referred, reference, encReferred, encRecord, encError, encErrors}
 use Rattle.texts.specs.Unescape.{hexValue, digitsOf, scalarPiece, scalarOf, escapeOf, pieceOf, moreOf, isScalar, scalarOr, encScalar, readsAs, unescapeFrom, unescape}

@@ -7,8 +7,8 @@ use native.Mathlib.Omega.{arith}
 use lib.ListN.{length, drop}
 use lib.Dec.{eqb}
 use borrow.Author.Tests.{eq-eqb, ne-eqb, eqb-true, eqb-false}
-use Rattle.records.specs.Bytes.{run}
-use Rattle.records.specs.Rules.{choose, hex, escapeStep, isUtf8, isString}
+use Rattle.rules.specs.Run.{run}
+use Rattle.rules.specs.Rules.{choose, hex, escapeStep, isUtf8, isString}
 use Rattle.texts.specs.Append.{given}
 use Rattle.texts.specs.Unescape.{hexValue, digitsOf, scalarPiece, scalarOf, escapeOf, pieceOf, readsAs, moreOf, unescapeFrom, unescape}
 use Rattle.texts.specs.declared.Digits.{Digits}

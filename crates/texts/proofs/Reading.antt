@@ -10,7 +10,7 @@ use lib.ListN.{length, take, drop, getD, length-append, length-drop, drop-of-len
 use lib.Seq.{drop-cons, drop-drop}
 use lib.Dec.{leb, ltb, eqb}
 use borrow.Author.Tests.{lt-ltb, le-ltb, le-leb, lt-leb, eq-eqb, ne-eqb, leb-true, ltb-true, eqb-true, eqb-false}
-use Rattle.records.specs.Rules.{choose, within, digit, hex, escapeStep}
+use Rattle.rules.specs.Rules.{choose, within, digit, hex, escapeStep}
 use Rattle.texts.specs.Append.{given, over}
 use Rattle.texts.proofs.Place.{over-none, over-over, then-over, length-over}
 use Rattle.texts.specs.Unescape.{hasBackslash, hexValue, digitsOf, scalarPiece, scalarOf, escapeOf, pieceOf, readsAs, moreOf, scalarOr, encScalar, unescapeFrom, unescape}

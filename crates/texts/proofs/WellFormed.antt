@@ -7,8 +7,8 @@ use native.Mathlib.Omega.{arith}
 use lib.ListN.{length, drop}
 use lib.Dec.{eqb, ltb, leb}
 use borrow.Author.Tests.{eq-eqb, ne-eqb, eqb-true, eqb-false, lt-ltb, le-ltb, ltb-true, ltb-false, leb-true, leb-false, le-leb, lt-leb}
-use Rattle.records.specs.Bytes.{run}
-use Rattle.records.specs.Rules.{choose, within, hex, utf8First, utf8Low, utf8High, utf8Rest, utf8Step, isUtf8}
+use Rattle.rules.specs.Run.{run}
+use Rattle.rules.specs.Rules.{choose, within, hex, utf8First, utf8Low, utf8High, utf8Rest, utf8Step, isUtf8}
 use Rattle.texts.specs.Append.{given}
 use Rattle.texts.specs.Unescape.{hexValue, digitsOf, scalarPiece, scalarOf, escapeOf, pieceOf, readsAs, moreOf, isScalar, scalarOr, encScalar, unescapeFrom, unescape}
 use Rattle.texts.specs.declared.Digits.{Digits}

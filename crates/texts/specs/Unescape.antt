@@ -4,7 +4,7 @@ use Prim.Native.Nat.{ℕ, zero, suc, _+_, _-_, _*_, _/_, _%_}
 use mathlib.Core.Bool.{Bool, true, false, _||_}
 use mathlib.Core.List.{List, [], _∷_, _++_}
 use lib.Dec.{ltb, leb, eqb}
-use Rattle.records.specs.Rules.{choose, within, digit, hex}
+use Rattle.rules.specs.Rules.{choose, within, digit, hex}
 use Rattle.texts.specs.Append.{given}
 use Rattle.texts.specs.declared.Digits.{Digits}
 use Rattle.texts.specs.declared.Digits.the-variants.{Value, Broken}

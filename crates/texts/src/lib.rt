@@ -6,7 +6,7 @@ ghost use mathlib.Core.List.{List, [], _∷_, _++_};
 ghost use Prim.Native.Nat.{ℕ, _+_, _≤_, _<_};
 ghost use lib.ListN.{length, drop, getD, replicate};
 ghost use Rattle.records.specs.Bytes.{toBe, part};
-ghost use Rattle.records.specs.Rules.{hex};
+ghost use Rattle.rules.specs.Rules.{hex};
 ghost use Rattle.records.specs.Encode.{encStr, encKind};
 ghost use Rattle.records.specs.Errors.{overriding, reference, noValue, encReferred, encError};
 ghost use Rattle.texts.specs.Append.{over, appended, movedBack};

@@ -12,7 +12,8 @@ use Rattle.records.specs.Tree.{Expression, Inline}
 use Rattle.records.specs.Decode.{expression, inline}
 use Rattle.records.specs.Images.{Store, storeOf}
 use Rattle.records.proofs.Views.{both, never, flag-elim, select-elim, term-elim, Body, is-string, is-number, is-function, is-message, is-term, is-variable, is-nested, inline-elim, expression-elim}
-use Rattle.images.proofs.Views.{byte-inv, store-elim}
+use Rattle.records.proofs.Laws.{byte-inv}
+use Rattle.images.proofs.Views.{store-elim}
 use Rattle.resolution.specs.Resolve.{bare, bareInline}
 
 -- a store: its sixth byte is its locale, its seventh its isolating Flag

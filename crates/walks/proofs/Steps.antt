@@ -8,7 +8,8 @@ use native.Mathlib.Omega.{arith}
 use lib.ListN.{length}
 use Rattle.records.specs.declared.Next.{Next}
 use Rattle.records.specs.declared.Next.the-variants as next
-use Rattle.records.specs.Got.{Got, got, bad, Parser, nextOf}
+use Rattle.records.specs.Got.{Got, got, bad, Parser}
+use Rattle.records.specs.Relations.Answer.{nextOf}
 use Rattle.records.specs.Bytes.{byteAt, bytesAt, numberAt, strAt}
 use Rattle.records.specs.Tree.{Expression, Inline, Arguments, no-variant, or}
 use Rattle.records.specs.Decode.{many, flagAt, optionalAt, idAt, literalAt, keyAt, namedAt, elementAt, patternAt, variantAt, inlinesAt, argumentsAt, termArgumentsAt, selectAt, expression, inline}

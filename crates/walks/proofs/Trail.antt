@@ -10,7 +10,7 @@ use Rattle.records.specs.declared.Next.{Next}
 use Rattle.records.specs.declared.Next.the-variants as next
 use Rattle.records.specs.Got.{Got, got, bad}
 use Rattle.records.specs.Bytes.{part, numberAt}
-use Rattle.records.specs.Names.{sameBytes}
+use Rattle.rules.specs.Same.{sameBytes}
 use Rattle.records.proofs.Laws.{number-inv}
 use Rattle.records.proofs.Named.{clash}
 use Rattle.resolution.specs.Resolve.{onTrail}

@@ -11,7 +11,7 @@ ghost use lib.Dec.{ltb};
 ghost use Rattle.records.specs.declared.Next.the-variants as next;
 ghost use Rattle.records.specs.Got.{got};
 ghost use Rattle.records.specs.Bytes.{numberAt};
-ghost use Rattle.records.specs.Names.{sameBytes};
+ghost use Rattle.rules.specs.Same.{sameBytes};
 ghost use Rattle.records.specs.Tree.{Expression, no-variant, or};
 ghost use Rattle.records.specs.Decode.{many, idAt, optionalAt, namedAt, elementAt, patternAt, variantAt, inlinesAt, argumentsAt, termArgumentsAt, expression, inline};
 ghost use Rattle.records.specs.Images.{Store, storeOf};
@@ -24,7 +24,7 @@ use records::Num;
 use records::read_byte;
 use records::read_u16;
 use records::read_u32;
-use records::same_bytes;
+use rules::same_bytes;
 use records::skip_bytes;
 use records::skip_str;
 

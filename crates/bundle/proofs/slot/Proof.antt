@@ -1,8 +1,8 @@
 -- `bundle::slot` meets its contract. The loop's invariant: what the bytes that are left make of the number so far is what all make of 0; and it is small.
 use Prim.Native.Nat.{_%_, _*_, _+_, _-_, _<_, ℕ}
 use Rattle.bundle.specs.Slots.{hashStep, slotOf}
-use Rattle.records.proofs.Laws.{run-done, run-turn}
-use Rattle.records.specs.Bytes.{run}
+use Rattle.rules.proofs.Run.{run-done, run-turn}
+use Rattle.rules.specs.Run.{run}
 use borrow.Author.Needs.{needs}
 use lib.ListN.{drop, length}
 use mathlib.Core.Path.{_≡_, ap, refl, sym}

@@ -1,12 +1,11 @@
 -- The language that is named, or all.
 use Rattle.printing.proofs.Pages.{wanted-all, wanted-named}
-use Rattle.sighting.proofs.Making.{value-in, value-there}
+use Rattle.sighting.proofs.Making.{value-in, value-there, value-missing}
 use Rattle.sighting.specs.Options.{languageWord}
 use borrow.Author.Needs.{needs}
 use denote.Ref.{now}
 use mathlib.Core.Path.{sym}
 use native.Mathlib.Omega.{arith}
-use Rattle.sighting.proofs.Making.{value-missing}
 use Rattle.printing.proofs.sheets.is_wanted.Statement.{statement}
 use Rattle.printing.proofs.sheets.is_wanted.Tie as tie
 

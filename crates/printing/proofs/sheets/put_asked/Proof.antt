@@ -2,14 +2,13 @@
 use Rattle.printing.proofs.Pages.{asked-is}
 use Rattle.printing.proofs.Saying.{says-as}
 use Rattle.printing.specs.Sheets.{attributeWord}
-use Rattle.sighting.proofs.Making.{value-in, value-there}
+use Rattle.sighting.proofs.Making.{value-in, value-there, value-missing}
 use Rattle.texts.specs.Report.{optionOf}
 use Rattle.wording.specs.Strs.{strsAt}
 use borrow.Author.Needs.{needs}
 use denote.Ref.{now}
 use mathlib.Core.Path.{sym}
 use native.Mathlib.Omega.{arith}
-use Rattle.sighting.proofs.Making.{value-missing}
 use Rattle.printing.proofs.sheets.put_asked.Statement.{statement}
 use Rattle.printing.proofs.sheets.put_asked.Tie as tie
 

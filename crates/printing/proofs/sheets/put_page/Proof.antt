@@ -2,13 +2,12 @@
 use Rattle.printing.proofs.Pages.{page-asked, page-sheet}
 use Rattle.printing.proofs.Saying.{says-as}
 use Rattle.printing.specs.Sheets.{messageWord}
-use Rattle.sighting.proofs.Making.{value-in, value-there}
+use Rattle.sighting.proofs.Making.{value-in, value-there, value-missing}
 use Rattle.wording.specs.Strs.{strsAt}
 use borrow.Author.Needs.{needs}
 use denote.Ref.{now}
 use mathlib.Core.Path.{sym}
 use native.Mathlib.Omega.{arith}
-use Rattle.sighting.proofs.Making.{value-missing}
 use Rattle.printing.proofs.sheets.put_page.Statement.{statement}
 use Rattle.printing.proofs.sheets.put_page.Tie as tie
 

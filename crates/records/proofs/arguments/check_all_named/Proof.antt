@@ -1,7 +1,7 @@
 -- What is left of the named arguments ends where all of them end.
 use Rattle.records.proofs.Laws.{many-more, many-none, many-stop}
 use Rattle.records.specs.Decode.{many, namedAt}
-use Rattle.records.specs.Got.{nextOf}
+use Rattle.records.specs.Relations.Answer.{nextOf}
 use borrow.Author.Needs.{needs}
 use denote.Ref.{now}
 use mathlib.Core.List.{[], _∷_}

@@ -1,6 +1,7 @@
 -- `records::read_byte` meets its contract.
 use Rattle.records.specs.Bytes.{byteAt}
-use Rattle.records.specs.Got.{numOf, test}
+use Rattle.records.specs.Relations.Answer.{numOf}
+use Rattle.records.specs.Got.{test}
 use borrow.Author.Needs.{needs}
 use borrow.Author.Tests.{le-ltb, lt-ltb}
 use Rattle.records.proofs.bytes.read_byte.Statement.{statement}

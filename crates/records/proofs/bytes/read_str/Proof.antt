@@ -1,7 +1,8 @@
 -- `records::read_str` meets its contract.
 use Rattle.records.proofs.Laws.{next-at, next-bad, num-at, num-bad}
 use Rattle.records.specs.Bytes.{bytesAt, numberAt, spanAt}
-use Rattle.records.specs.Got.{after, numOf}
+use Rattle.records.specs.Got.{after}
+use Rattle.records.specs.Relations.Answer.{numOf}
 use borrow.Author.Needs.{needs}
 use denote.Ref.{now}
 use mathlib.Core.Path.{_∙_, sym}

@@ -1,6 +1,6 @@
 -- `records::read_u32` meets its contract.
 use Rattle.records.proofs.Laws.{number-in, number-out}
-use Rattle.records.specs.Got.{numOf}
+use Rattle.records.specs.Relations.Answer.{numOf}
 use borrow.Author.Needs.{needs}
 use denote.Ref.{now}
 use native.Mathlib.Omega.{arith}

@@ -1,6 +1,6 @@
 -- `records::skip_bytes` meets its contract.
 use Rattle.records.proofs.Laws.{bytes-in, bytes-out}
-use Rattle.records.specs.Got.{nextOf}
+use Rattle.records.specs.Relations.Answer.{nextOf}
 use borrow.Author.Needs.{needs}
 use denote.Ref.{now}
 use native.Mathlib.Omega.{arith}

@@ -1,8 +1,7 @@
 -- The byte is 1, or it is refused.
-use Rattle.records.proofs.Laws.{fails, next-got, num-step, num-stop}
+use Rattle.records.proofs.Laws.{fails, next-got, num-step, num-stop, passes}
 use Rattle.records.specs.Images.{oneAt}
 use borrow.Author.Needs.{needs}
-use Rattle.records.proofs.Laws.{passes}
 use Rattle.records.proofs.literal.check_one.Statement.{statement}
 use Rattle.records.proofs.literal.check_one.Tie as tie
 

@@ -1,4 +1,4 @@
--- `records::is_digit` meets its contract.
+-- `rules::is_digit` meets its contract.
 use Rattle.rules.specs.Rules.{digit}
 use borrow.Author.Tests.{le-leb, lt-leb}
 use Rattle.rules.proofs.ascii.is_digit.Statement.{statement}

@@ -1,4 +1,4 @@
--- `records::is_hex` meets its contract.
+-- `rules::is_hex` meets its contract.
 use Rattle.rules.specs.Rules.{hex}
 use borrow.Author.Needs.{needs}
 use borrow.Author.Tests.{le-leb, lt-leb}

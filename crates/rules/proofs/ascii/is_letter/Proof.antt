@@ -1,4 +1,4 @@
--- `records::is_letter` meets its contract.
+-- `rules::is_letter` meets its contract.
 use Rattle.rules.specs.Rules.{letter}
 use borrow.Author.Tests.{le-leb, lt-leb}
 use native.Mathlib.Omega.{arith}

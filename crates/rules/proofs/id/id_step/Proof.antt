@@ -1,4 +1,4 @@
--- `records::id_step` meets its contract.
+-- `rules::id_step` meets its contract.
 use Rattle.rules.specs.Rules.{idStep}
 use borrow.Author.Needs.{needs}
 use borrow.Author.Tests.{eq-eqb, ne-eqb}

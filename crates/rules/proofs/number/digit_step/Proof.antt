@@ -1,4 +1,4 @@
--- `records::digit_step` meets its contract.
+-- `rules::digit_step` meets its contract.
 use Rattle.rules.specs.Rules.{digitStep}
 use borrow.Author.Needs.{needs}
 use mathlib.Core.Path.{_∙_, sym}

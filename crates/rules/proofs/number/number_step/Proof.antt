@@ -1,4 +1,4 @@
--- `records::number_step` meets its contract.
+-- `rules::number_step` meets its contract.
 use Rattle.rules.specs.Rules.{numberStep}
 use borrow.Author.Needs.{needs}
 use borrow.Author.Tests.{eq-eqb, le-ltb, lt-ltb, ne-eqb}

@@ -1,4 +1,4 @@
--- `records::same_bytes` meets its contract.
+-- `rules::same_bytes` meets its contract.
 use Prim.Native.Nat.{_-_, _≤_}
 use Rattle.rules.proofs.SameBytes.{same-differs, same-end, same-length, same-turn}
 use Rattle.rules.specs.Same.{sameBytes}

@@ -1,4 +1,4 @@
--- `records::escape_step` meets its contract.
+-- `rules::escape_step` meets its contract.
 use Rattle.rules.specs.Rules.{escapeStep}
 use borrow.Author.Needs.{needs}
 use borrow.Author.Tests.{eq-eqb, le-ltb, lt-ltb, ne-eqb}

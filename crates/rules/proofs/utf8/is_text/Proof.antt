@@ -1,4 +1,4 @@
--- `records::is_text` meets its contract.
+-- `rules::is_text` meets its contract.
 use Rattle.rules.specs.Rules.{isText}
 use borrow.Author.Needs.{needs}
 use borrow.Author.Tests.{le-ltb, lt-ltb}

@@ -1,4 +1,4 @@
--- `records::utf8_high` meets its contract.
+-- `rules::utf8_high` meets its contract.
 use Rattle.rules.specs.Rules.{utf8High}
 use borrow.Author.Tests.{eq-eqb, le-ltb, lt-ltb, ne-eqb}
 use Rattle.rules.proofs.utf8.utf8_high.Statement.{statement}

@@ -1,4 +1,4 @@
--- `records::utf8_low` meets its contract.
+-- `rules::utf8_low` meets its contract.
 use Rattle.rules.specs.Rules.{utf8Low}
 use borrow.Author.Tests.{eq-eqb, le-ltb, lt-ltb, ne-eqb}
 use Rattle.rules.proofs.utf8.utf8_low.Statement.{statement}

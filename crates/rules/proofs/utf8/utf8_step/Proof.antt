@@ -1,4 +1,4 @@
--- `records::utf8_step` meets its contract.
+-- `rules::utf8_step` meets its contract.
 use Rattle.rules.specs.Rules.{utf8Step}
 use borrow.Author.Needs.{needs}
 use borrow.Author.Tests.{eq-eqb, le-ltb, lt-ltb, ne-eqb}

@@ -1,5 +1,5 @@
 -- `scope::put::put_value` meets its contract, by what the value is.
-use Rattle.images.proofs.Laws.{between-in}
+use Rattle.arguments.proofs.Laws.{between-in}
 use Rattle.resolution.specs.Effect.{write}
 use Rattle.scope.proofs.Buffers.{holds-args, holds-nothing, holds-number, holds-store, holds-work, holds-wrong}
 use Rattle.scope.proofs.Steps.{acts-as}

@@ -1,10 +1,9 @@
 -- What is left of `check_expression`.
 use Prim.Native.Nat.{ℕ}
-use Rattle.records.proofs.Laws.{expression-deeper, expression-none, isnt, next-end, num-step, num-stop}
+use Rattle.records.proofs.Laws.{expression-deeper, expression-none, isnt, next-end, num-step, num-stop, is as is-tag}
 use Rattle.records.specs.Decode.{exprAt}
 use borrow.Author.Needs.{needs}
 use native.Mathlib.Omega.{arith}
-use Rattle.records.proofs.Laws.{is as is-tag}
 use Rattle.records.proofs.pattern.check_expression.Reads as check-expression-reads
 use Rattle.records.proofs.pattern.+check_arguments+check_body+check_element+check_elements+check_expression+check_inline+check_inlines+check_pattern+check_select+check_term+check_variant+check_variants.Lts-check_expression as check-expression-lts
 use Rattle.records.proofs.pattern.+check_arguments+check_body+check_element+check_elements+check_expression+check_inline+check_inlines+check_pattern+check_select+check_term+check_variant+check_variants.Proof.Base.{check-expression-at, check-expression-claims}

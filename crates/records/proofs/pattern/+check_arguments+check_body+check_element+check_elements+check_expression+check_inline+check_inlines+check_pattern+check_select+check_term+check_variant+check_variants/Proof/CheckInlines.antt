@@ -2,7 +2,7 @@
 use Prim.Native.Nat.{ℕ}
 use Rattle.records.proofs.Laws.{many-more, many-none, many-stop}
 use Rattle.records.specs.Decode.{inline, inlinesAt}
-use Rattle.records.specs.Got.{nextOf}
+use Rattle.records.specs.Relations.Answer.{nextOf}
 use Rattle.records.specs.Tree.{and, no-inline}
 use borrow.Author.Needs.{needs}
 use denote.Ref.{now}

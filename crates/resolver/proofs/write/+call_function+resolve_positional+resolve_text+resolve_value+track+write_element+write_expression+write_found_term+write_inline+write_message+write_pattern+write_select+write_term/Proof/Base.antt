@@ -42,8 +42,8 @@ use Rattle.resolver.proofs.write.+call_function+resolve_positional+reso
 use Rattle.resolver.proofs.write.write_term.Reads as write-term-reads
 use Rattle.resolver.proofs.write.write_term.Kinds as write-term-kinds
 use Rattle.resolver.proofs.write.+call_function+resolve_positional+resolve_text+resolve_value+track+write_element+write_expression+write_found_term+write_inline+write_message+write_pattern+write_select+write_term.Lts-write_term as write-term-lts
-use Rattle.records.proofs.read_str.Reads as read-str-reads
-use Rattle.records.proofs.read_u16.Reads as read-u16-reads
+use Rattle.records.proofs.bytes.read_str.Reads as read-str-reads
+use Rattle.records.proofs.bytes.read_u16.Reads as read-u16-reads
 use Rattle.scope.proofs.value.resolve_named.Reads as resolve-named-reads
 use Rattle.bundle.proofs.find_holder.Reads as find-holder-reads
 use Rattle.scope.proofs.call.number_function.Reads as number-function-reads
@@ -53,7 +53,7 @@ use Rattle.walks.proofs.skip_expression.Reads as skip-expression-reads
 use Rattle.scope.proofs.state.set_aside.Reads as set-aside-reads
 use Rattle.texts.proofs.move_back.Reads as move-back-reads
 use Rattle.scope.proofs.state.set_kept.Reads as set-kept-reads
-use Rattle.records.proofs.read_byte.Reads as read-byte-reads
+use Rattle.records.proofs.bytes.read_byte.Reads as read-byte-reads
 use Rattle.scope.proofs.value.literal_string.Reads as literal-string-reads
 use Rattle.scope.proofs.value.literal_number.Reads as literal-number-reads
 use Rattle.scope.proofs.variable.resolve_variable.Reads as resolve-variable-reads
@@ -76,7 +76,7 @@ use Rattle.scope.proofs.put.put_value.Reads as put-value-reads
 use Rattle.scope.proofs.variable.write_variable.Reads as write-variable-reads
 use Rattle.scope.proofs.variable.write_result.Reads as write-result-reads
 use Rattle.scope.proofs.put.list_no_value.Reads as list-no-value-reads
-use Rattle.records.proofs.read_u32.Reads as read-u32-reads
+use Rattle.records.proofs.bytes.read_u32.Reads as read-u32-reads
 use Rattle.walks.proofs.isolates.Reads as isolates-reads
 use Rattle.walks.proofs.skip_element.Reads as skip-element-reads
 use Rattle.scope.proofs.select.choose.Reads as choose-reads
