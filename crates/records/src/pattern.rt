@@ -5,6 +5,7 @@ ghost use Rattle.records.specs.Tree.{no-variant, or};
 ghost use Rattle.records.specs.Decode.{many, elementAt, elementsAt, patternAt, variantAt, inlinesAt, argumentsAt, termAt, selectAt, inlineBody, expression, inline};
 use crate::Next;
 use crate::Num;
+use crate::arguments::check_named_arguments;
 use crate::bytes::read_byte;
 use crate::bytes::read_u16;
 use crate::bytes::read_u32;
@@ -15,7 +16,6 @@ use crate::literal::check_number;
 use crate::literal::check_optional_id;
 use crate::literal::check_string;
 use crate::literal::check_text;
-use crate::arguments::check_named_arguments;
 
 // A pattern: u32 length of the rest, u16 element count, elements. `depth` is what is left of the nesting.
 //

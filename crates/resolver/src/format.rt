@@ -1,9 +1,9 @@
 // Formatting: a message's value or attribute, from a stored bundle.
 use crate::lent::resolve;
+use arguments::check_arguments;
 use bundle::Found;
 use bundle::find_holder;
 use bundle::find_part;
-use arguments::check_arguments;
 use images::check_store;
 use records::Next;
 use rules::is_id;

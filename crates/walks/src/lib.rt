@@ -24,9 +24,9 @@ use records::Num;
 use records::read_byte;
 use records::read_u16;
 use records::read_u32;
-use rules::same_bytes;
 use records::skip_bytes;
 use records::skip_str;
+use rules::same_bytes;
 
 // Past a pattern, by its length.
 pub fn skip_pattern(s: &[u8], at: usize) -> Next
