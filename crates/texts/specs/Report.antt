@@ -11,12 +11,12 @@ use Rattle.records.specs.Errors as errors
 use Rattle.records.specs.Errors.{Error, encError, listHeader}
 use Rattle.texts.specs.Append.{over, given, attempt}
 use Rattle.texts.specs.declared.Wrote.{Wrote}
-use Rattle.texts.specs.declared.Kind.{Kind}
-use Rattle.texts.specs.declared.Kind.the-variants as kind
-use Rattle.texts.specs.declared.Referred.{Referred}
-use Rattle.texts.specs.declared.Referred.the-variants as referred
-use Rattle.texts.specs.declared.Plain.{Plain}
-use Rattle.texts.specs.declared.Plain.the-variants as plain
+use Rattle.texts.specs.declared.errors.Kind.{Kind}
+use Rattle.texts.specs.declared.errors.Kind.the-variants as kind
+use Rattle.texts.specs.declared.errors.Referred.{Referred}
+use Rattle.texts.specs.declared.errors.Referred.the-variants as referred
+use Rattle.texts.specs.declared.errors.Plain.{Plain}
+use Rattle.texts.specs.declared.errors.Plain.the-variants as plain
 
 -- what the enums of the code stand for
 unfoldable pub kindOf : Kind → images.Kind
