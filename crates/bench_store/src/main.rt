@@ -2,8 +2,8 @@
 // bytes and 960 variables: eight images of ASCII text, then eight of Cyrillic.
 use libc::STDOUT_FILENO;
 use records::Next;
-use texts::Wrote;
-use texts::put_bytes;
+use buffers::Wrote;
+use buffers::put_bytes;
 
 // Puts bytes at a position, and answers the one past them.
 fn append(d: &mut [u8], at: usize, src: &[u8]) -> usize {

@@ -9,9 +9,9 @@ use Rattle.records.specs.Got.{got}
 use Rattle.records.specs.Encode.{encAll}
 use Rattle.records.specs.Errors.{Error, encError}
 use Rattle.records.specs.Images.{Entry, entryAt}
-use Rattle.texts.specs.Append.{over}
-use Rattle.texts.specs.declared.Kind.{Kind}
-use Rattle.texts.specs.declared.Kind.the-variants as kind
+use Rattle.buffers.specs.Append.{over}
+use Rattle.texts.specs.declared.errors.Kind.{Kind}
+use Rattle.texts.specs.declared.errors.Kind.the-variants as kind
 use Rattle.bundle.specs.Additions as additions
 use Rattle.bundle.specs.Additions.{Added, repeatIf}
 use Rattle.bundle.specs.declared.Answer.{Answer}

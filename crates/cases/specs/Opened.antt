@@ -15,7 +15,7 @@ use Rattle.records.specs.Decode as records-decode
 use Rattle.records.specs.Images as records-images
 use Rattle.records.specs.Encode as records-encode
 use Rattle.records.specs.Errors as records-errors
-use Rattle.texts.specs.Unescape as texts-unescape
+use Rattle.unescape.specs.Unescape as texts-unescape
 use Rattle.bundle.specs.Lookup as bundle-lookup
 use Rattle.bundle.specs.Additions as bundle-additions
 use Rattle.resolution.specs.Effect as resolver-effect

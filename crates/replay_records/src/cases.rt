@@ -2,7 +2,7 @@
 use images::Given;
 use records::Next;
 use records::Num;
-use texts::Wrote;
+use buffers::Wrote;
 ghost use Prim.Native.Nat.{_≤_, _<_};
 ghost use lib.ListN.{length};
 
@@ -167,7 +167,7 @@ pub fn literal_case(s: &[u8]) -> u64 {
     let start = t.from;
     let end = t.to;
     let mut text = io::large_buffer();
-    match texts::unescape_into(&s[from..to], &mut text, 0) {
+    match unescape::unescape_into(&s[from..to], &mut text, 0) {
         Wrote::At(n) => differs(reads_as(&text, n, &s[start..end])),
         Wrote::Full => 1,
     }

@@ -7,7 +7,7 @@ use native.Mathlib.Nat.{le-refl}
 use native.Mathlib.Omega.{arith}
 use Rattle.numbers.specs.Number.{Number}
 use Rattle.numbers.specs.Value.{Value, textual, numeric, nothing, wrong}
-use Rattle.texts.specs.Unescape.{hasBackslash}
+use Rattle.unescape.specs.Unescape.{hasBackslash}
 use Rattle.records.specs.Tree.{Literal, Named, Pattern, pattern, Elements, no-more, more, Element, text, placeable, Expression, inline, select, Inline, variable, nested, Arguments, without, with-args, Inlines, no-inline, and, Variants, no-variant, or, Variant, variant}
 use Rattle.records.specs.Images.{Entry}
 use Rattle.records.specs.Errors.{Error, overriding, reference, noValue, missingDefault, cyclic, tooManyPlaceables}

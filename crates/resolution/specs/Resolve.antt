@@ -7,7 +7,7 @@ use Prim.Native.Nat.{ℕ, zero, suc}
 use Rattle.numbers.specs.Number.{Number, literal, sameNumber}
 use Rattle.numbers.specs.Value.{Value, textual, numeric, nothing, wrong, valueText, numberFunction, minimumFractionDigitsName, toCount}
 use Rattle.numbers.specs.Plural.{category, keyword}
-use Rattle.texts.specs.Unescape.{unescape, hasBackslash}
+use Rattle.unescape.specs.Unescape.{unescape, hasBackslash}
 use Rattle.records.specs.Names.{sameBytes}
 use Rattle.records.specs.Tree.{Literal, Key, Named, Pattern, pattern, Elements, no-more, more, Element, text, placeable, Expression, inline, select, Inline, variable, nested, Arguments, without, with-args, Inlines, no-inline, and, Variants, no-variant, or, Variant, variant}
 use Rattle.records.specs.Images.{Kind, Entry}

@@ -10,7 +10,7 @@ use lib.Seq.{length-take-le}
 use Rattle.numbers.specs.Number.{Number, isNumber, literal, inRange}
 use Rattle.numbers.specs.Value.{Value, numeric, valueText}
 use Rattle.numbers.specs.Shown.{shown}
-use Rattle.texts.specs.Unescape.{unescape}
+use Rattle.unescape.specs.Unescape.{unescape}
 use Rattle.records.specs.declared.Num.{Num}
 use Rattle.records.specs.declared.Num.the-variants as num
 use Rattle.records.specs.Got.{Got, got, bad, numOf}

@@ -15,9 +15,9 @@ use Rattle.records.specs.Bytes.{part, byteAt, strAt}
 use Rattle.records.specs.Tree.{Inline, variable}
 use Rattle.records.specs.Decode.{idAt, literalNumberAt, inline}
 use Rattle.records.proofs.Views.{both, never, id-str, string-str, number-str, ruled-elim, inline-elim}
-use Rattle.texts.specs.Append.{movedBack, Keeps}
-use Rattle.texts.specs.Unescape.{unescape}
-use Rattle.texts.proofs.Place.{moved-keeps}
+use Rattle.buffers.specs.Append.{movedBack, Keeps}
+use Rattle.unescape.specs.Unescape.{unescape}
+use Rattle.buffers.proofs.Place.{moved-keeps}
 use Rattle.resolution.specs.Effect.{Bytes, State, Out, M, Done, ret, _>>=_, _>>_, capture, release}
 use Rattle.resolution.specs.Exec.{Machine, Limits}
 use Rattle.resolution.specs.Resolve.{Trail, held, stringValue, getVariable, orWrong, callFunction, getArguments, writeInline, resolveInline, writeExpression, writeMessage}

@@ -8,7 +8,7 @@ use images::check_store;
 use records::Next;
 use records::is_id;
 use scope::state::Scope;
-use texts::fill_zero;
+use buffers::fill_zero;
 use texts::put_header;
 ghost use mathlib.Core.Path.{_≡_};
 ghost use Rattle.resolution.specs.Format.{isIdOrNone};

@@ -46,7 +46,7 @@ use scope::variable::write_result;
 use scope::variable::write_variable;
 use texts::Plain;
 use texts::Referred;
-use texts::move_back;
+use buffers::move_back;
 use walks::has_marks;
 use walks::isolates;
 use walks::on_trail;

@@ -18,12 +18,12 @@ use Rattle.numbers.proofs.Writing.{ranged-in}
 use Rattle.records.specs.Bytes.{part}
 use Rattle.records.specs.Errors.{Error, Referred, noValue, reference, encError}
 use Rattle.records.proofs.Local.{length-part}
-use Rattle.texts.specs.Append.{appended}
+use Rattle.buffers.specs.Append.{appended}
 use Rattle.texts.specs.Report.{optionOf, plainOf, roomFor, recorded}
-use Rattle.texts.specs.declared.Plain.{Plain}
-use Rattle.texts.specs.declared.Wrote.{Wrote}
-use Rattle.texts.specs.declared.Wrote.the-variants as wrote
-use Rattle.texts.proofs.Place.{paste-over, appended-at, appended-no, length-over, take-over, drop-over}
+use Rattle.texts.specs.declared.errors.Plain.{Plain}
+use Rattle.buffers.specs.declared.Wrote.{Wrote}
+use Rattle.buffers.specs.declared.Wrote.the-variants as wrote
+use Rattle.buffers.proofs.Place.{paste-over, appended-at, appended-no, length-over, take-over, drop-over}
 use Rattle.texts.proofs.Recording.{room-by-size, recorded-at, recorded-no, plain-length, no-value-length, bare-length, attribute-length}
 use Rattle.resolution.specs.Effect.{Bytes, report, emit, write}
 use Rattle.scope.specs.declared.state.Scope.{Scope}

@@ -15,8 +15,8 @@ use Rattle.numbers.specs.declared.types.Literal as code-literal
 use Rattle.numbers.specs.declared.types.Literal.the-variants as literals
 use Rattle.numbers.specs.declared.types.Merged as code-merged
 use Rattle.numbers.specs.declared.types.Merged.the-variants as merges
-use Rattle.texts.specs.Unescape.{unescape, hasBackslash}
-use Rattle.texts.proofs.Reading.{unescape-plain}
+use Rattle.unescape.specs.Unescape.{unescape, hasBackslash}
+use Rattle.unescape.proofs.Reading.{unescape-plain}
 use Rattle.records.specs.Got.{got}
 use Rattle.records.specs.Bytes.{part}
 use Rattle.records.specs.Tree.{Literal, Named}

@@ -6,7 +6,7 @@ use mathlib.Core.Option.{Option, none, some}
 use Prim.Native.Nat.{ℕ, _+_, _-_, _≤_, _<_}
 use native.Mathlib.Omega.{arith}
 use lib.ListN.{length, take, drop}
-use Rattle.texts.specs.Unescape.{unescape, hasBackslash}
+use Rattle.unescape.specs.Unescape.{unescape, hasBackslash}
 use Rattle.records.specs.Got.{Got, got}
 use Rattle.records.specs.Bytes.{part}
 use Rattle.records.specs.Tree.{Literal, Named}

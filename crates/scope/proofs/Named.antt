@@ -9,8 +9,8 @@ use lib.ListN.{length}
 use Rattle.numbers.specs.Number.{literal, isNumber}
 use Rattle.numbers.specs.Value.{Value, textual, numeric}
 use Rattle.numbers.specs.Shown.{shown}
-use Rattle.texts.specs.Unescape.{unescape, hasBackslash}
-use Rattle.texts.proofs.Reading.{unescape-plain}
+use Rattle.unescape.specs.Unescape.{unescape, hasBackslash}
+use Rattle.unescape.proofs.Reading.{unescape-plain}
 use Rattle.records.specs.Got.{got, bad}
 use Rattle.records.specs.Bytes.{part, byteAt, spanAt}
 use Rattle.records.specs.Rules.{isString, isNumber as isNumber-r}

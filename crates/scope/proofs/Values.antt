@@ -9,11 +9,11 @@ use lib.Seq.{take-take}
 use borrow.Author.Tests.{le-leb, lt-leb}
 use Rattle.numbers.specs.Number.{literal}
 use Rattle.numbers.specs.Value.{Value, textual, numeric}
-use Rattle.texts.specs.Append.{over, appended}
-use Rattle.texts.specs.declared.Wrote.{Wrote}
-use Rattle.texts.specs.Unescape.{unescape, hasBackslash}
-use Rattle.texts.proofs.Reading.{unescape-plain}
-use Rattle.texts.proofs.Place.{appended-fits, length-over, drop-over, front-over, part-over}
+use Rattle.buffers.specs.Append.{over, appended}
+use Rattle.buffers.specs.declared.Wrote.{Wrote}
+use Rattle.unescape.specs.Unescape.{unescape, hasBackslash}
+use Rattle.unescape.proofs.Reading.{unescape-plain}
+use Rattle.buffers.proofs.Place.{appended-fits, length-over, drop-over, front-over, part-over}
 use Rattle.records.specs.Got.{got}
 use Rattle.records.specs.Bytes.{part}
 use Rattle.records.specs.Tree.{Literal, Named}

@@ -9,7 +9,7 @@ use lib.Dec.{ltb}
 use Rattle.numbers.specs.Number.{Number, literal, inRange}
 use Rattle.numbers.specs.Value.{Value, textual, numeric, nothing, wrong, numberFunction}
 use Rattle.numbers.specs.Shown.{shown}
-use Rattle.texts.specs.Unescape.{unescape, hasBackslash}
+use Rattle.unescape.specs.Unescape.{unescape, hasBackslash}
 use Rattle.records.specs.Got.{Got, got, bad}
 use Rattle.records.specs.Bytes.{part, numberAt}
 use Rattle.records.specs.Tree.{Literal, Named, Pattern, Elements, Element, Expression, Inline, Inlines, no-inline, and, Arguments, Variants, no-variant, or, Variant, variant}
@@ -20,8 +20,8 @@ use Rattle.records.specs.Encode.{encAll}
 use Rattle.records.specs.declared.Next.{Next}
 use Rattle.records.specs.declared.Next.the-variants as next
 use Rattle.texts.specs.Report.{optionOf}
-use Rattle.texts.specs.declared.Wrote.{Wrote}
-use Rattle.texts.specs.declared.Wrote.the-variants as wrote
+use Rattle.buffers.specs.declared.Wrote.{Wrote}
+use Rattle.buffers.specs.declared.Wrote.the-variants as wrote
 use Rattle.bundle.specs.Lookup.{Find, findIn}
 unfoldable pub use Rattle.walks.specs.Trail.{prefixed, patternBytes, trailOf}
 use Rattle.scope.specs.declared.state.Scope.{Scope}

@@ -26,8 +26,8 @@ use numbers::types::Literal;
 use numbers::types::Merged;
 use numbers::types::Number;
 use numbers::types::Options;
-use texts::has_backslash;
-use texts::unescaped_len;
+use unescape::has_backslash;
+use unescape::unescaped_len;
 
 // Merges one option, whose text, if it is in the workspace, ends at `base`.
 pub fn merge_one(

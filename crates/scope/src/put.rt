@@ -14,7 +14,7 @@ ghost use Rattle.records.specs.Got.{got};
 ghost use Rattle.records.specs.Bytes.{part};
 ghost use Rattle.records.specs.Decode.{idAt, optionalAt};
 ghost use Rattle.records.specs.Errors.{noValue, reference};
-ghost use Rattle.texts.specs.Unescape.{unescape};
+ghost use Rattle.unescape.specs.Unescape.{unescape};
 ghost use Rattle.texts.specs.Report.{plainOf, referredOf, optionOf};
 ghost use Rattle.resolution.specs.Effect.{report, emit, write};
 ghost use Rattle.resolution.specs.Resolve.{dotted, mark, fsi, pdi};
@@ -31,12 +31,12 @@ use records::read_str;
 use records::write_bytes;
 use texts::Plain;
 use texts::Referred;
-use texts::Wrote;
+use buffers::Wrote;
 use texts::put_no_value;
 use texts::put_plain;
 use texts::put_reference;
-use texts::unescape_into;
-use texts::unescaped_len;
+use unescape::unescape_into;
+use unescape::unescaped_len;
 
 // Writes src: to the workspace's front while a text is made aside, else to the text buffer.
 pub fn put(text: &mut [u8], work: &mut [u8], st: Scope, src: &[u8]) -> Scope

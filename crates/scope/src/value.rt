@@ -35,9 +35,9 @@ use reader::read_marked;
 use records::Num;
 use records::same_bytes;
 use texts::Referred;
-use texts::has_backslash;
-use texts::unescape_into;
-use texts::unescaped_len;
+use unescape::has_backslash;
+use unescape::unescape_into;
+use unescape::unescaped_len;
 
 // A named argument, by positions in the store: its name, and its literal's tag and bytes.
 pub struct NamedSpan {

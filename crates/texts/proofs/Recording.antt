@@ -13,13 +13,13 @@ use Rattle.records.specs.Bytes.{toBe, part}
 use Rattle.records.specs.Images as images
 use Rattle.records.specs.Encode.{encStr, encOptional, encKind, encAll, encWhole}
 use Rattle.records.specs.Errors.{Referred, Error, overriding, reference, noValue, encReferred, encRecord, encError, encErrors, listHeader}
-use Rattle.texts.specs.Append.{over, attempt}
+use Rattle.buffers.specs.Append.{over, attempt}
 use Rattle.texts.specs.Report.{plainOf, roomFor, recorded, header, headed}
 use Rattle.texts.specs.declared.errors.Plain.{Plain}
 use Rattle.texts.specs.declared.errors.Plain.the-variants as plain
-use Rattle.texts.specs.declared.Wrote.{Wrote}
-use Rattle.texts.specs.declared.Wrote.the-variants.{At, Full}
-use Rattle.texts.proofs.Place.{sets-over, paste-over, then-over, then-set, length-over, take-over, attempt-at, attempt-no}
+use Rattle.buffers.specs.declared.Wrote.{Wrote}
+use Rattle.buffers.specs.declared.Wrote.the-variants.{At, Full}
+use Rattle.buffers.proofs.Place.{sets-over, paste-over, then-over, then-set, length-over, take-over, attempt-at, attempt-no}
 
 pub length-u16 : (n : ℕ) → length (toBe 2 n) ≡ 2
 unfolding toBe

@@ -1,2 +1,2 @@
-pub mod Append
 pub mod Report
+pub mod ErrorList

@@ -9,8 +9,8 @@ use Rattle.records.specs.Bytes.{toBe}
 use Rattle.records.specs.Images as images
 use Rattle.records.specs.Errors as errors
 use Rattle.records.specs.Errors.{Error, encError, listHeader}
-use Rattle.texts.specs.Append.{over, given, attempt}
-use Rattle.texts.specs.declared.Wrote.{Wrote}
+use Rattle.buffers.specs.Append.{over, given, attempt}
+use Rattle.buffers.specs.declared.Wrote.{Wrote}
 use Rattle.texts.specs.declared.errors.Kind.{Kind}
 use Rattle.texts.specs.declared.errors.Kind.the-variants as kind
 use Rattle.texts.specs.declared.errors.Referred.{Referred}

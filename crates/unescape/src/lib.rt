@@ -4,9 +4,9 @@ ghost use mathlib.Core.Bool.{true};
 ghost use Prim.Native.Nat.{ℕ, _+_, _≤_, _<_};
 ghost use lib.ListN.{length, drop, getD};
 ghost use Rattle.records.specs.Rules.{hex};
-ghost use Rattle.texts.specs.Append.{over, appended};
+ghost use Rattle.buffers.specs.Append.{over, appended};
 ghost use Rattle.unescape.specs.Unescape.{hasBackslash, hexValue, digitsOf, scalarOf, escapeOf, pieceOf, readsAs, moreOf, scalarOr, encScalar, unescape};
-use texts::Wrote;
+use buffers::Wrote;
 
 // The value of hexadecimal digits; or they are not all there.
 enum Digits {

@@ -8,10 +8,10 @@ use lib.Dec.{leb}
 use borrow.Author.Tests.{leb-true, leb-false}
 use lib.ListN.{length, take, drop, length-append, length-take, length-drop}
 use lib.Seq.{take-length, take-all}
-use Rattle.texts.specs.Append.{over, appended}
-use Rattle.texts.specs.declared.Wrote.{Wrote}
-use Rattle.texts.specs.declared.Wrote.the-variants.{At, Full}
-use Rattle.texts.proofs.Place.{over-none, over-over, length-over, appended-fits, appended-full}
+use Rattle.buffers.specs.Append.{over, appended}
+use Rattle.buffers.specs.declared.Wrote.{Wrote}
+use Rattle.buffers.specs.declared.Wrote.the-variants.{At, Full}
+use Rattle.buffers.proofs.Place.{over-none, over-over, length-over, appended-fits, appended-full}
 use Rattle.wording.specs.Poured.{fitting, poured}
 
 -- the first bytes of two texts in a row: those of the first, and then of the second

@@ -1,6 +1,6 @@
 // Text put into a buffer, as much of it as fits.
-use texts::Wrote;
-use texts::put_bytes;
+use buffers::Wrote;
+use buffers::put_bytes;
 ghost use mathlib.Core.Path.{_≡_};
 ghost use Prim.Native.Nat.{_-_, min};
 ghost use lib.ListN.{length};

@@ -2,7 +2,7 @@
 use Rattle.bundle.proofs.Adds.{fitting, function-10, function-4, function-6, function-8, function-9, function-done, function-length, has-room-is, item-put, no-room, store-used}
 use Rattle.bundle.proofs.Marks.{short-id}
 use Rattle.records.proofs.Views.{next-is, next-none}
-use Rattle.texts.proofs.Place.{length-over}
+use Rattle.buffers.proofs.Place.{length-over}
 use borrow.Author.Needs.{needs}
 use borrow.Author.Tests.{not-false, not-true}
 use lib.ListN.{length}

@@ -2,7 +2,7 @@
 use Rattle.bundle.proofs.Adds.{fitting, has-room-is, image-small, item-put, list-done, no-room, plain-4, plain-5, plain-6, plain-7, plain-done, store-used, tally-count, tally-size}
 use Rattle.bundle.proofs.Marks.{tally-small}
 use Rattle.records.proofs.Views.{next-is, next-none}
-use Rattle.texts.proofs.Place.{length-over}
+use Rattle.buffers.proofs.Place.{length-over}
 use borrow.Author.Needs.{needs}
 use lib.ListN.{length}
 use mathlib.Core.Path.{_∙_, ap, refl}

@@ -1,7 +1,7 @@
 -- `bundle::add_resource_overriding` meets its contract: each refusal in its order, and the item behind the others.
 use Rattle.bundle.proofs.Adds.{fitting, has-room-is, image-small, item-put, no-room, over-4, over-5, over-6, over-done, store-used}
 use Rattle.records.proofs.Views.{next-is, next-none}
-use Rattle.texts.proofs.Place.{length-over}
+use Rattle.buffers.proofs.Place.{length-over}
 use borrow.Author.Needs.{needs}
 use lib.ListN.{length}
 use mathlib.Core.Path.{_∙_, ap, refl}

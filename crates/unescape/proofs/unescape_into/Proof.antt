@@ -1,5 +1,5 @@
 -- `unescape::unescape_into` meets its contract: the length first, then the bytes.
-use Rattle.texts.proofs.Place.{appended-fits, appended-full}
+use Rattle.buffers.proofs.Place.{appended-fits, appended-full}
 use borrow.Author.Needs.{needs}
 use native.Mathlib.Omega.{arith}
 use Rattle.unescape.proofs.unescape_into.Statement.{statement}

@@ -1,7 +1,7 @@
 -- `texts::errors::put_attribute` meets its contract.
-use Rattle.texts.proofs.Place.{length-over}
+use Rattle.buffers.proofs.Place.{length-over}
 use Rattle.texts.proofs.Recording.{announced-written, attribute-is, attribute-length, recorded-fits, recorded-full, recorded-long, room-true}
-use Rattle.texts.specs.Append.{over}
+use Rattle.buffers.specs.Append.{over}
 use Rattle.texts.specs.Report.{referredOf}
 use borrow.Author.Needs.{needs}
 use lib.ListN.{length, length-set}

@@ -1,6 +1,6 @@
 -- `texts::errors::put_bare` meets its contract.
 use Rattle.texts.proofs.Recording.{bare-is, bare-length, flag-written, recorded-fits, recorded-full, recorded-long, room-true}
-use Rattle.texts.specs.Append.{over}
+use Rattle.buffers.specs.Append.{over}
 use Rattle.texts.specs.Report.{referredOf}
 use borrow.Author.Needs.{needs}
 use mathlib.Core.Path.{_∙_, ap}

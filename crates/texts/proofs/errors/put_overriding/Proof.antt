@@ -1,6 +1,6 @@
 -- `texts::errors::put_overriding` meets its contract.
 use Rattle.texts.proofs.Recording.{overriding-is, overriding-length, recorded-fits, recorded-full, recorded-long, room-true}
-use Rattle.texts.specs.Append.{over}
+use Rattle.buffers.specs.Append.{over}
 use Rattle.texts.specs.Report.{kindOf}
 use borrow.Author.Needs.{needs}
 use mathlib.Core.Path.{_∙_, ap}

@@ -1,5 +1,5 @@
 -- `texts::errors::write_named` meets its contract.
-use Rattle.texts.proofs.Place.{length-over}
+use Rattle.buffers.proofs.Place.{length-over}
 use Rattle.texts.proofs.Recording.{length-named, named-written}
 use borrow.Author.Needs.{needs}
 use lib.ListN.{length, length-set}

@@ -51,7 +51,7 @@ use Rattle.scope.proofs.state.set_back.Reads as set-back-reads
 use Rattle.scope.proofs.state.count_unfound.Reads as count-unfound-reads
 use Rattle.walks.proofs.skip_expression.Reads as skip-expression-reads
 use Rattle.scope.proofs.state.set_aside.Reads as set-aside-reads
-use Rattle.texts.proofs.move_back.Reads as move-back-reads
+use Rattle.buffers.proofs.move_back.Reads as move-back-reads
 use Rattle.scope.proofs.state.set_kept.Reads as set-kept-reads
 use Rattle.records.proofs.read_byte.Reads as read-byte-reads
 use Rattle.scope.proofs.value.literal_string.Reads as literal-string-reads

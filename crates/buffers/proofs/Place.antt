@@ -10,9 +10,9 @@ use lib.Seq.{paste, sets, sets-eq, take-length, take-at, drop-at, drop-drop, tak
 use lib.Dec.{leb}
 use borrow.Author.Tests.{le-leb, lt-leb, leb-true, leb-false}
 use Rattle.records.specs.Bytes.{part}
-use Rattle.texts.specs.Append.{over, attempt, appended, movedBack, Keeps}
-use Rattle.texts.specs.declared.Wrote.{Wrote}
-use Rattle.texts.specs.declared.Wrote.the-variants.{At, Full}
+use Rattle.buffers.specs.Append.{over, attempt, appended, movedBack, Keeps}
+use Rattle.buffers.specs.declared.Wrote.{Wrote}
+use Rattle.buffers.specs.declared.Wrote.the-variants.{At, Full}
 
 module _ (d : List ℕ) (at : ℕ) where
   pub over-none : over d at [] ≡ d

@@ -1,10 +1,10 @@
--- `texts::append::put_bytes` meets its contract: the length first, then the bytes.
-use Rattle.texts.proofs.Place.{appended-fits, appended-full, paste-over}
+-- `buffers::put_bytes` meets its contract: the length first, then the bytes.
+use Rattle.buffers.proofs.Place.{appended-fits, appended-full, paste-over}
 use borrow.Author.Needs.{needs}
 use mathlib.Core.Path.{_∙_, refl}
 use native.Mathlib.Omega.{arith}
-use Rattle.texts.proofs.append.put_bytes.Statement.{statement}
-use Rattle.texts.proofs.append.put_bytes.Tie as tie
+use Rattle.buffers.proofs.put_bytes.Statement.{statement}
+use Rattle.buffers.proofs.put_bytes.Tie as tie
 
 returns : tie.Need-returns
 returns c = appended-full _ _ _ (omega arith)

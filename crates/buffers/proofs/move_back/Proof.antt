@@ -1,10 +1,10 @@
--- `texts::append::move_back` meets its contract: outside the range nothing is done, within it `move_up` does it.
-use Rattle.texts.proofs.Place.{moved-back, not-inside, not-moved}
+-- `buffers::move_back` meets its contract: outside the range nothing is done, within it `move_up` does it.
+use Rattle.buffers.proofs.Place.{moved-back, not-inside, not-moved}
 use borrow.Author.Needs.{needs}
 use mathlib.Core.Path.{_∙_, sym}
 use native.Mathlib.Omega.{arith}
-use Rattle.texts.proofs.append.move_back.Statement.{statement}
-use Rattle.texts.proofs.append.move_back.Tie as tie
+use Rattle.buffers.proofs.move_back.Statement.{statement}
+use Rattle.buffers.proofs.move_back.Tie as tie
 
 returns : tie.Need-returns
 returns c = sym (not-moved _ _ _ _ (c .if1 .taken))

@@ -1,11 +1,16 @@
-// Bytes appended to a lent buffer, a buffer filled with zeros, bytes moved to its back.
+// Lent buffers: bytes appended, a buffer filled with zeros, bytes moved to its back.
 ghost use mathlib.Core.Path.{_≡_};
 ghost use Prim.Native.Nat.{ℕ, _+_, _≤_};
 ghost use lib.ListN.{length, replicate};
 ghost use Rattle.records.specs.Bytes.{part};
-ghost use Rattle.texts.specs.Append.{over, appended, movedBack};
-use crate::Wrote;
+ghost use Rattle.buffers.specs.Append.{over, appended, movedBack};
 use records::write_bytes;
+
+// Past what was written; or there is no room for it, and nothing is written.
+pub enum Wrote {
+    At(usize),
+    Full,
+}
 
 // Appends the bytes of a slice.
 pub fn put_bytes(d: &mut [u8], at: usize, src: &[u8]) -> Wrote

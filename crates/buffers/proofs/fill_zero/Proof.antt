@@ -1,12 +1,12 @@
--- `texts::append::fill_zero` meets its contract: the bytes passed are zeros, and the others as they were.
+-- `buffers::fill_zero` meets its contract: the bytes passed are zeros, and the others as they were.
 use Prim.Native.Nat.{_-_, _≤_}
-use Rattle.texts.proofs.Place.{fill-end, fill-turn, over-none}
-use Rattle.texts.specs.Append.{over}
+use Rattle.buffers.proofs.Place.{fill-end, fill-turn, over-none}
+use Rattle.buffers.specs.Append.{over}
 use lib.ListN.{length, length-set, replicate}
 use mathlib.Core.Path.{_≡_, refl, sym}
 use native.Mathlib.Omega.{arith}
-use Rattle.texts.proofs.append.fill_zero.Statement.{statement}
-use Rattle.texts.proofs.append.fill_zero.Tie as tie
+use Rattle.buffers.proofs.fill_zero.Statement.{statement}
+use Rattle.buffers.proofs.fill_zero.Tie as tie
 
 abbrev Inv-loop : tie.InvT-loop
 Inv-loop d₀ i₀ d i = (i ≤ length d₀) × (length d ≡ length d₀) × (d ≡ over d₀ 0 (replicate i 0))

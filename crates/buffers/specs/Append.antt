@@ -6,8 +6,8 @@ use mathlib.Core.List.{List, _++_}
 use lib.ListN.{length, take, drop}
 use lib.Dec.{leb}
 use Rattle.records.specs.Bytes.{part}
-use Rattle.texts.specs.declared.Wrote.{Wrote}
-use Rattle.texts.specs.declared.Wrote.the-variants.{At, Full}
+use Rattle.buffers.specs.declared.Wrote.{Wrote}
+use Rattle.buffers.specs.declared.Wrote.the-variants.{At, Full}
 
 -- a buffer, and bytes over what stands from a position on
 unfoldable pub over : List ℕ → ℕ → List ℕ → List ℕ

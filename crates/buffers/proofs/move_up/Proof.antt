@@ -1,14 +1,14 @@
--- `texts::append::move_up` meets its contract: from the end down, what was passed stands at its new place, and nothing that is still to be read was written.
+-- `buffers::move_up` meets its contract: from the end down, what was passed stands at its new place, and nothing that is still to be read was written.
 use Prim.Native.Nat.{_+_, _≤_}
 use Rattle.records.specs.Bytes.{part}
-use Rattle.texts.proofs.Place.{move-end, move-start, move-turn}
-use Rattle.texts.specs.Append.{over}
+use Rattle.buffers.proofs.Place.{move-end, move-start, move-turn}
+use Rattle.buffers.specs.Append.{over}
 use borrow.Author.Needs.{needs}
 use lib.ListN.{drop, length, length-set}
 use mathlib.Core.Path.{_≡_, refl}
 use native.Mathlib.Omega.{arith}
-use Rattle.texts.proofs.append.move_up.Statement.{statement}
-use Rattle.texts.proofs.append.move_up.Tie as tie
+use Rattle.buffers.proofs.move_up.Statement.{statement}
+use Rattle.buffers.proofs.move_up.Tie as tie
 
 abbrev Inv-loop : tie.InvT-loop
 Inv-loop w₀ from n to i₀ w i = (i ≤ n) × (length w ≡ length w₀) × (w ≡ over w₀ (to + i) (drop i (part w₀ from n)))
