@@ -10,7 +10,7 @@ use lib.Seq.{paste, sets, sets-eq, take-length, take-at, drop-at, drop-drop, tak
 use lib.Dec.{leb}
 use borrow.Author.Tests.{le-leb, lt-leb, leb-true, leb-false}
 use Rattle.records.specs.Bytes.{part}
-use Rattle.buffers.specs.Append.{over, attempt, appended, movedBack, Keeps}
+use Rattle.buffers.specs.Relations.Append.{over, attempt, appended, movedBack, Keeps}
 use Rattle.buffers.specs.declared.Wrote.{Wrote}
 use Rattle.buffers.specs.declared.Wrote.the-variants.{At, Full}
 

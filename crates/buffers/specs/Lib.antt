@@ -1,1 +1,2 @@
-pub mod Append
+pub mod Given
+pub mod Relations

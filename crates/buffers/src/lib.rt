@@ -3,7 +3,7 @@ ghost use mathlib.Core.Path.{_≡_};
 ghost use Prim.Native.Nat.{ℕ, _+_, _≤_};
 ghost use lib.ListN.{length, replicate};
 ghost use Rattle.records.specs.Bytes.{part};
-ghost use Rattle.buffers.specs.Append.{over, appended, movedBack};
+ghost use Rattle.buffers.specs.Relations.Append.{over, appended, movedBack};
 use records::write_bytes;
 
 // Past what was written; or there is no room for it, and nothing is written.

@@ -20,8 +20,8 @@ use Rattle.records.specs.Decode.{many}
 use Rattle.records.specs.Images.{Entry, Item, Store, maxImage, maxStore, maxItems, maxLocale, isSome, storeOf, resourceOf}
 use Rattle.records.proofs.Laws.{after-elim, got-elim}
 use Rattle.records.proofs.Views.{both, never, next-is, next-none, many-cons, many-nil}
-use Rattle.buffers.specs.Append.{over}
-use Rattle.texts.specs.Report.{header, headed}
+use Rattle.buffers.specs.Relations.Append.{over}
+use Rattle.texts.specs.Relations.Report.{header, headed}
 use Rattle.buffers.proofs.Place.{over-none, paste-over, sets-over, set-over, length-over, then-over, then-set}
 use Rattle.texts.proofs.Recording.{length-u16, length-u32, length-str, headed-done}
 use Rattle.bundle.specs.declared.Answer.{Answer}

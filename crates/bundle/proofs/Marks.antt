@@ -24,8 +24,8 @@ use Rattle.records.specs.Decode.{many, optionalAt, idAt, entryPatternAt}
 use Rattle.records.specs.Images.{Kind, Entry, Item, Store, isSome, maxImage, attributesAt, entryAt, storeOf, resourceOf}
 use Rattle.records.proofs.Laws.{after-is, after-elim, got-elim, bytes-inv, number2, number-inv, span-in}
 use Rattle.records.proofs.Views.{both, never, as-elim, optional-elim, attributes-elim, entry-elim, id-elim, many-cons, many-nil}
-use Rattle.buffers.specs.Append.{over, attempt}
-use Rattle.texts.specs.Report.{kindOf, recorded, roomFor}
+use Rattle.buffers.specs.Relations.Append.{over, attempt}
+use Rattle.texts.specs.Relations.Report.{kindOf, recorded, roomFor}
 use Rattle.buffers.specs.declared.Wrote.{Wrote}
 use Rattle.buffers.specs.declared.Wrote.the-variants as wrote
 use Rattle.buffers.proofs.Place.{over-none, then-over, length-over, attempt-no}

@@ -9,7 +9,7 @@ use Rattle.records.specs.Got.{got}
 use Rattle.records.specs.Encode.{encAll}
 use Rattle.records.specs.Errors.{Error, encError}
 use Rattle.records.specs.Images.{Entry, entryAt}
-use Rattle.buffers.specs.Append.{over}
+use Rattle.buffers.specs.Relations.Append.{over}
 use Rattle.texts.specs.declared.errors.Kind.{Kind}
 use Rattle.texts.specs.declared.errors.Kind.the-variants as kind
 use Rattle.bundle.specs.Additions as additions

@@ -1,5 +1,7 @@
 // The bundle: what an id has in a store, new bundles and additions. The walkers go over checked bytes: they skip patterns by their length, and
 // their contracts speak of the bytes at which the decoders of `records` read.
+use buffers::Wrote;
+use buffers::fill_zero;
 use images::check_resource;
 use images::check_store;
 use reader::read_header;
@@ -17,8 +19,6 @@ use records::write_bytes;
 use records::write_u16;
 use records::write_u32;
 use texts::Kind;
-use buffers::Wrote;
-use buffers::fill_zero;
 use texts::put_header;
 use texts::put_overriding;
 ghost use mathlib.Core.Path.{_≡_};
@@ -35,7 +35,7 @@ ghost use Rattle.records.specs.Encode.{encFunction, encAll};
 ghost use Rattle.records.specs.Errors.{encError};
 ghost use Rattle.records.specs.Images.{isSome, resourceOf, Attribute, Entry, Item, Store, attributeAt, attributesAt, entryAt, resourceAt, functionAt, itemAt, storeOf};
 ghost use Rattle.bundle.specs.Lookup.{Holder, orElse, onlyNamed, firstEntry, lastEntry, holderAfter, findIn, attributeOf, partOf};
-ghost use Rattle.buffers.specs.Append.{over};
+ghost use Rattle.buffers.specs.Relations.Append.{over};
 ghost use Rattle.bundle.specs.Additions.{hasRoom, isHeld, repeats, newBundle, addResource, addResourceOverriding, addFunction};
 ghost use Rattle.bundle.specs.Gives.{gave, seenAfter, marked, Tallied, Tallies, kindBy, ListsEntry};
 ghost use Rattle.bundle.specs.Slots.{slotOf, placed, Cleared, PlacesAll, Notes, NotesEntries, NotesItem, Ready};

@@ -13,7 +13,7 @@ ghost use mathlib.Core.Path.{_≡_};
 ghost use Prim.Native.Nat.{min};
 ghost use lib.ListN.{length};
 ghost use mathlib.Core.Option.{none};
-ghost use Rattle.texts.specs.Report.{optionOf};
+ghost use Rattle.texts.specs.Optional.{optionOf};
 ghost use Rattle.wording.specs.Poured.{poured};
 ghost use Rattle.wording.specs.Strs.{strsAt};
 ghost use Rattle.printing.specs.Sheets.{roomBytes, bundleBytes, listBytes, finishedWords, finishedSaid, messageSaid, sheetSaid, askedSaid, pageSaid, flagByte, languageSaid, isWanted, between, pageAnd, lastSaid, languagesSaid};

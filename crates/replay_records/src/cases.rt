@@ -1,8 +1,8 @@
 // The cases, each compared with what the oracle answered: 0 where they agree, 1 where they differ.
+use buffers::Wrote;
 use images::Given;
 use records::Next;
 use records::Num;
-use buffers::Wrote;
 ghost use Prim.Native.Nat.{_≤_, _<_};
 ghost use lib.ListN.{length};
 

@@ -8,8 +8,8 @@ use lib.Seq.{drop-drop}
 use Rattle.records.specs.Bytes.{part, toBe}
 use Rattle.records.specs.Encode.{encAll}
 use Rattle.records.specs.Errors.{Error, encError, encErrors}
-use Rattle.buffers.specs.Append.{over}
-use Rattle.texts.specs.Report.{header, headed}
+use Rattle.buffers.specs.Relations.Append.{over}
+use Rattle.texts.specs.Relations.Report.{header, headed}
 use Rattle.buffers.proofs.Place.{drop-over}
 use Rattle.texts.proofs.Recording.{headed-done, headed-errors}
 use Rattle.bundle.specs.Additions.{atFront}

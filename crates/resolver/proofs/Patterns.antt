@@ -13,7 +13,7 @@ use Rattle.records.specs.Tree.{Pattern}
 use Rattle.records.specs.Decode.{entryPatternAt}
 use Rattle.records.specs.Images.{Kind, Entry, Store, storeOf, entryAt}
 use Rattle.bundle.specs.Lookup.{Holder, findIn, partOf}
-use Rattle.texts.specs.Report.{optionOf}
+use Rattle.texts.specs.Optional.{optionOf}
 use Rattle.bundle.specs.Meets.{asked, HolderAt, message-at, term-at, function-at, nothing-at, PartAt, part-at, no-part}
 use Rattle.bundle.specs.declared.Found.{Found}
 use Rattle.bundle.specs.declared.Found.the-variants as found

@@ -16,7 +16,8 @@ use Rattle.records.specs.Images.{Kind, Entry, Store, storeOf, entryAt}
 use Rattle.records.specs.Errors.{Error, Referred, reference, noValue}
 use Rattle.records.proofs.Laws.{after-elim, number-inv}
 use Rattle.records.proofs.Views.{both, never, id-elim, term-elim, Body, is-string, is-number, is-function, is-message, is-term, is-variable, is-nested, inline-elim}
-use Rattle.texts.specs.Report.{referredOf, optionOf}
+use Rattle.texts.specs.Optional.{optionOf}
+use Rattle.texts.specs.Relations.Report.{referredOf}
 use Rattle.texts.specs.declared.errors.Referred.the-variants as referred
 use Rattle.bundle.specs.Lookup.{Holder, Find, findIn, partOf}
 use Rattle.bundle.specs.Meets.{HolderAt, message-at, term-at, function-at, nothing-at, PartAt, part-at, no-part, asked}

@@ -14,7 +14,7 @@ use Rattle.records.specs.Decode.{patternAt, entryPatternAt, maxDepth, expressio
 use Rattle.records.specs.Errors.{cyclic}
 use Rattle.records.proofs.Laws.{number-inv}
 use Rattle.records.proofs.Views.{pattern-elim}
-use Rattle.texts.specs.Report.{plainOf}
+use Rattle.texts.specs.Relations.Report.{plainOf}
 use Rattle.texts.specs.declared.errors.Plain.the-variants as plain
 use Rattle.bundle.specs.Lookup.{Find}
 use Rattle.walks.proofs.Trail.{bytes-at}

@@ -15,7 +15,7 @@ use Rattle.records.specs.Bytes.{part, byteAt, strAt}
 use Rattle.records.specs.Tree.{Inline, variable}
 use Rattle.records.specs.Decode.{idAt, literalNumberAt, inline}
 use Rattle.records.proofs.Views.{both, never, id-str, string-str, number-str, ruled-elim, inline-elim}
-use Rattle.buffers.specs.Append.{movedBack, Keeps}
+use Rattle.buffers.specs.Relations.Append.{movedBack, Keeps}
 use Rattle.unescape.specs.Unescape.{unescape}
 use Rattle.buffers.proofs.Place.{moved-keeps}
 use Rattle.resolution.specs.Effect.{Bytes, State, Out, M, Done, ret, _>>=_, _>>_, capture, release}

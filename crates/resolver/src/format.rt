@@ -1,5 +1,6 @@
 // Formatting: a message's value or attribute, from a stored bundle.
 use crate::lent::resolve;
+use buffers::fill_zero;
 use bundle::Found;
 use bundle::find_holder;
 use bundle::find_part;
@@ -8,12 +9,11 @@ use images::check_store;
 use records::Next;
 use records::is_id;
 use scope::state::Scope;
-use buffers::fill_zero;
 use texts::put_header;
 ghost use mathlib.Core.Path.{_≡_};
 ghost use Rattle.resolution.specs.Format.{isIdOrNone};
 ghost use Rattle.resolver.specs.Formats.{PatternFound, RunAt, FinishAt, Formats};
-ghost use Rattle.texts.specs.Report.{optionOf};
+ghost use Rattle.texts.specs.Optional.{optionOf};
 ghost use Rattle.scope.specs.Meets.{env};
 
 // What a formatting carries.

@@ -1,6 +1,7 @@
 // Patterns, expressions and inline expressions write each other. What falls at each call: placeables left, then nesting, then stage.
 ghost use Prim.Native.Nat.{_+_};
 ghost use Rattle.scope.specs.Meets.{world, env, PatternAt, ElementAt, ExpressionAt, SelectAt, InlineAt, MessageAt, TrackAt, TermAt, FoundTermAt, ValueAt, TextValueAt, PositionalAt, CalledAt, ReferenceIs};
+use buffers::move_back;
 use bundle::Found;
 use bundle::find_holder;
 use bundle::find_part;
@@ -46,7 +47,6 @@ use scope::variable::write_result;
 use scope::variable::write_variable;
 use texts::Plain;
 use texts::Referred;
-use buffers::move_back;
 use walks::has_marks;
 use walks::isolates;
 use walks::on_trail;

@@ -18,8 +18,9 @@ use Rattle.numbers.proofs.Writing.{ranged-in}
 use Rattle.records.specs.Bytes.{part}
 use Rattle.records.specs.Errors.{Error, Referred, noValue, reference, encError}
 use Rattle.records.proofs.Local.{length-part}
-use Rattle.buffers.specs.Append.{appended}
-use Rattle.texts.specs.Report.{optionOf, plainOf, roomFor, recorded}
+use Rattle.buffers.specs.Relations.Append.{appended}
+use Rattle.texts.specs.Optional.{optionOf}
+use Rattle.texts.specs.Relations.Report.{plainOf, roomFor, recorded}
 use Rattle.texts.specs.declared.errors.Plain.{Plain}
 use Rattle.buffers.specs.declared.Wrote.{Wrote}
 use Rattle.buffers.specs.declared.Wrote.the-variants as wrote

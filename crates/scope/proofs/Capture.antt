@@ -10,7 +10,7 @@ use lib.Dec.{ltb}
 use borrow.Author.Tests.{lt-ltb}
 use Rattle.numbers.specs.Value.{textual}
 use Rattle.records.specs.Bytes.{part}
-use Rattle.buffers.specs.Append.{Keeps}
+use Rattle.buffers.specs.Relations.Append.{Keeps}
 use Rattle.resolution.specs.Effect.{Bytes, open-text, keep-text, State, Out, M, Done, ret, _>>=_, capture}
 use Rattle.resolution.specs.Resolve.{held}
 use Rattle.resolution.specs.Exec.{Machine, Limits, Ran, ran, refused, exec, andThen, step}

@@ -16,7 +16,7 @@ use Rattle.records.specs.Decode.{idAt, optionalAt, expression, inline}
 use Rattle.records.specs.Errors.{Referred, reference, Error}
 use Rattle.records.proofs.Local.{length-part, local-byte}
 use Rattle.records.proofs.Views.{both, never, id-elim, id-str, optional-elim, term-elim, Body, is-string, is-number, is-function, is-message, is-term, is-variable, is-nested, inline-elim}
-use Rattle.texts.specs.Report.{optionOf}
+use Rattle.texts.specs.Optional.{optionOf}
 use Rattle.resolution.specs.Effect.{Bytes, report, emit, write, _>>_}
 use Rattle.resolution.specs.Resolve.{dotted, braced, errorText, writeRefError}
 use Rattle.scope.specs.declared.state.Scope.{Scope}

@@ -9,7 +9,7 @@ use lib.Seq.{take-take}
 use borrow.Author.Tests.{le-leb, lt-leb}
 use Rattle.numbers.specs.Number.{literal}
 use Rattle.numbers.specs.Value.{Value, textual, numeric}
-use Rattle.buffers.specs.Append.{over, appended}
+use Rattle.buffers.specs.Relations.Append.{over, appended}
 use Rattle.buffers.specs.declared.Wrote.{Wrote}
 use Rattle.unescape.specs.Unescape.{unescape, hasBackslash}
 use Rattle.unescape.proofs.Reading.{unescape-plain}

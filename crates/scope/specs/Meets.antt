@@ -19,7 +19,7 @@ use Rattle.records.specs.Errors.{Error, Referred, reference, tooManyPlaceables,
 use Rattle.records.specs.Encode.{encAll}
 use Rattle.records.specs.declared.Next.{Next}
 use Rattle.records.specs.declared.Next.the-variants as next
-use Rattle.texts.specs.Report.{optionOf}
+use Rattle.texts.specs.Optional.{optionOf}
 use Rattle.buffers.specs.declared.Wrote.{Wrote}
 use Rattle.buffers.specs.declared.Wrote.the-variants as wrote
 use Rattle.bundle.specs.Lookup.{Find, findIn}

@@ -8,7 +8,7 @@ use lib.Seq.{take-all, drop-at, length-take-le}
 use Rattle.records.specs.Bytes.{toBe}
 use Rattle.records.specs.Images.{Argument}
 use Rattle.records.specs.Encode.{encAll, encCounted, encWhole, encNamedArgument, encArgumentsImage}
-use Rattle.buffers.specs.Append.{over}
+use Rattle.buffers.specs.Relations.Append.{over}
 use Rattle.buffers.proofs.Place.{length-over}
 use Rattle.wording.specs.Poured.{fitting, poured}
 use Rattle.sighting.specs.Options.{Word}

@@ -20,7 +20,7 @@ use Rattle.records.proofs.Laws.{bytes-in}
 use Rattle.layout.specs.Exact.{Stands, Octets}
 use Rattle.layout.proofs.Stands.{append-nil, length-part, stands-length, stands-of, stands-none, none-ends, bytes-are, join, split}
 use Rattle.layout.proofs.Steps.{nothing, after-elim, took, test-took, tag-took, last-took, byte-took, gives, tagged, ahead, number-exact, byte-complete, byte-ahead, ends}
-use Rattle.texts.specs.Report.{header, headed}
+use Rattle.texts.specs.Relations.Report.{header, headed}
 use Rattle.texts.specs.ErrorList.{referredAt, overridingAt, referenceAt, noValueAt, plainAt, taggedAt, recordAt, recordsAt, listAt, valueOf, errorOf, errorsOf, Recordable, Listable}
 use Rattle.texts.proofs.Recording.{length-u16, length-u32, overriding-length, no-value-length, bare-length, attribute-length, headed-errors}
 

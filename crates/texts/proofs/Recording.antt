@@ -13,8 +13,8 @@ use Rattle.records.specs.Bytes.{toBe, part}
 use Rattle.records.specs.Images as images
 use Rattle.records.specs.Encode.{encStr, encOptional, encKind, encAll, encWhole}
 use Rattle.records.specs.Errors.{Referred, Error, overriding, reference, noValue, encReferred, encRecord, encError, encErrors, listHeader}
-use Rattle.buffers.specs.Append.{over, attempt}
-use Rattle.texts.specs.Report.{plainOf, roomFor, recorded, header, headed}
+use Rattle.buffers.specs.Relations.Append.{over, attempt}
+use Rattle.texts.specs.Relations.Report.{plainOf, roomFor, recorded, header, headed}
 use Rattle.texts.specs.declared.errors.Plain.{Plain}
 use Rattle.texts.specs.declared.errors.Plain.the-variants as plain
 use Rattle.buffers.specs.declared.Wrote.{Wrote}

@@ -1,2 +1,3 @@
-pub mod Report
+pub mod Optional
 pub mod ErrorList
+pub mod Relations

@@ -9,7 +9,7 @@ use lib.Dec.{eqb}
 use borrow.Author.Tests.{eq-eqb, ne-eqb, eqb-true, eqb-false}
 use Rattle.records.specs.Bytes.{run}
 use Rattle.records.specs.Rules.{choose, hex, escapeStep, isUtf8, isString}
-use Rattle.buffers.specs.Append.{given}
+use Rattle.buffers.specs.Given.{given}
 use Rattle.unescape.specs.Unescape.{hexValue, digitsOf, scalarPiece, scalarOf, escapeOf, pieceOf, readsAs, moreOf, unescapeFrom, unescape}
 use Rattle.unescape.specs.declared.Digits.{Digits}
 use Rattle.unescape.specs.declared.Digits.the-variants.{Value, Broken}

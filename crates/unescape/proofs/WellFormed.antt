@@ -9,7 +9,7 @@ use lib.Dec.{eqb, ltb, leb}
 use borrow.Author.Tests.{eq-eqb, ne-eqb, eqb-true, eqb-false, lt-ltb, le-ltb, ltb-true, ltb-false, leb-true, leb-false, le-leb, lt-leb}
 use Rattle.records.specs.Bytes.{run}
 use Rattle.records.specs.Rules.{choose, within, hex, utf8First, utf8Low, utf8High, utf8Rest, utf8Step, isUtf8}
-use Rattle.buffers.specs.Append.{given}
+use Rattle.buffers.specs.Given.{given}
 use Rattle.unescape.specs.Unescape.{hexValue, digitsOf, scalarPiece, scalarOf, escapeOf, pieceOf, readsAs, moreOf, isScalar, scalarOr, encScalar, unescapeFrom, unescape}
 use Rattle.unescape.specs.declared.Digits.{Digits}
 use Rattle.unescape.specs.declared.Digits.the-variants.{Value, Broken}

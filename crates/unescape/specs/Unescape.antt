@@ -5,7 +5,7 @@ use mathlib.Core.Bool.{Bool, true, false, _||_}
 use mathlib.Core.List.{List, [], _∷_, _++_}
 use lib.Dec.{ltb, leb, eqb}
 use Rattle.records.specs.Rules.{choose, within, digit, hex}
-use Rattle.buffers.specs.Append.{given}
+use Rattle.buffers.specs.Given.{given}
 use Rattle.unescape.specs.declared.Digits.{Digits}
 use Rattle.unescape.specs.declared.Digits.the-variants.{Value, Broken}
 use Rattle.unescape.specs.declared.Piece.{Piece}

@@ -4,7 +4,7 @@ ghost use mathlib.Core.Bool.{true};
 ghost use Prim.Native.Nat.{ℕ, _+_, _≤_, _<_};
 ghost use lib.ListN.{length, drop, getD};
 ghost use Rattle.records.specs.Rules.{hex};
-ghost use Rattle.buffers.specs.Append.{over, appended};
+ghost use Rattle.buffers.specs.Relations.Append.{over, appended};
 ghost use Rattle.unescape.specs.Unescape.{hasBackslash, hexValue, digitsOf, scalarOf, escapeOf, pieceOf, readsAs, moreOf, scalarOr, encScalar, unescape};
 use buffers::Wrote;
 

@@ -8,7 +8,7 @@ use lib.Dec.{leb}
 use borrow.Author.Tests.{leb-true, leb-false}
 use lib.ListN.{length, take, drop, length-append, length-take, length-drop}
 use lib.Seq.{take-length, take-all}
-use Rattle.buffers.specs.Append.{over, appended}
+use Rattle.buffers.specs.Relations.Append.{over, appended}
 use Rattle.buffers.specs.declared.Wrote.{Wrote}
 use Rattle.buffers.specs.declared.Wrote.the-variants.{At, Full}
 use Rattle.buffers.proofs.Place.{over-none, over-over, length-over, appended-fits, appended-full}

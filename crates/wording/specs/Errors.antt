@@ -12,7 +12,7 @@ use Rattle.records.specs.Decode.{as-a, optionalAt}
 use Rattle.records.specs.Images.{Kind, kindAt}
 use Rattle.records.specs.Encode.{encStr, encOptional, encKind}
 use Rattle.records.specs.Errors.{Referred, Error, overriding, reference, noValue, missingDefault, cyclic, tooManyPlaceables, encReferred}
-use Rattle.texts.specs.Report.{kindOf, referredOf}
+use Rattle.texts.specs.Relations.Report.{kindOf, referredOf}
 use Rattle.wording.specs.declared.errors.Told.{Told}
 use Rattle.wording.specs.declared.errors.Told.the-variants as told
 

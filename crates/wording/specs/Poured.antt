@@ -2,7 +2,7 @@
 use Prim.Native.Nat.{ℕ, _+_, _-_}
 use mathlib.Core.List.{List}
 use lib.ListN.{length, take}
-use Rattle.buffers.specs.Append.{over}
+use Rattle.buffers.specs.Relations.Append.{over}
 
 -- what fits of a text, from a position on
 unfoldable pub fitting : List ℕ → ℕ → List ℕ → List ℕ

@@ -8,7 +8,7 @@ use texts::Referred;
 ghost use mathlib.Core.Path.{_≡_};
 ghost use mathlib.Core.Option.{some, none};
 ghost use Rattle.records.specs.Errors.{overriding, noValue};
-ghost use Rattle.texts.specs.Report.{kindOf, referredOf};
+ghost use Rattle.texts.specs.Relations.Report.{kindOf, referredOf};
 ghost use Rattle.wording.specs.Poured.{poured};
 ghost use Rattle.wording.specs.Errors.{overridingAt, referenceAt, referredIdAt, noValueAt, plainAt, whole, errorOf, kindWords, referredWords, sign, brackets, referenceWords, errorWords, wordsOf, Tells};
 

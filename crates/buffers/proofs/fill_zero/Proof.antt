@@ -1,7 +1,7 @@
 -- `buffers::fill_zero` meets its contract: the bytes passed are zeros, and the others as they were.
 use Prim.Native.Nat.{_-_, _≤_}
 use Rattle.buffers.proofs.Place.{fill-end, fill-turn, over-none}
-use Rattle.buffers.specs.Append.{over}
+use Rattle.buffers.specs.Relations.Append.{over}
 use lib.ListN.{length, length-set, replicate}
 use mathlib.Core.Path.{_≡_, refl, sym}
 use native.Mathlib.Omega.{arith}

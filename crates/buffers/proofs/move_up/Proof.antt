@@ -2,7 +2,7 @@
 use Prim.Native.Nat.{_+_, _≤_}
 use Rattle.records.specs.Bytes.{part}
 use Rattle.buffers.proofs.Place.{move-end, move-start, move-turn}
-use Rattle.buffers.specs.Append.{over}
+use Rattle.buffers.specs.Relations.Append.{over}
 use borrow.Author.Needs.{needs}
 use lib.ListN.{drop, length, length-set}
 use mathlib.Core.Path.{_≡_, refl}

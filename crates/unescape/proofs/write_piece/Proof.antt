@@ -1,7 +1,7 @@
 -- `unescape::write_piece` meets its contract: a byte, or a scalar.
 use Rattle.buffers.proofs.Place.{set-over}
 use Rattle.unescape.proofs.Reading.{byte-reads, byte-room, scalar-reads, scalar-room}
-use Rattle.buffers.specs.Append.{over}
+use Rattle.buffers.specs.Relations.Append.{over}
 use borrow.Author.Needs.{needs}
 use mathlib.Core.Path.{_∙_, ap}
 use native.Mathlib.Omega.{arith}

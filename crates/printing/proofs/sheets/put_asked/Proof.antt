@@ -3,7 +3,7 @@ use Rattle.printing.proofs.Pages.{asked-is}
 use Rattle.printing.proofs.Saying.{says-as}
 use Rattle.printing.specs.Sheets.{attributeWord}
 use Rattle.sighting.proofs.Making.{value-in, value-there}
-use Rattle.texts.specs.Report.{optionOf}
+use Rattle.texts.specs.Optional.{optionOf}
 use Rattle.wording.specs.Strs.{strsAt}
 use borrow.Author.Needs.{needs}
 use denote.Ref.{now}

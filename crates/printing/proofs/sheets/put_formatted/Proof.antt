@@ -1,6 +1,6 @@
 -- What the formatting answers is said.
 use Rattle.printing.proofs.Saying.{message-cleared, message-finished, message-refused, says-as, says-nothing}
-use Rattle.texts.specs.Report.{optionOf}
+use Rattle.texts.specs.Optional.{optionOf}
 use Rattle.wording.specs.Strs.{strsAt}
 use borrow.Author.Needs.{needs}
 use denote.Ref.{now}

@@ -1,5 +1,5 @@
 -- No attribute is asked for.
-use Rattle.texts.specs.Report.{optionOf}
+use Rattle.texts.specs.Optional.{optionOf}
 use borrow.Author.Needs.{needs}
 use Rattle.printing.proofs.sheets.put_value.Statement.{statement}
 use Rattle.printing.proofs.sheets.put_value.Tie as tie

@@ -1,6 +1,7 @@
 -- `scope::variable::write_result` meets its contract: the value's text, the name of a function that gave Error, or a reference to one that is missing.
 use Rattle.scope.proofs.Written.{result-none, result-out, result-value, result-wrong}
-use Rattle.texts.specs.Report.{optionOf, referredOf}
+use Rattle.texts.specs.Optional.{optionOf}
+use Rattle.texts.specs.Relations.Report.{referredOf}
 use borrow.Author.Needs.{needs}
 use native.Mathlib.Omega.{arith}
 use Rattle.scope.proofs.variable.write_result.Statement.{statement}

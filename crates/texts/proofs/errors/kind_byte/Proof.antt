@@ -1,6 +1,6 @@
 -- `texts::errors::kind_byte` meets its contract.
 use Rattle.records.specs.Encode.{encKind}
-use Rattle.texts.specs.Report.{kindOf}
+use Rattle.texts.specs.Relations.Report.{kindOf}
 use borrow.Author.Needs.{needs}
 use Rattle.texts.proofs.errors.kind_byte.Statement.{statement}
 use Rattle.texts.proofs.errors.kind_byte.Tie as tie

@@ -1,7 +1,7 @@
 -- `texts::errors::plain_tag` meets its contract: a record of one byte, and that is the tag.
 use Rattle.records.specs.Bytes.{toBe}
 use Rattle.records.specs.Errors.{encError, encRecord}
-use Rattle.texts.specs.Report.{plainOf}
+use Rattle.texts.specs.Relations.Report.{plainOf}
 use borrow.Author.Needs.{needs}
 use Rattle.texts.proofs.errors.plain_tag.Statement.{statement}
 use Rattle.texts.proofs.errors.plain_tag.Tie as tie

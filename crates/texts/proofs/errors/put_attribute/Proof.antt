@@ -1,8 +1,8 @@
 -- `texts::errors::put_attribute` meets its contract.
 use Rattle.buffers.proofs.Place.{length-over}
 use Rattle.texts.proofs.Recording.{announced-written, attribute-is, attribute-length, recorded-fits, recorded-full, recorded-long, room-true}
-use Rattle.buffers.specs.Append.{over}
-use Rattle.texts.specs.Report.{referredOf}
+use Rattle.buffers.specs.Relations.Append.{over}
+use Rattle.texts.specs.Relations.Report.{referredOf}
 use borrow.Author.Needs.{needs}
 use lib.ListN.{length, length-set}
 use mathlib.Core.Path.{_∙_, ap}

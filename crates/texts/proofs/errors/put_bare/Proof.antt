@@ -1,7 +1,7 @@
 -- `texts::errors::put_bare` meets its contract.
 use Rattle.texts.proofs.Recording.{bare-is, bare-length, flag-written, recorded-fits, recorded-full, recorded-long, room-true}
-use Rattle.buffers.specs.Append.{over}
-use Rattle.texts.specs.Report.{referredOf}
+use Rattle.buffers.specs.Relations.Append.{over}
+use Rattle.texts.specs.Relations.Report.{referredOf}
 use borrow.Author.Needs.{needs}
 use mathlib.Core.Path.{_∙_, ap}
 use native.Mathlib.Omega.{arith}

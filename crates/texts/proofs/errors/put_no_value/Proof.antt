@@ -1,6 +1,6 @@
 -- `texts::errors::put_no_value` meets its contract.
 use Rattle.texts.proofs.Recording.{name-written, no-value-is, no-value-length, recorded-fits, recorded-full, recorded-long, room-true}
-use Rattle.buffers.specs.Append.{over}
+use Rattle.buffers.specs.Relations.Append.{over}
 use borrow.Author.Needs.{needs}
 use mathlib.Core.Path.{_∙_, ap}
 use native.Mathlib.Omega.{arith}

@@ -1,7 +1,7 @@
 -- `texts::errors::put_overriding` meets its contract.
 use Rattle.texts.proofs.Recording.{overriding-is, overriding-length, recorded-fits, recorded-full, recorded-long, room-true}
-use Rattle.buffers.specs.Append.{over}
-use Rattle.texts.specs.Report.{kindOf}
+use Rattle.buffers.specs.Relations.Append.{over}
+use Rattle.texts.specs.Relations.Report.{kindOf}
 use borrow.Author.Needs.{needs}
 use mathlib.Core.Path.{_∙_, ap}
 use native.Mathlib.Omega.{arith}

@@ -1,7 +1,7 @@
 -- `texts::errors::put_plain` meets its contract.
 use Rattle.records.specs.Bytes.{toBe}
 use Rattle.texts.proofs.Recording.{plain-length, recorded-fits, recorded-full, room-true}
-use Rattle.buffers.specs.Append.{over}
+use Rattle.buffers.specs.Relations.Append.{over}
 use borrow.Author.Needs.{needs}
 use mathlib.Core.Path.{_∙_, ap, sym}
 use native.Mathlib.Omega.{arith}

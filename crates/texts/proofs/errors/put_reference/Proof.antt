@@ -1,5 +1,5 @@
 -- `texts::errors::put_reference` meets its contract.
-use Rattle.texts.specs.Report.{optionOf}
+use Rattle.texts.specs.Optional.{optionOf}
 use borrow.Author.Needs.{needs}
 use Rattle.texts.proofs.errors.put_reference.Statement.{statement}
 use Rattle.texts.proofs.errors.put_reference.Tie as tie

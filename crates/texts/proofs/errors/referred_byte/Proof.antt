@@ -1,6 +1,6 @@
 -- `texts::errors::referred_byte` meets its contract.
 use Rattle.records.specs.Errors.{encReferred}
-use Rattle.texts.specs.Report.{referredOf}
+use Rattle.texts.specs.Relations.Report.{referredOf}
 use borrow.Author.Needs.{needs}
 use Rattle.texts.proofs.errors.referred_byte.Statement.{statement}
 use Rattle.texts.proofs.errors.referred_byte.Tie as tie

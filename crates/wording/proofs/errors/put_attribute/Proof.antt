@@ -1,5 +1,5 @@
 -- The parts are put one behind the other.
-use Rattle.texts.specs.Report.{referredOf}
+use Rattle.texts.specs.Relations.Report.{referredOf}
 use Rattle.wording.proofs.Pouring.{pour-then}
 use Rattle.wording.specs.Errors.{attributeWords, referenceWords, sign}
 use borrow.Author.Needs.{needs}

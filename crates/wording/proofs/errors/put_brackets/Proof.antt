@@ -1,5 +1,5 @@
 -- A function has brackets; nothing is put for the others.
-use Rattle.texts.specs.Report.{referredOf}
+use Rattle.texts.specs.Relations.Report.{referredOf}
 use Rattle.wording.proofs.Pouring.{pour-none}
 use Rattle.wording.specs.Errors.{brackets}
 use borrow.Author.Needs.{needs}

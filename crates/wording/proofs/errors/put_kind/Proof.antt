@@ -1,5 +1,5 @@
 -- Each kind has its word.
-use Rattle.texts.specs.Report.{kindOf}
+use Rattle.texts.specs.Relations.Report.{kindOf}
 use Rattle.wording.specs.Errors.{kindWords}
 use borrow.Author.Needs.{needs}
 use Rattle.wording.proofs.errors.put_kind.Statement.{statement}

@@ -1,5 +1,5 @@
 -- The parts are put one behind the other.
-use Rattle.texts.specs.Report.{kindOf}
+use Rattle.texts.specs.Relations.Report.{kindOf}
 use Rattle.wording.proofs.Pouring.{pour-then}
 use Rattle.wording.specs.Errors.{errorWords, kindWords, overrideWords}
 use borrow.Author.Needs.{needs}

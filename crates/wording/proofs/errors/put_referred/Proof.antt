@@ -1,5 +1,5 @@
 -- Each kind has its word.
-use Rattle.texts.specs.Report.{referredOf}
+use Rattle.texts.specs.Relations.Report.{referredOf}
 use Rattle.wording.specs.Errors.{referredWords}
 use borrow.Author.Needs.{needs}
 use Rattle.wording.proofs.errors.put_referred.Statement.{statement}

@@ -1,5 +1,5 @@
 -- A term has a sign and a variable another; nothing is put for the others.
-use Rattle.texts.specs.Report.{referredOf}
+use Rattle.texts.specs.Relations.Report.{referredOf}
 use Rattle.wording.proofs.Pouring.{pour-none}
 use Rattle.wording.specs.Errors.{sign}
 use borrow.Author.Needs.{needs}

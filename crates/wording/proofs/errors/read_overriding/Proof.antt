@@ -1,7 +1,7 @@
 -- An Overriding record is a kind, 1 or 2, and an Id, which ends with the record.
 use Rattle.records.proofs.Laws.{str-in}
 use Rattle.records.proofs.Views.{num-is, num-none, str-bad, str-is}
-use Rattle.texts.specs.Report.{kindOf}
+use Rattle.texts.specs.Relations.Report.{kindOf}
 use Rattle.wording.proofs.Telling.{overriding-message, overriding-none, overriding-other, overriding-past, overriding-short, overriding-term, tells-bad, whole-bad, whole-is}
 use Rattle.wording.specs.Errors.{Within, meant}
 use borrow.Author.Needs.{needs}

@@ -1,7 +1,7 @@
 -- A Reference record is a kind, 1 to 4, and what follows it.
 use Rattle.records.proofs.Views.{num-is, num-none}
 use Rattle.records.specs.Got.{after, pick, test}
-use Rattle.texts.specs.Report.{referredOf}
+use Rattle.texts.specs.Relations.Report.{referredOf}
 use Rattle.wording.proofs.Telling.{tells-as, tells-bad, whole-bad}
 use Rattle.wording.specs.Errors.{referenceAt, referredAt, whole}
 use borrow.Author.Needs.{needs}

@@ -3,7 +3,7 @@ use Rattle.records.proofs.Laws.{str-in}
 use Rattle.records.proofs.Views.{num-is, num-none, str-bad, str-is}
 use Rattle.records.specs.Decode.{optionalAt}
 use Rattle.records.specs.Got.{after, pick, test}
-use Rattle.texts.specs.Report.{referredOf}
+use Rattle.texts.specs.Relations.Report.{referredOf}
 use Rattle.wording.proofs.Telling.{reference-bare, reference-with, tells-bad, whole-bad, whole-is, whole-not}
 use Rattle.wording.specs.Errors.{Within, meant, referredIdAt}
 use borrow.Author.Needs.{needs}

@@ -2,7 +2,7 @@
 use Prim.Native.Nat.{ℕ}
 use Rattle.resolver.proofs.Selects.{select-chosen, select-default, select-never, select-over, select-stopped}
 use Rattle.scope.specs.declared.state.Scope.{Scope}
-use Rattle.texts.specs.Report.{plainOf}
+use Rattle.texts.specs.Relations.Report.{plainOf}
 use borrow.Author.Needs.{needs}
 use mathlib.Core.Path.{_∙_, ap}
 use native.Mathlib.Omega.{arith}

@@ -6,16 +6,13 @@ use mathlib.Core.List.{List, _++_}
 use lib.ListN.{length, take, drop}
 use lib.Dec.{leb}
 use Rattle.records.specs.Bytes.{part}
+use Rattle.buffers.specs.Given.{given}
 use Rattle.buffers.specs.declared.Wrote.{Wrote}
 use Rattle.buffers.specs.declared.Wrote.the-variants.{At, Full}
 
 -- a buffer, and bytes over what stands from a position on
 unfoldable pub over : List ℕ → ℕ → List ℕ → List ℕ
 over d at bs = take at d ++ bs ++ drop (at + length bs) d
-
-abbrev pub given : {A : Type 0} → Bool → A → A → A
-given true a b = a
-given false a b = b
 
 -- What an attempt to write bytes at a position answers, and what it leaves: past them, and the bytes are there; or Full, and nothing changes.
 unfoldable pub attempt : Bool → List ℕ → ℕ → List ℕ → Wrote × List ℕ

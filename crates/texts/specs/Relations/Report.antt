@@ -1,15 +1,15 @@
 -- Error records appended to a list.
 use Prim.Native.Nat.{ℕ, _+_}
-use mathlib.Core.Bool.{Bool, true, false, _&&_}
+use mathlib.Core.Bool.{Bool, _&&_}
 use mathlib.Core.List.{List, [], _∷_, _++_}
-use mathlib.Core.Option.{Option, some, none}
 use lib.ListN.{length}
 use lib.Dec.{leb, ltb}
 use Rattle.records.specs.Bytes.{toBe}
 use Rattle.records.specs.Images as images
 use Rattle.records.specs.Errors as errors
 use Rattle.records.specs.Errors.{Error, encError, listHeader}
-use Rattle.buffers.specs.Append.{over, given, attempt}
+use Rattle.buffers.specs.Given.{given}
+use Rattle.buffers.specs.Relations.Append.{over, attempt}
 use Rattle.buffers.specs.declared.Wrote.{Wrote}
 use Rattle.texts.specs.declared.errors.Kind.{Kind}
 use Rattle.texts.specs.declared.errors.Kind.the-variants as kind
@@ -33,11 +33,6 @@ unfoldable pub plainOf : Plain → Error
 plainOf plain.MissingDefault = Error.missingDefault
 plainOf plain.Cyclic = Error.cyclic
 plainOf plain.TooManyPlaceables = Error.tooManyPlaceables
-
--- an attribute that is there, or not
-unfoldable pub optionOf : Bool → List ℕ → Option (List ℕ)
-optionOf true t = some t
-optionOf false t = none
 
 -- Is there room in a list of `size` bytes, at a position, for a record of n bytes, its length among them? A record's length is a u16 that counts
 -- the rest, and the list's a u32: a record of more than 65,537 bytes cannot be written, and none that ends past 4,294,967,295.
