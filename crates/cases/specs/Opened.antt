@@ -15,7 +15,8 @@ use Rattle.records.specs.Decode as records-decode
 use Rattle.records.specs.Images as records-images
 use Rattle.records.specs.Encode as records-encode
 use Rattle.records.specs.Errors as records-errors
-use Rattle.unescape.specs.Unescape as texts-unescape
+use Rattle.scalars.specs.Scalars as scalars-scalars
+use Rattle.unescape.specs.Unescape as unescape-unescape
 use Rattle.bundle.specs.Lookup as bundle-lookup
 use Rattle.bundle.specs.Additions as bundle-additions
 use Rattle.resolution.specs.Effect as resolver-effect
@@ -83,9 +84,9 @@ unfoldable pub recordsErrors : Unit {0}
 unfolding records-errors.encReferred records-errors.encRecord records-errors.encError records-errors.encErrors records-errors.listHeader
 recordsErrors = tt
 
-unfoldable pub textsUnescape : Unit {0}
-unfolding texts-unescape.hasBackslash texts-unescape.hexValue texts-unescape.digitsOf texts-unescape.scalarPiece texts-unescape.scalarOf texts-unescape.escapeOf texts-unescape.pieceOf texts-unescape.moreOf texts-unescape.isScalar texts-unescape.scalarOr texts-unescape.encScalar texts-unescape.readsAs texts-unescape.unescapeFrom texts-unescape.unescape
-textsUnescape = tt
+unfoldable pub unescapeUnescape : Unit {0}
+unfolding unescape-unescape.hasBackslash scalars-scalars.hexValue unescape-unescape.digitsOf unescape-unescape.scalarPiece unescape-unescape.scalarOf unescape-unescape.escapeOf unescape-unescape.pieceOf unescape-unescape.moreOf scalars-scalars.isScalar scalars-scalars.scalarOr scalars-scalars.encScalar unescape-unescape.readsAs unescape-unescape.unescapeFrom unescape-unescape.unescape
+unescapeUnescape = tt
 
 unfoldable pub bundleLookup : Unit {0}
 unfolding bundle-lookup.orElse bundle-lookup.onlyNamed bundle-lookup.firstEntry bundle-lookup.lastEntry bundle-lookup.holderAfter bundle-lookup.findFrom bundle-lookup.findIn bundle-lookup.attributeOf bundle-lookup.partOf
@@ -112,5 +113,5 @@ unfolding resolver-format.valueOf resolver-format.valuesOf resolver-format.maxPa
 resolverFormat = tt
 
 unfoldable pub opened : Unit {0}
-unfolding numbersBytes numbersDecimal numbersLiteral numbersText numbersEqual numbersValue numbersPlural recordsGot recordsBytes recordsRules recordsNames recordsDecode recordsImages recordsEncode recordsErrors textsUnescape bundleLookup bundleAdditions resolverEffect resolverResolve resolverExec resolverFormat
+unfolding numbersBytes numbersDecimal numbersLiteral numbersText numbersEqual numbersValue numbersPlural recordsGot recordsBytes recordsRules recordsNames recordsDecode recordsImages recordsEncode recordsErrors unescapeUnescape bundleLookup bundleAdditions resolverEffect resolverResolve resolverExec resolverFormat
 opened = tt

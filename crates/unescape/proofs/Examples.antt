@@ -1,15 +1,10 @@
 -- Worked examples of the definitions.
 use mathlib.Core.Path.{_≡_, refl}
-use mathlib.Core.List.{List, [], _∷_, map}
+use mathlib.Core.List.{List, [], _∷_}
 use Prim.Native.Nat.{ℕ}
 use Rattle.records.specs.Rules.{digit, hex}
-use Rattle.unescape.specs.Unescape.{hexValue, digitsOf, scalarPiece, scalarOf, escapeOf, pieceOf, moreOf, isScalar, scalarOr, encScalar, readsAs, unescapeFrom, unescape}
-
--- the 22 digits
-pub digit-values : map hexValue (48 ∷ 49 ∷ 50 ∷ 51 ∷ 52 ∷ 53 ∷ 54 ∷ 55 ∷ 56 ∷ 57 ∷ 65 ∷ 66 ∷ 67 ∷ 68 ∷ 69 ∷ 70 ∷ 97 ∷ 98 ∷ 99 ∷ 100 ∷ 101 ∷ 102 ∷ [])
-    ≡ 0 ∷ 1 ∷ 2 ∷ 3 ∷ 4 ∷ 5 ∷ 6 ∷ 7 ∷ 8 ∷ 9 ∷ 10 ∷ 11 ∷ 12 ∷ 13 ∷ 14 ∷ 15 ∷ 10 ∷ 11 ∷ 12 ∷ 13 ∷ 14 ∷ 15 ∷ []
-unfolding hexValue digit
-digit-values = refl
+use Rattle.scalars.specs.Scalars.{hexValue, isScalar, scalarOr, encScalar}
+use Rattle.unescape.specs.Unescape.{digitsOf, scalarPiece, scalarOf, escapeOf, pieceOf, moreOf, readsAs, unescapeFrom, unescape}
 
 -- `\u0041` is A
 pub letter-read : unescape (92 ∷ 117 ∷ 48 ∷ 48 ∷ 52 ∷ 49 ∷ []) ≡ 65 ∷ []

@@ -10,7 +10,8 @@ use borrow.Author.Tests.{eq-eqb, ne-eqb, eqb-true, eqb-false}
 use Rattle.records.specs.Bytes.{run}
 use Rattle.records.specs.Rules.{choose, hex, escapeStep, isUtf8, isString}
 use Rattle.buffers.specs.Given.{given}
-use Rattle.unescape.specs.Unescape.{hexValue, digitsOf, scalarPiece, scalarOf, escapeOf, pieceOf, readsAs, moreOf, unescapeFrom, unescape}
+use Rattle.scalars.specs.Scalars.{hexValue}
+use Rattle.unescape.specs.Unescape.{digitsOf, scalarPiece, scalarOf, escapeOf, pieceOf, readsAs, moreOf, unescapeFrom, unescape}
 use Rattle.unescape.specs.declared.Digits.{Digits}
 use Rattle.unescape.specs.declared.Digits.the-variants.{Value, Broken}
 use Rattle.unescape.specs.declared.Piece.{Piece}

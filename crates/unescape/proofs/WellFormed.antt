@@ -10,12 +10,14 @@ use borrow.Author.Tests.{eq-eqb, ne-eqb, eqb-true, eqb-false, lt-ltb, le-ltb, lt
 use Rattle.records.specs.Bytes.{run}
 use Rattle.records.specs.Rules.{choose, within, hex, utf8First, utf8Low, utf8High, utf8Rest, utf8Step, isUtf8}
 use Rattle.buffers.specs.Given.{given}
-use Rattle.unescape.specs.Unescape.{hexValue, digitsOf, scalarPiece, scalarOf, escapeOf, pieceOf, readsAs, moreOf, isScalar, scalarOr, encScalar, unescapeFrom, unescape}
+use Rattle.scalars.specs.Scalars.{hexValue, isScalar, scalarOr, encScalar}
+use Rattle.scalars.proofs.Scalars.{never, hex-lower, scalar-1, scalar-2, scalar-3, scalar-4}
+use Rattle.unescape.specs.Unescape.{digitsOf, scalarPiece, scalarOf, escapeOf, pieceOf, readsAs, moreOf, unescapeFrom, unescape}
 use Rattle.unescape.specs.declared.Digits.{Digits}
 use Rattle.unescape.specs.declared.Digits.the-variants.{Value, Broken}
 use Rattle.unescape.specs.declared.Piece.{Piece}
 use Rattle.unescape.specs.declared.Piece.the-variants.{Byte, Scalar}
-use Rattle.unescape.proofs.Reading.{Sized, piece-sized, never, hex-lower, scalar-1, scalar-2, scalar-3, scalar-4}
+use Rattle.unescape.proofs.Reading.{Sized, piece-sized}
 
 run-append : (q : ℕ) (a b : List ℕ) → run utf8Step q (a ++ b) ≡ run utf8Step (run utf8Step q a) b
 unfolding run

@@ -1,11 +1,12 @@
 -- What a string literal reads as: document 01, "String literal: a backslash is followed by `\`, `"`, `u` with 4 or `U` with 6 hexadecimal digits;
 -- a value that is no Unicode scalar reads as U+FFFD".
-use Prim.Native.Nat.{ℕ, zero, suc, _+_, _-_, _*_, _/_, _%_}
+use Prim.Native.Nat.{ℕ, zero, suc, _+_, _*_}
 use mathlib.Core.Bool.{Bool, true, false, _||_}
 use mathlib.Core.List.{List, [], _∷_, _++_}
-use lib.Dec.{ltb, leb, eqb}
-use Rattle.records.specs.Rules.{choose, within, digit, hex}
+use lib.Dec.{eqb}
+use Rattle.records.specs.Rules.{hex}
 use Rattle.buffers.specs.Given.{given}
+use Rattle.scalars.specs.Scalars.{hexValue, scalarOr, encScalar}
 use Rattle.unescape.specs.declared.Digits.{Digits}
 use Rattle.unescape.specs.declared.Digits.the-variants.{Value, Broken}
 use Rattle.unescape.specs.declared.Piece.{Piece}
@@ -14,10 +15,6 @@ use Rattle.unescape.specs.declared.Piece.the-variants.{Byte, Scalar}
 unfoldable pub hasBackslash : List ℕ → Bool
 hasBackslash [] = false
 hasBackslash (b ∷ t) = eqb b 92 || hasBackslash t
-
--- the value of a hexadecimal digit: `0` to `9`, `A` to `F`, `a` to `f`
-unfoldable pub hexValue : ℕ → ℕ
-hexValue b = choose (digit b) (b - 48) (choose (within 65 70 b) (b - 65 + 10) (b - 97 + 10))
 
 -- the value that n hexadecimal digits write, the first the highest, after those that wrote v
 unfoldable pub digitsOf : ℕ → ℕ → List ℕ → Digits
@@ -49,21 +46,6 @@ pieceOf b t = given (eqb b 92) (escapeOf t) (Byte b 0)
 unfoldable pub moreOf : Piece → ℕ
 moreOf (Byte b k) = k
 moreOf (Scalar v k) = k
-
--- a Unicode scalar: not from U+D800 to U+DFFF, and at most U+10FFFF
-unfoldable pub isScalar : ℕ → Bool
-isScalar v = ltb v 0xD800 || within 0xE000 0x10FFFF v
-
-unfoldable pub scalarOr : ℕ → ℕ
-scalarOr v = choose (isScalar v) v 0xFFFD
-
--- a scalar in UTF-8: table 3-6 of the Unicode standard
-unfoldable pub encScalar : ℕ → List ℕ
-encScalar v =
-    given (ltb v 0x80) (v ∷ [])
-    (given (ltb v 0x800) ((192 + v / 64) ∷ (128 + v % 64) ∷ [])
-    (given (ltb v 0x10000) ((224 + v / 4096) ∷ (128 + v / 64 % 64) ∷ (128 + v % 64) ∷ [])
-    ((240 + v / 262144) ∷ (128 + v / 4096 % 64) ∷ (128 + v / 64 % 64) ∷ (128 + v % 64) ∷ [])))
 
 unfoldable pub readsAs : Piece → List ℕ
 readsAs (Byte b k) = b ∷ []

@@ -1,12 +1,15 @@
 // String literals read: the escapes of a text, and the bytes that it reads as.
 ghost use mathlib.Core.Path.{_≡_};
-ghost use mathlib.Core.Bool.{true};
 ghost use Prim.Native.Nat.{ℕ, _+_, _≤_, _<_};
 ghost use lib.ListN.{length, drop, getD};
-ghost use Rattle.records.specs.Rules.{hex};
 ghost use Rattle.buffers.specs.Relations.Append.{over, appended};
-ghost use Rattle.unescape.specs.Unescape.{hasBackslash, hexValue, digitsOf, scalarOf, escapeOf, pieceOf, readsAs, moreOf, scalarOr, encScalar, unescape};
+ghost use Rattle.scalars.specs.Scalars.{encScalar};
+ghost use Rattle.unescape.specs.Unescape.{hasBackslash, digitsOf, scalarOf, escapeOf, pieceOf, readsAs, moreOf, unescape};
 use buffers::Wrote;
+use scalars::hex_value;
+use scalars::is_hex;
+use scalars::scalar_len;
+use scalars::scalar_or;
 
 // The value of hexadecimal digits; or they are not all there.
 enum Digits {
@@ -31,46 +34,6 @@ pub fn has_backslash(s: &[u8]) -> bool
         i += 1;
     }
     false
-}
-
-fn is_hex(b: u8) -> bool
-    ensures { λ r. ⌜ r ≡ hex b ⌝ }
-{
-    if b < 48 {
-        return false;
-    }
-    if b <= 57 {
-        return true;
-    }
-    if b < 65 {
-        return false;
-    }
-    if b <= 70 {
-        return true;
-    }
-    if b < 97 {
-        return false;
-    }
-    b <= 102
-}
-
-// The value of a hexadecimal digit. Of another byte nothing is said.
-fn hex_value(b: u8) -> u8
-    ensures { λ r. ⌜ (hex b ≡ true → (r ≡ hexValue b) × (r < 16)) ⌝ }
-{
-    if b < 48 {
-        0
-    } else if b <= 57 {
-        b - 48
-    } else if b < 65 {
-        0
-    } else if b <= 70 {
-        b - 55
-    } else if b < 97 {
-        0
-    } else {
-        b - 87
-    }
 }
 
 fn wide(x: u8) -> u32
@@ -147,37 +110,6 @@ fn piece_at(s: &[u8], i: usize) -> Piece
         return escape_at(s, i + 1);
     }
     Piece::Byte(b, 0)
-}
-
-// The value itself if it is a Unicode scalar, else U+FFFD.
-fn scalar_or(v: u32) -> u32
-    ensures { λ r. ⌜ (r ≡ scalarOr v) × (r < 0x110000) ⌝ }
-{
-    if v < 0xD800 {
-        return v;
-    }
-    if v < 0xE000 {
-        return 0xFFFD;
-    }
-    if v <= 0x10FFFF {
-        return v;
-    }
-    0xFFFD
-}
-
-// How many bytes a scalar has in UTF-8.
-fn scalar_len(v: u32) -> usize
-    ensures { λ r. ⌜ r ≡ length (encScalar v) ⌝ }
-{
-    if v < 0x80 {
-        1
-    } else if v < 0x800 {
-        2
-    } else if v < 0x10000 {
-        3
-    } else {
-        4
-    }
 }
 
 fn write_scalar(d: &mut [u8], at: usize, v: u32)

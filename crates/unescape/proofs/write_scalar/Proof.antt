@@ -1,6 +1,7 @@
 -- `unescape::write_scalar` meets its contract: the branches are those of `encScalar`.
 use Rattle.buffers.proofs.Place.{set-over, store-2, store-3, store-4}
-use Rattle.unescape.proofs.Reading.{room-of, scalar-1, scalar-2, scalar-3, scalar-4}
+use Rattle.scalars.proofs.Scalars.{scalar-1, scalar-2, scalar-3, scalar-4}
+use Rattle.unescape.proofs.Reading.{room-of}
 use Rattle.buffers.specs.Relations.Append.{over}
 use borrow.Author.Needs.{needs}
 use lib.ListN.{length-set}

@@ -1,12 +1,12 @@
--- `unescape::hex_value` meets its contract: the branches are those of `hexValue`; the others have no digit.
+-- `scalars::hex_value` meets its contract: the branches are those of `hexValue`; the others have no digit.
 use Prim.Native.Nat.{_≤_}
-use Rattle.unescape.proofs.Reading.{hex-before, hex-between, hex-lower, hex-past, never, value-digit, value-lower, value-upper}
+use Rattle.scalars.proofs.Scalars.{hex-before, hex-between, hex-lower, hex-past, never, value-digit, value-lower, value-upper}
 use borrow.Author.Needs.{needs}
 use borrow.Author.Tests.{leb-true}
 use mathlib.Core.Path.{_∙_, sym}
 use native.Mathlib.Omega.{arith}
-use Rattle.unescape.proofs.hex_value.Statement.{statement}
-use Rattle.unescape.proofs.hex_value.Tie as tie
+use Rattle.scalars.proofs.hex_value.Statement.{statement}
+use Rattle.scalars.proofs.hex_value.Tie as tie
 
 sub-result : tie.Need-sub-result
 sub-result c = search needs

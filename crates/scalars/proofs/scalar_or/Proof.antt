@@ -1,9 +1,9 @@
--- `unescape::scalar_or` meets its contract: the branches are those of `scalarOr`.
-use Rattle.unescape.specs.Unescape.{isScalar, scalarOr}
+-- `scalars::scalar_or` meets its contract: the branches are those of `scalarOr`.
+use Rattle.scalars.specs.Scalars.{isScalar, scalarOr}
 use borrow.Author.Tests.{le-leb, le-ltb, lt-leb, lt-ltb}
 use native.Mathlib.Omega.{arith}
-use Rattle.unescape.proofs.scalar_or.Statement.{statement}
-use Rattle.unescape.proofs.scalar_or.Tie as tie
+use Rattle.scalars.proofs.scalar_or.Statement.{statement}
+use Rattle.scalars.proofs.scalar_or.Tie as tie
 
 returns : tie.Need-returns
 unfolding scalarOr isScalar

@@ -1,8 +1,8 @@
--- `unescape::is_hex` meets its contract: the branches go through the bytes from the lowest up.
-use Rattle.unescape.proofs.Reading.{hex-before, hex-between, hex-digit, hex-lower, hex-past, hex-upper}
+-- `scalars::is_hex` meets its contract: the branches go through the bytes from the lowest up.
+use Rattle.scalars.proofs.Scalars.{hex-before, hex-between, hex-digit, hex-lower, hex-past, hex-upper}
 use mathlib.Core.Path.{sym}
-use Rattle.unescape.proofs.is_hex.Statement.{statement}
-use Rattle.unescape.proofs.is_hex.Tie as tie
+use Rattle.scalars.proofs.is_hex.Statement.{statement}
+use Rattle.scalars.proofs.is_hex.Tie as tie
 
 returns : tie.Need-returns
 returns c = sym (hex-before _ (c .if1 .taken))

@@ -1,9 +1,9 @@
--- `unescape::scalar_len` meets its contract: the branches are those of `encScalar`.
-use Rattle.unescape.proofs.Reading.{scalar-1, scalar-2, scalar-3, scalar-4}
+-- `scalars::scalar_len` meets its contract: the branches are those of `encScalar`.
+use Rattle.scalars.proofs.Scalars.{scalar-1, scalar-2, scalar-3, scalar-4}
 use lib.ListN.{length}
 use mathlib.Core.Path.{ap, sym}
-use Rattle.unescape.proofs.scalar_len.Statement.{statement}
-use Rattle.unescape.proofs.scalar_len.Tie as tie
+use Rattle.scalars.proofs.scalar_len.Statement.{statement}
+use Rattle.scalars.proofs.scalar_len.Tie as tie
 
 returns : tie.Need-returns
 returns c = sym (ap length (scalar-1 (c .before .args .v) (c .if1 .taken)))
