@@ -21,7 +21,7 @@ use Rattle.layout.specs.Exact.{Stands, Octets}
 use Rattle.layout.proofs.Stands.{append-nil, length-part, stands-length, stands-of, stands-none, none-ends, bytes-are, join, split}
 use Rattle.layout.proofs.Steps.{nothing, after-elim, took, test-took, tag-took, last-took, byte-took, gives, tagged, ahead, number-exact, byte-complete, byte-ahead, ends}
 use Rattle.texts.specs.Relations.Report.{header, headed}
-use Rattle.texts.specs.ErrorList.{referredAt, overridingAt, referenceAt, noValueAt, plainAt, taggedAt, recordAt, recordsAt, listAt, valueOf, errorOf, errorsOf, Recordable, Listable}
+use Rattle.texts.specs.ErrorList.{referredAt, overridingAt, referenceAt, noValueAt, plainAt, taggedAt, recordAt, recordsAt, listAt, valueOf, errorOf, errorsOf, Recordable, Listable, Brief}
 use Rattle.texts.proofs.Recording.{length-u16, length-u32, overriding-length, no-value-length, bare-length, attribute-length, headed-errors}
 
 -- the bytes of a record behind its length
@@ -65,6 +65,17 @@ short (noValue i) h = let l = no-value-length i in omega arith
 short missingDefault h = tt
 short cyclic h = tt
 short tooManyPlaceables h = tt
+
+-- an error with Ids as document 01 has them is recordable
+pub recordable : (e : Error) → Brief e → Recordable e
+unfolding Brief restOf
+recordable (overriding k i) h = let l = overriding-length i k in omega arith
+recordable (reference k i none) h = let l = bare-length i k in omega arith
+recordable (reference k i (some a)) h = let l = attribute-length i k a in omega arith
+recordable (noValue i) h = let l = no-value-length i in omega arith
+recordable missingDefault h = let l = record-size missingDefault in omega arith
+recordable cyclic h = let l = record-size cyclic in omega arith
+recordable tooManyPlaceables h = let l = record-size tooManyPlaceables in omega arith
 
 -- a list stands in itself
 all-stands : (s : List ℕ) → Stands s 0 (length s) s

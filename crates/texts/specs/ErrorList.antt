@@ -81,3 +81,13 @@ Recordable e = length (encError e) ≤ 65537
 -- errors that a list can hold: its whole length is a u32
 abbrev pub Listable : List Error → Type 0
 Listable es = All Recordable es × (length (encErrors es) < 4294967296)
+
+-- the Ids of an error: "Str of 1 to 255 ASCII bytes"
+unfoldable pub Brief : Error → Type 0
+Brief (overriding k i) = length i ≤ 255
+Brief (reference k i none) = length i ≤ 255
+Brief (reference k i (some a)) = (length i ≤ 255) × (length a ≤ 255)
+Brief (noValue i) = length i ≤ 255
+Brief missingDefault = Unit {0}
+Brief cyclic = Unit {0}
+Brief tooManyPlaceables = Unit {0}
