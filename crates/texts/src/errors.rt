@@ -1,15 +1,14 @@
 // Error records appended to a list, and the list's header.
 ghost use mathlib.Core.Path.{_≡_};
-ghost use mathlib.Core.Option.{some, none};
 ghost use mathlib.Core.List.{List, [], _∷_, _++_};
 ghost use Prim.Native.Nat.{ℕ, _+_, _≤_, _<_};
 ghost use lib.ListN.{length};
 ghost use Rattle.records.specs.Bytes.{toBe};
-ghost use Rattle.records.specs.Encode.{encStr, encKind};
+ghost use Rattle.records.specs.Encode.{encStr, encOptional, encKind};
 ghost use Rattle.records.specs.Errors.{overriding, reference, noValue, encReferred, encError};
 ghost use Rattle.buffers.specs.Relations.Append.{over};
 ghost use Rattle.texts.specs.Optional.{optionOf};
-ghost use Rattle.texts.specs.Relations.Report.{kindOf, referredOf, plainOf, roomFor, recorded, headed};
+ghost use Rattle.texts.specs.Relations.Report.{kindOf, referredOf, plainOf, roomFor, attributeLen, recorded, headed};
 use buffers::Wrote;
 use records::write_bytes;
 use records::write_u16;
@@ -151,39 +150,30 @@ pub fn put_plain(list: &mut [u8], at: usize, error: Plain) -> Wrote
     Wrote::Full
 }
 
-fn put_bare(list: &mut [u8], at: usize, kind: Referred, id: &[u8]) -> Wrote
-    ensures { λ r. ⌜ (r, now (list .exit)) ≡ recorded (now (list .entry)) at (reference (referredOf kind) (now (id .entry)) none) ⌝ }
+// How many bytes an attribute takes with its Flag: 65,538, more than a record has, where its length is no u16.
+fn attribute_len(has: bool, n: usize) -> usize
+    ensures { λ r. ⌜ r ≡ attributeLen has n ⌝ }
 {
-    let n = id.len();
-    if 65535 < n {
-        return Wrote::Full;
+    if has {
+        if 65535 < n {
+            return 65538;
+        }
+        return 3 + n;
     }
-    if room_for(list.len(), at, 7 + n) {
-        write_named(list, at, 5 + n, 2, referred_byte(kind), id);
-        list[at + (6 + n)] = 0;
-        return Wrote::At(at + (7 + n));
-    }
-    Wrote::Full
+    1
 }
 
-fn put_attribute(list: &mut [u8], at: usize, kind: Referred, id: &[u8], attribute: &[u8]) -> Wrote
-    ensures { λ r. ⌜ (r, now (list .exit)) ≡ recorded (now (list .entry)) at (reference (referredOf kind) (now (id .entry)) (some (now (attribute .entry)))) ⌝ }
+// A Flag, and the attribute that it announces.
+fn write_attribute(d: &mut [u8], at: usize, has: bool, s: &[u8])
+    requires { ⌜ (at + attributeLen has (length (now s)) ≤ length (now d)) × (attributeLen has (length (now s)) ≤ 65537) ⌝ }
+    ensures { λ _. ⌜ now (d .exit) ≡ over (now (d .entry)) at (encOptional encStr (optionOf has (now (s .entry)))) ⌝ }
 {
-    let n = id.len();
-    let m = attribute.len();
-    if 65535 < n {
-        return Wrote::Full;
+    if has {
+        d[at] = 1;
+        write_str(d, at + 1, s);
+        return;
     }
-    if 65535 < m {
-        return Wrote::Full;
-    }
-    if room_for(list.len(), at, 9 + n + m) {
-        write_named(list, at, 7 + n + m, 2, referred_byte(kind), id);
-        list[at + (6 + n)] = 1;
-        write_str(list, at + (7 + n), attribute);
-        return Wrote::At(at + (9 + n + m));
-    }
-    Wrote::Full
+    d[at] = 0;
 }
 
 // Appends a Reference record; `has` says whether there is an attribute.
@@ -197,11 +187,17 @@ pub fn put_reference(
 ) -> Wrote
     ensures { λ r. ⌜ (r, now (list .exit)) ≡ recorded (now (list .entry)) at (reference (referredOf kind) (now (id .entry)) (optionOf has (now (attribute .entry)))) ⌝ }
 {
-    if has {
-        put_attribute(list, at, kind, id, attribute)
-    } else {
-        put_bare(list, at, kind, id)
+    let n = id.len();
+    if 65535 < n {
+        return Wrote::Full;
     }
+    let m = attribute_len(has, attribute.len());
+    if room_for(list.len(), at, 6 + n + m) {
+        write_named(list, at, 4 + n + m, 2, referred_byte(kind), id);
+        write_attribute(list, at + (6 + n), has, attribute);
+        return Wrote::At(at + (6 + n + m));
+    }
+    Wrote::Full
 }
 
 // Writes an error list's header, for a whole length, at its front, if both fit.

@@ -1,6 +1,6 @@
 -- Error records appended to a list.
 use Prim.Native.Nat.{ℕ, _+_}
-use mathlib.Core.Bool.{Bool, _&&_}
+use mathlib.Core.Bool.{Bool, true, false, _&&_}
 use mathlib.Core.List.{List, [], _∷_, _++_}
 use lib.ListN.{length}
 use lib.Dec.{leb, ltb}
@@ -38,6 +38,11 @@ plainOf plain.TooManyPlaceables = Error.tooManyPlaceables
 -- the rest, and the list's a u32: a record of more than 65,537 bytes cannot be written, and none that ends past 4,294,967,295.
 unfoldable pub roomFor : ℕ → ℕ → ℕ → Bool
 roomFor size at n = leb n 65537 && (leb (at + n) 4294967295 && leb (at + n) size)
+
+-- how many bytes an attribute of n bytes takes with its Flag: 65,538, more than a record has, where n is no u16
+unfoldable pub attributeLen : Bool → ℕ → ℕ
+attributeLen true n = given (ltb 65535 n) 65538 (3 + n)
+attributeLen false n = 1
 
 -- "the next record passes the list buffer" (7): where it does not, it is written
 unfoldable pub recorded : List ℕ → ℕ → Error → Wrote × List ℕ
