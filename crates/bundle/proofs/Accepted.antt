@@ -18,8 +18,10 @@ use Rattle.layout.specs.Exact.{Octets}
 use Rattle.layout.proofs.Numbers.{length-toBe}
 use Rattle.layout.proofs.Octets.{octets-append, and-right}
 use Rattle.layout.proofs.Theorems.{resource-sound, store-complete, store-octets}
-use Rattle.bundle.specs.Lookup.{findIn}
-use Rattle.bundle.specs.Additions.{done, refused, Added, refuse, succeed, orRefuse, atFront, withItem, hasRoom, repeats, listed, addPlainTo, addResource, addOverridingTo, addResourceOverriding, addFunctionTo, addFunction, newBundle}
+use Rattle.entries.specs.Lookup.{findIn}
+use Rattle.bundle.specs.Additions.{done, refused, Added, refuse, succeed, orRefuse, listed, addPlainTo, addResource, addOverridingTo, addResourceOverriding, addFunctionTo, addFunction, newBundle}
+use Rattle.growth.specs.Items.{atFront, withItem, hasRoom}
+use Rattle.entries.specs.Repeats.{repeats}
 use Rattle.bundle.specs.Growth.{Grown, Accepted, AcceptedResource, Founded}
 use Rattle.bundle.proofs.Grown.{store-length, octets-drop, grown}
 

@@ -16,7 +16,9 @@ use Rattle.records.specs.Images as records-images
 use Rattle.records.specs.Encode as records-encode
 use Rattle.records.specs.Errors as records-errors
 use Rattle.texts.specs.Unescape as texts-unescape
-use Rattle.bundle.specs.Lookup as bundle-lookup
+use Rattle.entries.specs.Lookup as bundle-lookup
+use Rattle.entries.specs.Repeats as entries-repeats
+use Rattle.growth.specs.Items as growth-items
 use Rattle.bundle.specs.Additions as bundle-additions
 use Rattle.resolution.specs.Effect as resolver-effect
 use Rattle.resolution.specs.Resolve as resolver-resolve
@@ -92,7 +94,7 @@ unfolding bundle-lookup.orElse bundle-lookup.onlyNamed bundle-lookup.firstEntry 
 bundleLookup = tt
 
 unfoldable pub bundleAdditions : Unit {0}
-unfolding bundle-additions.refuse bundle-additions.succeed bundle-additions.orRefuse bundle-additions.atFront bundle-additions.newBundle bundle-additions.withItem bundle-additions.hasRoom bundle-additions.isHeld bundle-additions.repeatIf bundle-additions.repeatsFrom bundle-additions.repeats bundle-additions.listed bundle-additions.addPlainTo bundle-additions.addResource bundle-additions.addOverridingTo bundle-additions.addResourceOverriding bundle-additions.addFunctionTo bundle-additions.addFunction
+unfolding bundle-additions.refuse bundle-additions.succeed bundle-additions.orRefuse growth-items.atFront bundle-additions.newBundle growth-items.withItem growth-items.hasRoom entries-repeats.isHeld entries-repeats.repeatIf entries-repeats.repeatsFrom entries-repeats.repeats bundle-additions.listed bundle-additions.addPlainTo bundle-additions.addResource bundle-additions.addOverridingTo bundle-additions.addResourceOverriding bundle-additions.addFunctionTo bundle-additions.addFunction
 bundleAdditions = tt
 
 unfoldable pub resolverEffect : Unit {0}

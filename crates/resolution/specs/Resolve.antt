@@ -12,7 +12,7 @@ use Rattle.records.specs.Names.{sameBytes}
 use Rattle.records.specs.Tree.{Literal, Key, Named, Pattern, pattern, Elements, no-more, more, Element, text, placeable, Expression, inline, select, Inline, variable, nested, Arguments, without, with-args, Inlines, no-inline, and, Variants, no-variant, or, Variant, variant}
 use Rattle.records.specs.Images.{Kind, Entry}
 use Rattle.records.specs.Errors.{Error, Referred, reference, noValue, missingDefault, cyclic}
-use Rattle.bundle.specs.Lookup.{Holder, Find, orElse, onlyNamed, partOf}
+use Rattle.entries.specs.Lookup.{Holder, Find, orElse, onlyNamed, partOf}
 use Rattle.resolution.specs.Effect.{Bytes, Effect, report, unfound, merged, Locals, State, M, Done, ret, _>>=_, _>>_, emit, write, isDirty, getLocals, setLocals, onlyIf, entered, capture, release}
 
 -- what does not change while a message is formatted: locale, isolating Flag, arguments

@@ -16,10 +16,10 @@ use Rattle.records.specs.Tree.{Named, Inline, Inlines, no-inline, and}
 use Rattle.records.specs.Decode.{many, idAt, namedAt, inlinesAt, argumentsAt, inline}
 use Rattle.records.specs.Images.{Entry, Store, storeOf}
 use Rattle.records.proofs.Views.{both, never, id-elim, many-cons, many-nil, arguments-elim, named-arguments-elim}
-use Rattle.bundle.specs.Lookup.{Holder, findIn}
-use Rattle.bundle.specs.Meets.{HolderAt}
-use Rattle.bundle.specs.declared.Found.{Found}
-use Rattle.bundle.specs.declared.Found.the-variants as found
+use Rattle.entries.specs.Lookup.{Holder, findIn}
+use Rattle.entries.specs.Relations.Meets.{HolderAt}
+use Rattle.entries.specs.declared.Found.{Found}
+use Rattle.entries.specs.declared.Found.the-variants as found
 use Rattle.resolution.specs.Effect.{Bytes, unfound, State, Out, M, Done, ret, _>>=_, _>>_, emit, release}
 use Rattle.resolution.specs.Exec.{Machine, Limits}
 use Rattle.resolution.specs.Resolve.{Trail, namedValues, Given, mergesOf, call, callFunction, lookUp, resolveInline, getArguments}

@@ -13,7 +13,7 @@ use Rattle.records.specs.Tree.{Pattern}
 use Rattle.records.specs.Decode.{entryPatternAt}
 use Rattle.records.specs.Images.{Store, Argument, storeOf, argumentsOf}
 use Rattle.records.specs.Errors.{encErrors, listHeader}
-use Rattle.bundle.specs.Additions.{atFront}
+use Rattle.growth.specs.Items.{atFront}
 use Rattle.resolution.specs.Effect.{Bytes}
 use Rattle.resolution.specs.Exec.{Machine, Ran, ran, refused}
 use Rattle.resolution.specs.Format.{Answer, finished, refusedBefore, refusedRunning, Buffers, Formatted, zeros, refuse, orRefuse, ended, formatWith, formatArguments, format, limitsOf, runPattern, valuesOf}

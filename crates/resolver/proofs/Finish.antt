@@ -12,7 +12,7 @@ use Rattle.texts.specs.Append.{over}
 use Rattle.texts.specs.Report.{header, headed}
 use Rattle.texts.proofs.Place.{drop-over}
 use Rattle.texts.proofs.Recording.{headed-done, headed-errors}
-use Rattle.bundle.specs.Additions.{atFront}
+use Rattle.growth.specs.Items.{atFront}
 use Rattle.resolution.specs.Effect.{Bytes}
 use Rattle.resolution.specs.Exec.{Machine, Ran, ran, refused}
 use Rattle.resolution.specs.Format.{Answer, finished, refusedRunning, Buffers, zeros, ended}

@@ -12,11 +12,11 @@ use Rattle.records.specs.Rules.{isId}
 use Rattle.records.specs.Tree.{Pattern}
 use Rattle.records.specs.Decode.{entryPatternAt}
 use Rattle.records.specs.Images.{Kind, Entry, Store, storeOf, entryAt}
-use Rattle.bundle.specs.Lookup.{Holder, findIn, partOf}
+use Rattle.entries.specs.Lookup.{Holder, findIn, partOf}
 use Rattle.texts.specs.Report.{optionOf}
-use Rattle.bundle.specs.Meets.{asked, HolderAt, message-at, term-at, function-at, nothing-at, PartAt, part-at, no-part}
-use Rattle.bundle.specs.declared.Found.{Found}
-use Rattle.bundle.specs.declared.Found.the-variants as found
+use Rattle.entries.specs.Relations.Meets.{asked, HolderAt, message-at, term-at, function-at, nothing-at, PartAt, part-at, no-part}
+use Rattle.entries.specs.declared.Found.{Found}
+use Rattle.entries.specs.declared.Found.the-variants as found
 use Rattle.resolution.specs.Effect.{Bytes}
 use Rattle.resolution.specs.Resolve.{asMessage, messageOnly}
 use Rattle.resolution.specs.Format.{Buffers, refuse, orRefuse, isIdOrNone, formatPart, formatEntry, formatStore, format}

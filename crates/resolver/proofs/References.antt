@@ -18,10 +18,10 @@ use Rattle.records.proofs.Laws.{after-elim, number-inv}
 use Rattle.records.proofs.Views.{both, never, id-elim, term-elim, Body, is-string, is-number, is-function, is-message, is-term, is-variable, is-nested, inline-elim}
 use Rattle.texts.specs.Report.{referredOf, optionOf}
 use Rattle.texts.specs.declared.Referred.the-variants as referred
-use Rattle.bundle.specs.Lookup.{Holder, Find, findIn, partOf}
-use Rattle.bundle.specs.Meets.{HolderAt, message-at, term-at, function-at, nothing-at, PartAt, part-at, no-part, asked}
-use Rattle.bundle.specs.declared.Found.{Found}
-use Rattle.bundle.specs.declared.Found.the-variants as found
+use Rattle.entries.specs.Lookup.{Holder, Find, findIn, partOf}
+use Rattle.entries.specs.Relations.Meets.{HolderAt, message-at, term-at, function-at, nothing-at, PartAt, part-at, no-part, asked}
+use Rattle.entries.specs.declared.Found.{Found}
+use Rattle.entries.specs.declared.Found.the-variants as found
 use Rattle.images.proofs.Views.{byte-inv}
 use Rattle.resolution.specs.Effect.{Bytes, report, unfound, M, Done, emit, write, _>>=_, _>>_}
 use Rattle.resolution.specs.Resolve.{Trail, dotted, errorText, braced, writeRefError, lookUp, messageOnly, termOnly, asMessage, asTerm, track, onPart, missingPart, messageFound, termFound, writeMessage}

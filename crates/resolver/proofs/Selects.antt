@@ -14,7 +14,7 @@ use Rattle.records.specs.Decode.{many, variantAt, patternAt, selectAt, expressi
 use Rattle.records.specs.Images.{Store, storeOf}
 use Rattle.records.specs.Errors.{missingDefault}
 use Rattle.records.proofs.Views.{both, never, select-elim}
-use Rattle.bundle.specs.Lookup.{Find}
+use Rattle.entries.specs.Lookup.{Find}
 use Rattle.resolution.specs.Effect.{report, M, Done, ret, _>>=_, emit, release}
 use Rattle.resolution.specs.Resolve.{Setting, Trail, chosen, writePattern, writeExpression, writeNth, writeVariant, resolveInline}
 use Rattle.scope.specs.declared.state.Scope.{Scope}

@@ -12,7 +12,7 @@ use Rattle.records.specs.Bytes.{part, byteAt, numberAt}
 use Rattle.records.specs.Tree.{Named, Inline, Inlines, Pattern, Arguments, without, with-args}
 use Rattle.records.specs.Decode.{many, idAt, optionalAt, namedAt, argumentsAt, termArgumentsAt, inline}
 use Rattle.records.proofs.Views.{both, never, term-arguments-elim}
-use Rattle.bundle.specs.Lookup.{Find}
+use Rattle.entries.specs.Lookup.{Find}
 use Rattle.resolution.specs.Effect.{Bytes, Trace, Locals, State, Out, M, Done, ret, _>>=_, _>>_, setLocals, release}
 use Rattle.resolution.specs.Exec.{Machine, Limits}
 use Rattle.resolution.specs.Resolve.{Setting, Trail, lookUp, asTerm, termFound, writeTerm, Given, termArguments, getArguments, resolve}

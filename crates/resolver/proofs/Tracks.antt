@@ -16,7 +16,7 @@ use Rattle.records.proofs.Laws.{number-inv}
 use Rattle.records.proofs.Views.{pattern-elim}
 use Rattle.texts.specs.Report.{plainOf}
 use Rattle.texts.specs.declared.Plain.the-variants as plain
-use Rattle.bundle.specs.Lookup.{Find}
+use Rattle.entries.specs.Lookup.{Find}
 use Rattle.walks.proofs.Trail.{bytes-at}
 use Rattle.resolution.specs.Effect.{Bytes, report, State, Out, M, Done, emit, write, _>>_}
 use Rattle.resolution.specs.Exec.{Machine, Limits}

@@ -15,7 +15,7 @@ use Rattle.records.specs.Encode.{encAll}
 use Rattle.records.specs.Errors.{encError, encErrors}
 use Rattle.records.proofs.Views.{pattern-elim}
 use Rattle.records.proofs.Laws.{number-inv}
-use Rattle.bundle.specs.Additions.{atFront}
+use Rattle.growth.specs.Items.{atFront}
 use Rattle.resolution.specs.Effect.{Bytes, State, Out, Done}
 use Rattle.resolution.specs.Resolve.{Trail, bytesOf, resolve}
 use Rattle.resolution.specs.Exec.{Machine, Limits, Ran, ran, refused, exec, start}

@@ -12,7 +12,7 @@ use Rattle.records.specs.Decode.{entryPatternAt}
 use Rattle.records.specs.Images.{Store, storeOf, argumentsOf}
 use Rattle.records.specs.Encode.{encAll}
 use Rattle.records.specs.Errors.{encError, encErrors}
-use Rattle.bundle.specs.Additions.{atFront}
+use Rattle.growth.specs.Items.{atFront}
 use Rattle.resolution.specs.Effect.{Bytes}
 use Rattle.resolution.specs.Exec.{Machine, Ran, ran, refused}
 use Rattle.resolution.specs.Format.{Answer, finished, refusedBefore, refusedRunning, Buffers, limitsOf, refuse, ended, runPattern, formatArguments, format}

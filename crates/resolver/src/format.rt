@@ -1,8 +1,8 @@
 // Formatting: a message's value or attribute, from a stored bundle.
 use crate::lent::resolve;
-use bundle::Found;
-use bundle::find_holder;
-use bundle::find_part;
+use entries::Found;
+use entries::entry::find_holder;
+use entries::message::find_part;
 use images::check_arguments;
 use images::check_store;
 use records::Next;

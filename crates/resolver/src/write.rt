@@ -1,9 +1,9 @@
 // Patterns, expressions and inline expressions write each other. What falls at each call: placeables left, then nesting, then stage.
 ghost use Prim.Native.Nat.{_+_};
 ghost use Rattle.scope.specs.Meets.{world, env, PatternAt, ElementAt, ExpressionAt, SelectAt, InlineAt, MessageAt, TrackAt, TermAt, FoundTermAt, ValueAt, TextValueAt, PositionalAt, CalledAt, ReferenceIs};
-use bundle::Found;
-use bundle::find_holder;
-use bundle::find_part;
+use entries::Found;
+use entries::entry::find_holder;
+use entries::message::find_part;
 use records::Next;
 use records::Num;
 use records::read_byte;

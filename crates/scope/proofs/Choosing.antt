@@ -31,8 +31,8 @@ use Rattle.records.specs.Decode.{many, literalNumberAt, keyAt, patternAt, varia
 use Rattle.records.specs.Images.{Store, storeOf}
 use Rattle.records.proofs.Named.{clash, meet}
 use Rattle.records.proofs.Views.{both, never, many-cons, many-nil, id-elim, ruled-elim, key-elim, flag-elim, variant-elim}
-use Rattle.bundle.specs.Lookup.{orElse}
-use Rattle.bundle.specs.Meets.{Passes}
+use Rattle.entries.specs.Lookup.{orElse}
+use Rattle.entries.specs.Relations.Meets.{Passes}
 use Rattle.resolution.specs.Resolve.{matches, next as after-next, thisOr, firstBy, hasKey, isDefault, chosen}
 use Rattle.scope.specs.declared.state.Value as code-value
 use Rattle.scope.specs.declared.state.Value.the-variants as val

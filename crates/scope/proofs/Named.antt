@@ -19,7 +19,7 @@ use Rattle.records.specs.Tree.{Literal, Named}
 use Rattle.records.specs.Decode.{many, namedAt, literalAt, stringAt, literalNumberAt}
 use Rattle.records.proofs.Laws.{span-in}
 use Rattle.records.proofs.Views.{both, never, ruled-elim, id-elim, literal-elim, named-elim, many-nil}
-use Rattle.bundle.specs.Lookup.{orElse, onlyNamed}
+use Rattle.entries.specs.Lookup.{orElse, onlyNamed}
 use Rattle.resolution.specs.Effect.{Bytes}
 use Rattle.resolution.specs.Resolve.{lastNamed}
 use Rattle.scope.specs.declared.state.Value as code-value

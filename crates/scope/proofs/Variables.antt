@@ -24,7 +24,7 @@ use Rattle.images.specs.declared.Given.{Given}
 use Rattle.images.specs.declared.Given.the-variants as given
 use Rattle.images.proofs.Laws.{between-in}
 use Rattle.images.proofs.Views.{argument-elim, argument-value-elim, argument-number-elim, arguments-image-elim}
-use Rattle.bundle.specs.Lookup.{orElse, onlyNamed}
+use Rattle.entries.specs.Lookup.{orElse, onlyNamed}
 use Rattle.resolution.specs.Effect.{Bytes, report, Locals, State, Out, M, ret, _>>=_, _>>_, emit, write, getLocals}
 use Rattle.resolution.specs.Resolve.{lastNamed, foundOr, variableIn, getVariable, writeVariable, orWrong, braced}
 use Rattle.resolution.specs.Format.{valueOf, valuesOf}

@@ -22,7 +22,7 @@ use Rattle.records.specs.declared.Next.the-variants as next
 use Rattle.texts.specs.Report.{optionOf}
 use Rattle.texts.specs.declared.Wrote.{Wrote}
 use Rattle.texts.specs.declared.Wrote.the-variants as wrote
-use Rattle.bundle.specs.Lookup.{Find, findIn}
+use Rattle.entries.specs.Lookup.{Find, findIn}
 unfoldable pub use Rattle.walks.specs.Trail.{prefixed, patternBytes, trailOf}
 use Rattle.scope.specs.declared.state.Scope.{Scope}
 use Rattle.scope.specs.declared.state.Value as code-value

@@ -15,7 +15,7 @@ ghost use Rattle.records.specs.Names.{sameBytes};
 ghost use Rattle.records.specs.Tree.{Expression, no-variant, or};
 ghost use Rattle.records.specs.Decode.{many, idAt, optionalAt, namedAt, elementAt, patternAt, variantAt, inlinesAt, argumentsAt, termArgumentsAt, expression, inline};
 ghost use Rattle.records.specs.Images.{Store, storeOf};
-ghost use Rattle.bundle.specs.Meets.{Passes};
+ghost use Rattle.entries.specs.Relations.Meets.{Passes};
 ghost use Rattle.resolution.specs.Resolve.{bare, onTrail};
 ghost use Rattle.walks.specs.Trail.{patternBytes, trailOf, EndAt};
 use reader::read_size;

@@ -45,7 +45,7 @@ use Rattle.resolver.proofs.write.+call_function+resolve_positional+reso
 use Rattle.records.proofs.read_str.Reads as read-str-reads
 use Rattle.records.proofs.read_u16.Reads as read-u16-reads
 use Rattle.scope.proofs.value.resolve_named.Reads as resolve-named-reads
-use Rattle.bundle.proofs.find_holder.Reads as find-holder-reads
+use Rattle.entries.proofs.entry.find_holder.Reads as find-holder-reads
 use Rattle.scope.proofs.call.number_function.Reads as number-function-reads
 use Rattle.scope.proofs.state.set_back.Reads as set-back-reads
 use Rattle.scope.proofs.state.count_unfound.Reads as count-unfound-reads
@@ -69,7 +69,7 @@ use Rattle.scope.proofs.put.put_fsi.Reads as put-fsi-reads
 use Rattle.scope.proofs.put.put_cut.Reads as put-cut-reads
 use Rattle.scope.proofs.put.put_pdi.Reads as put-pdi-reads
 use Rattle.resolver.proofs.write.tagged_reference.Reads as tagged-reference-reads
-use Rattle.bundle.proofs.find_part.Reads as find-part-reads
+use Rattle.entries.proofs.message.find_part.Reads as find-part-reads
 use Rattle.scope.proofs.reference.ref_error.Reads as ref-error-reads
 use Rattle.scope.proofs.put.put_literal.Reads as put-literal-reads
 use Rattle.scope.proofs.put.put_value.Reads as put-value-reads
