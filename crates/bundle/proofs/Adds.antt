@@ -25,7 +25,7 @@ use Rattle.bundle.specs.Additions.{refuse, succeed, orRefuse, listed, ad
 use Rattle.bundle.specs.Gives.{answerOf, gave}
 use Rattle.bundle.specs.Relations.Places as places
 use Rattle.bundle.specs.Relations.Places.{ResourcePlace, FunctionPlace}
-use Rattle.bundle.proofs.Placing.{resource-placed, function-placed}
+use Rattle.bundle.proofs.Placing.{not-refused, resource-placed, function-placed}
 
 -- a plain addition, by its answers
 module _ (s image l : List ℕ) where
@@ -107,20 +107,17 @@ module _ (s id : List ℕ) (code : ℕ) where
 known-refusal : {r : Place} {m n : ℕ} → r ≡ place.Refused m → r ≡ place.Refused n → m ≡ n
 known-refusal h e = cc
 
-no-refusal : {r : Place} {u k n : ℕ} → r ≡ place.At u k → r ≡ place.Refused n → ⊥
-no-refusal h e = let z : _≡_ {A = ℕ} 0 1 = cc in omega arith
-
 pub plain-no-place : (s image l : List ℕ) {r : Place} {n : ℕ} → ResourcePlace s image r → r ≡ place.Refused n → gave (answer.Refused n) s l ≡ addResource s image l
 plain-no-place s image l (places.resource-4 hs h) e = rw (← known-refusal h e) (plain-4 s image l hs)
 plain-no-place s image l (places.resource-5 st u hs hr h) e = rw (← known-refusal h e) (plain-5 s image l hs hr)
 plain-no-place s image l (places.resource-6 st u es f hs hr room h) e = rw (← known-refusal h e) (plain-6 s image l hs hr room)
-plain-no-place s image l (places.resource-at st u es f hs hr room h) e = absurd (no-refusal h e)
+plain-no-place s image l (places.resource-at st u es f hs hr room h) e = absurd (not-refused h e)
 
 pub over-no-place : (s image : List ℕ) {r : Place} {n : ℕ} → ResourcePlace s image r → r ≡ place.Refused n → gave (answer.Refused n) s [] ≡ addResourceOverriding s image
 over-no-place s image (places.resource-4 hs h) e = rw (← known-refusal h e) (over-4 s image hs)
 over-no-place s image (places.resource-5 st u hs hr h) e = rw (← known-refusal h e) (over-5 s image hs hr)
 over-no-place s image (places.resource-6 st u es f hs hr room h) e = rw (← known-refusal h e) (over-6 s image hs hr room)
-over-no-place s image (places.resource-at st u es f hs hr room h) e = absurd (no-refusal h e)
+over-no-place s image (places.resource-at st u es f hs hr room h) e = absurd (not-refused h e)
 
 pub function-no-place : (s id : List ℕ) (code : ℕ) {r : Place} {n : ℕ} → FunctionPlace s id code r → r ≡ place.Refused n → gave (answer.Refused n) s [] ≡ addFunction s id code
 function-no-place s id code (places.function-4 hs h) e = rw (← known-refusal h e) (function-4 s id code hs)
@@ -128,7 +125,7 @@ function-no-place s id code (places.function-8 st u hs hi h) e = rw (← known-r
 function-no-place s id code (places.function-9 st u hs hi hc h) e = rw (← known-refusal h e) (function-9 s id code hs hi hc)
 function-no-place s id code (places.function-10 st u hs hi hc hf h) e = rw (← known-refusal h e) (function-10 s id code hs hi hc hf)
 function-no-place s id code (places.function-6 st u hs hi hc hf room h) e = rw (← known-refusal h e) (function-6 s id code hs hi hc hf room)
-function-no-place s id code (places.function-at st u hs hi hc hf room h) e = absurd (no-refusal h e)
+function-no-place s id code (places.function-at st u hs hi hc hf room h) e = absurd (not-refused h e)
 
 -- by the place of the item: a success
 pub over-filed : (s image : List ℕ) {r : Place} {u k : ℕ} {s′ : List ℕ} → ResourcePlace s image r → r ≡ place.At u k → s′ ≡ withItem s u k (2 ∷ image)

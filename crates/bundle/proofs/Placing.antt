@@ -87,7 +87,7 @@ module _ (s id : List ℕ) (code : ℕ) where
           named-at q h = function-at st u hs hi hc hf h (ap (place.At u) q)
 
 -- a place is no refusal
-not-refused : {r : Place} {u k n : ℕ} → r ≡ place.At u k → r ≡ place.Refused n → ⊥
+pub not-refused : {r : Place} {u k n : ℕ} → r ≡ place.At u k → r ≡ place.Refused n → ⊥
 not-refused h e = let z : _≡_ {A = ℕ} 0 1 = cc in omega arith
 
 -- what is known of a place that was found

@@ -1,4 +1,5 @@
 -- New bundle and additions: document 01, "What each operation refuses". Each is a function from the lent slices to the answer and what they hold then.
+-- An item's bytes and the room for it: `growth`, specs/Items. The entries that repeat an id: `entries`, specs/Repeats.
 use mathlib.Core.Bool.{Bool, true, false, not}
 use mathlib.Core.List.{List, [], _∷_}
 use Prim.Native.Nat.{ℕ, _+_}
