@@ -1,5 +1,4 @@
-// A resource's bytes: reading behind a head, skipping, the first and the last entry of an id. The walkers go over checked bytes: they skip patterns
-// by their length, and their contracts speak of the bytes at which the decoders of `records` read.
+// A resource's bytes: reading behind a head, skipping, the first and the last entry of an id.
 use records::Next;
 use records::Num;
 use records::read_byte;
@@ -18,6 +17,8 @@ ghost use Rattle.records.specs.Decode.{many, optionalAt, entryPatternAt};
 ghost use Rattle.records.specs.Images.{Entry, attributesAt, entryAt, itemAt};
 ghost use Rattle.entries.specs.Lookup.{firstEntry, lastEntry};
 ghost use Rattle.entries.specs.Relations.Meets.{Passes, behind, EntryAt, laterOf};
+
+// The walkers go over checked bytes: they skip patterns by their length, and their contracts speak of the bytes at which the decoders of `records` read.
 
 // A Str behind n bytes: where its bytes stand.
 pub fn read_str_behind(s: &[u8], at: usize, n: usize) -> Num

@@ -155,24 +155,12 @@ module _ (s : List ℕ) (used count n : ℕ) {r : Bool} where
   pub has-room-is : {k : ℕ} → count ≡ k → r ≡ hasRoom s used count n → not r ≡ false → hasRoom s used k n ≡ true
   has-room-is e h t = ap (λ (j : ℕ). hasRoom s used j n) (sym e) ∙ sym h ∙ not-false r t
 
-  pub fitting : r ≡ hasRoom s used count n → not r ≡ false → (used + n ≤ length s) × (used + n ≤ 1048576) × (count < 256)
-  fitting h t = room-is used count n s (sym h ∙ not-false r t)
-
 -- an item, and the counts over it
 pub item-put : (s : List ℕ) (used count : ℕ) (item : List ℕ) {k w : ℕ} {a b : List ℕ} → 9 ≤ used → used + length item ≤ length s → count ≡ k → w ≡ used + length item
     → a ≡ over s used item → b ≡ over (over a 0 (toBe 4 w)) 7 (toBe 2 (count + 1)) → b ≡ withItem s used k item
 item-put s used count item {k} {w} {a} {b} lo fits e ew p q =
     counts-written s used count item lo fits refl (q ∙ ap (λ (t : List ℕ). over (over t 0 (toBe 4 w)) 7 (toBe 2 (count + 1))) p ∙ ap (λ (z : ℕ). over (over (over s used item) 0 (toBe 4 z)) 7 (toBe 2 (count + 1))) ew)
     ∙ ap (λ (j : ℕ). withItem s used j item) e
-
--- the slice keeps its length
-pub counts-length : (s : List ℕ) (used : ℕ) (item : List ℕ) (w c : ℕ) {a b : List ℕ} → 9 ≤ length s → used + length item ≤ length s → a ≡ over s used item → b ≡ over (over a 0 (toBe 4 w)) 7 (toBe 2 c) → length b ≡ length s
-counts-length s used item w c {a} {b} lo fits p q =
-    let la : length a ≡ length s = ap length p ∙ length-over s used item fits in
-    let l4 = length-u32 w in
-    let l2 = length-u16 c in
-    let lb : length (over a 0 (toBe 4 w)) ≡ length a = length-over a 0 (toBe 4 w) (omega arith) in
-    ap length q ∙ length-over (over a 0 (toBe 4 w)) 7 (toBe 2 c) (omega arith) ∙ lb ∙ la
 
 pub function-length : (id : List ℕ) → length (3 ∷ encFunction id) ≡ 9 + length id
 unfolding encFunction encWhole
