@@ -23,10 +23,11 @@ use Rattle.bundle.specs.declared.Found.the-variants as found
 use Rattle.resolution.specs.Effect.{Bytes, unfound, State, Out, M, Done, ret, _>>=_, _>>_, emit, release}
 use Rattle.resolution.specs.Exec.{Machine, Limits}
 use Rattle.resolution.specs.Resolve.{Trail, namedValues, Given, mergesOf, call, callFunction, lookUp, resolveInline, getArguments}
-use Rattle.scope.specs.declared.state.Scope.{Scope}
-use Rattle.scope.specs.declared.state.Value as code-value
-use Rattle.scope.specs.declared.state.Value.the-variants as val
-use Rattle.scope.specs.Meets.{World, world, Live, Ended, ended, stopped, Runs, Kept, Acts, NamedIn, namedTexts, Holds, in-store, in-args, in-work, is-number, is-nothing, is-wrong, Env, Setup, settingOf, findOf, crossOf, Here, ValueAt, positionalValues, FirstIs, first-none, first-number, first-other, PositionalAt, ResultIs, has-result, no-function, CalledAt, NamedAt, NumberAt, backS}
+use Rattle.state.specs.declared.Scope.{Scope}
+use Rattle.state.specs.declared.Value as code-value
+use Rattle.state.specs.declared.Value.the-variants as val
+use Rattle.scope.specs.Meets.{World, world, Live, Ended, ended, stopped, Runs, Kept, Acts, NamedIn, namedTexts, Holds, in-store, in-args, in-work, is-number, is-nothing, is-wrong, Env, Setup, settingOf, findOf, crossOf, Here, ValueAt, positionalValues, FirstIs, first-none, first-number, first-other, PositionalAt, ResultIs, has-result, no-function, CalledAt, NamedAt, NumberAt}
+use Rattle.state.specs.Setters.{backS}
 use Rattle.scope.proofs.Laws.{Stays, stays, here-stays, kept-same, kept-then, runs-ret, runs-then, ended-then}
 use Rattle.scope.proofs.Steps.{runs-as}
 use Rattle.scope.proofs.Release.{release-back, release-over, runs-stopped}

@@ -19,8 +19,9 @@ use Rattle.resolution.specs.Exec.{Machine, Ran, ran, refused}
 use Rattle.resolution.specs.Format.{Answer, finished, refusedBefore, refusedRunning, Buffers, Formatted, zeros, refuse, orRefuse, ended, formatWith, formatArguments, format, limitsOf, runPattern, valuesOf}
 use Rattle.layout.specs.Exact.{Octets}
 use Rattle.resolution.proofs.Formattings.{few-unfound}
-use Rattle.scope.specs.declared.state.Scope.{Scope}
-use Rattle.scope.specs.Meets.{Env, env, Setup, settingOf, findOf, maxUnfound}
+use Rattle.state.specs.declared.Scope.{Scope}
+use Rattle.scope.specs.Meets.{Env, env, Setup, settingOf, findOf}
+use Rattle.state.specs.Setters.{maxUnfound}
 use Rattle.resolver.specs.declared.format.Answer as code-answer
 use Rattle.resolver.specs.declared.format.Answer.the-variants as ans
 use Rattle.resolver.specs.declared.format.Part as code-part

@@ -16,8 +16,8 @@ use Rattle.bundle.specs.Additions.{atFront}
 use Rattle.resolution.specs.Effect.{Bytes}
 use Rattle.resolution.specs.Exec.{Machine, Ran, ran, refused}
 use Rattle.resolution.specs.Format.{Answer, finished, refusedRunning, Buffers, zeros, ended}
-use Rattle.scope.specs.declared.state.Scope.{Scope}
-use Rattle.scope.specs.Meets.{maxUnfound}
+use Rattle.state.specs.declared.Scope.{Scope}
+use Rattle.state.specs.Setters.{maxUnfound}
 use Rattle.scope.proofs.Puts.{errors-length}
 use Rattle.resolver.specs.declared.format.Answer as code-answer
 use Rattle.resolver.specs.declared.format.Answer.the-variants as ans

@@ -23,8 +23,8 @@ use Rattle.records.proofs.Views.{both, never, str-is, ruled-elim, id-str, strin
 use Rattle.resolution.specs.Effect.{Bytes, State, M, Done, ret, _>>=_, write, release}
 use Rattle.resolution.specs.Exec.{Limits, Machine}
 use Rattle.resolution.specs.Resolve.{Trail, getVariable, writeVariable, callFunction, writeResult, writeInline, getArguments}
-use Rattle.scope.specs.declared.state.Value as code-value
-use Rattle.scope.specs.declared.state.Value.the-variants as val
+use Rattle.state.specs.declared.Value as code-value
+use Rattle.state.specs.declared.Value.the-variants as val
 use Rattle.scope.specs.Meets.{World, Live, Runs, Kept, Acts, Holds, is-number, Env, Setup, settingOf, findOf, crossOf, Here, ExpressionAt, InlineAt, MessageAt, TermAt, CalledAt, ResultAt, VariableAt}
 use Rattle.scope.proofs.Laws.{kept-same, kept-then, ended-then}
 use Rattle.scope.proofs.Steps.{runs-as, runs-over}

@@ -3,7 +3,6 @@ pub mod Bodies
 pub mod Elements
 pub mod Expressions
 pub mod Inlines
-pub mod Cells
 pub mod Selects
 pub mod Binds
 pub mod Tracks

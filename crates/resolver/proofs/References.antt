@@ -25,10 +25,10 @@ use Rattle.bundle.specs.declared.Found.the-variants as found
 use Rattle.images.proofs.Views.{byte-inv}
 use Rattle.resolution.specs.Effect.{Bytes, report, unfound, M, Done, emit, write, _>>=_, _>>_}
 use Rattle.resolution.specs.Resolve.{Trail, dotted, errorText, braced, writeRefError, lookUp, messageOnly, termOnly, asMessage, asTerm, track, onPart, missingPart, messageFound, termFound, writeMessage}
-use Rattle.scope.specs.declared.state.Scope.{Scope}
-use Rattle.scope.specs.declared.state.Reference.{Reference}
-use Rattle.scope.specs.declared.state.Referring.{Referring}
-use Rattle.scope.specs.declared.state.Reference.the-variants as ref
+use Rattle.state.specs.declared.Scope.{Scope}
+use Rattle.state.specs.declared.Reference.{Reference}
+use Rattle.state.specs.declared.Referring.{Referring}
+use Rattle.state.specs.declared.Reference.the-variants as ref
 use Rattle.scope.specs.Meets.{World, world, Runs, Kept, Acts, Env, Setup, settingOf, findOf, crossOf, Here, ErrorAt, RefErrorAt, ReferenceIs, reads, unread, TrackAt, MessageAt, FoundTermAt}
 use Rattle.scope.proofs.Laws.{kept-same, kept-then, runs-then}
 use Rattle.scope.proofs.Steps.{runs-as, runs-over}

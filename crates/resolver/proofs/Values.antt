@@ -21,10 +21,11 @@ use Rattle.texts.proofs.Place.{moved-keeps}
 use Rattle.resolution.specs.Effect.{Bytes, State, Out, M, Done, ret, _>>=_, _>>_, capture, release}
 use Rattle.resolution.specs.Exec.{Machine, Limits}
 use Rattle.resolution.specs.Resolve.{Trail, held, stringValue, getVariable, orWrong, callFunction, getArguments, writeInline, resolveInline, writeExpression, writeMessage}
-use Rattle.scope.specs.declared.state.Scope.{Scope}
-use Rattle.scope.specs.declared.state.Value as code-value
-use Rattle.scope.specs.declared.state.Value.the-variants as val
-use Rattle.scope.specs.Meets.{World, world, Live, Ended, Runs, Kept, Holds, in-store, in-args, in-work, is-number as holds-number, is-nothing, is-wrong, Env, Setup, settingOf, findOf, crossOf, Here, InlineAt, ValueAt, TextValueAt, ResultIs, has-result, no-function, CalledAt, StringAt, VariableValueAt, asideS, keptS}
+use Rattle.state.specs.declared.Scope.{Scope}
+use Rattle.state.specs.declared.Value as code-value
+use Rattle.state.specs.declared.Value.the-variants as val
+use Rattle.scope.specs.Meets.{World, world, Live, Ended, Runs, Kept, Holds, in-store, in-args, in-work, is-number as holds-number, is-nothing, is-wrong, Env, Setup, settingOf, findOf, crossOf, Here, InlineAt, ValueAt, TextValueAt, ResultIs, has-result, no-function, CalledAt, StringAt, VariableValueAt}
+use Rattle.state.specs.Setters.{asideS, keptS}
 use Rattle.scope.proofs.Laws.{kept-same, runs-ret, ended-then}
 use Rattle.scope.proofs.Steps.{runs-as, runs-over}
 use Rattle.scope.proofs.Capture.{opened, live-opened, ended-capture, holds-capture, capture-stopped, capture-lies, ended-held}

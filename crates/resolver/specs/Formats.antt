@@ -16,8 +16,9 @@ use Rattle.bundle.specs.Additions.{atFront}
 use Rattle.resolution.specs.Effect.{Bytes}
 use Rattle.resolution.specs.Exec.{Machine, Ran, ran, refused}
 use Rattle.resolution.specs.Format.{Answer, finished, refusedBefore, refusedRunning, Buffers, limitsOf, refuse, ended, runPattern, formatArguments, format}
-use Rattle.scope.specs.declared.state.Scope.{Scope}
-use Rattle.scope.specs.Meets.{maxUnfound, Env, Setup, settingOf, findOf}
+use Rattle.state.specs.declared.Scope.{Scope}
+use Rattle.scope.specs.Meets.{Env, Setup, settingOf, findOf}
+use Rattle.state.specs.Setters.{maxUnfound}
 use Rattle.resolver.specs.declared.format.Answer as code-answer
 use Rattle.resolver.specs.declared.format.Answer.the-variants as ans
 use Rattle.resolver.specs.declared.format.Part as code-part
@@ -55,10 +56,6 @@ pub data RanAs (o : Ran) (x l x′ l′ : Bytes) (r : Scope) : Type 0 where
       → part l′ 5 (r .«list_at» - 5) ≡ encAll encError (m .errors) → drop (r .«list_at») l′ ≡ drop (r .«list_at») l
       → r .errors ≡ length (m .errors) → r .begun ≡ m .begun → r .unfound ≡ min (m .unfounds) maxUnfound → r .high ≡ m .high → RanAs o x l x′ l′ r
   refused-as : (n : ℕ) → o ≡ refused n → (n ≡ 0 → ⊥) → r .refused ≡ n → RanAs o x l x′ l′ r
-
--- the state that a run is made with; the depth is 1 once the pattern that is asked for is on the trail
-abbrev pub newS : ℕ → Scope
-newS n = record { «text_at» = 0; «list_at» = 5; errors = 0; front = 0; back = n; high = 0; depth = 0; begun = 0; unfound = 0; aside = false; dirty = false; local = false; «local_at» = 0; «local_count» = 0; «local_base» = 0; refused = 0 }
 
 -- the run of the pattern at q
 pub record RunAt (e : Env) (q : ℕ) (x l w x′ l′ w′ : Bytes) (r : Scope) : Type 0 where

@@ -7,7 +7,7 @@ use images::check_arguments;
 use images::check_store;
 use records::Next;
 use records::is_id;
-use scope::state::Scope;
+use state::Scope;
 use texts::fill_zero;
 use texts::put_header;
 ghost use mathlib.Core.Path.{_≡_};

@@ -26,10 +26,11 @@ use Rattle.texts.specs.declared.Wrote.the-variants as wrote
 use Rattle.texts.proofs.Place.{paste-over, appended-at, appended-no, length-over, take-over, drop-over}
 use Rattle.texts.proofs.Recording.{room-by-size, recorded-at, recorded-no, plain-length, no-value-length, bare-length, attribute-length}
 use Rattle.resolution.specs.Effect.{Bytes, report, emit, write}
-use Rattle.scope.specs.declared.state.Scope.{Scope}
-use Rattle.scope.specs.declared.state.Value as code-value
-use Rattle.scope.specs.declared.state.Value.the-variants as val
-use Rattle.scope.specs.Meets.{world, Kept, Acts, Holds, in-store, in-args, in-work, is-number, is-nothing, is-wrong, refuseS, textS, frontS, listS, listedS, upTo, maxUnfound}
+use Rattle.state.specs.declared.Scope.{Scope}
+use Rattle.state.specs.declared.Value as code-value
+use Rattle.state.specs.declared.Value.the-variants as val
+use Rattle.scope.specs.Meets.{world, Kept, Acts, Holds, in-store, in-args, in-work, is-number, is-nothing, is-wrong, listedS}
+use Rattle.state.specs.Setters.{refuseS, textS, frontS, listS, upTo, maxUnfound}
 use Rattle.scope.proofs.Puts.{le-or-lt, put-text, put-text-full, put-work, list-full, list-in, error-some}
 
 -- bytes at the workspace's front, and the state that `grown` leaves

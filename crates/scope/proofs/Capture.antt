@@ -14,9 +14,10 @@ use Rattle.texts.specs.Append.{Keeps}
 use Rattle.resolution.specs.Effect.{Bytes, open-text, keep-text, State, Out, M, Done, ret, _>>=_, capture}
 use Rattle.resolution.specs.Resolve.{held}
 use Rattle.resolution.specs.Exec.{Machine, Limits, Ran, ran, refused, exec, andThen, step}
-use Rattle.scope.specs.declared.state.Scope.{Scope}
-use Rattle.scope.specs.declared.state.Value.the-variants as val
-use Rattle.scope.specs.Meets.{World, world, Live, LocalsStay, locals-same, locals-cleared, Moved, Ended, ended, stopped, Runs, Kept, ifAside, Holds, in-work, asideS, keptS}
+use Rattle.state.specs.declared.Scope.{Scope}
+use Rattle.state.specs.declared.Value.the-variants as val
+use Rattle.scope.specs.Meets.{World, world, Live, LocalsStay, locals-same, locals-cleared, Moved, Ended, ended, stopped, Runs, Kept, ifAside, Holds, in-work}
+use Rattle.state.specs.Setters.{asideS, keptS}
 use Rattle.scope.proofs.Laws.{kept-same, runs-ret, ended-then, exec-append, drop-more, append-nil, aside-nil}
 use Rattle.scope.proofs.Locals.{locals-stay, locals-alike}
 

@@ -34,8 +34,8 @@ use Rattle.records.proofs.Views.{both, never, many-cons, many-nil, id-elim, rul
 use Rattle.bundle.specs.Lookup.{orElse}
 use Rattle.bundle.specs.Meets.{Passes}
 use Rattle.resolution.specs.Resolve.{matches, next as after-next, thisOr, firstBy, hasKey, isDefault, chosen}
-use Rattle.scope.specs.declared.state.Value as code-value
-use Rattle.scope.specs.declared.state.Value.the-variants as val
+use Rattle.state.specs.declared.Value as code-value
+use Rattle.state.specs.declared.Value.the-variants as val
 use Rattle.scope.specs.Meets.{Pick, picked, no-pick, PickAt, nthOf, patternOf, Holds, in-store, in-args, in-work, is-number, is-nothing, is-wrong}
 use Rattle.scope.proofs.Literals.{number-is}
 

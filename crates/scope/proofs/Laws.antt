@@ -9,7 +9,7 @@ use lib.ListN.{length, take, drop, getD}
 use lib.Seq.{drop-drop}
 use lib.Dec.{ltb, leb}
 use borrow.Author.Tests.{le-leb, lt-leb, lt-ltb, le-ltb}
-use Rattle.scope.specs.declared.state.Scope.{Scope}
+use Rattle.state.specs.declared.Scope.{Scope}
 use Rattle.resolution.specs.Effect.{Bytes, Effect, put, Trace, State, Out, M, Done, ret, _>>=_, _>>_, emit, write, isDirty, onlyIf}
 use Rattle.resolution.specs.Exec.{Machine, Limits, Ran, ran, refused, exec, andThen, step, allow, allowIf, putText, putWork, putAt}
 use Rattle.scope.specs.Meets.{World, Live, LocalsStay, locals-same, locals-cleared, Outs, Moved, Ended, ended, stopped, Runs, Kept, Acts, trailOf, ifAside, Env, Here}

@@ -12,7 +12,7 @@ use Rattle.records.specs.Bytes.{part}
 use Rattle.records.specs.Tree.{Literal, Named}
 use Rattle.records.specs.Decode.{many, namedAt}
 use Rattle.resolution.specs.Effect.{Locals}
-use Rattle.scope.specs.declared.state.Scope.{Scope}
+use Rattle.state.specs.declared.Scope.{Scope}
 use Rattle.scope.specs.Meets.{World, takes, TextIn, NamedIn, named-none, named-more, namedTexts, LocalsAt, no-locals, some-locals, LocalsStay, locals-same, locals-cleared}
 use Rattle.scope.proofs.Laws.{drop-more}
 

@@ -25,8 +25,9 @@ use Rattle.numbers.proofs.Shown.{count-there, text-back}
 use Rattle.resolution.specs.Effect.{merged, _>>_, emit}
 use Rattle.resolution.specs.Resolve.{noteIf, noteOne, noteMerges}
 use Rattle.resolution.specs.Exec.{Machine, Limits, ran, refused, exec, andThen, step, allow, allowIf}
-use Rattle.scope.specs.declared.state.Scope.{Scope}
-use Rattle.scope.specs.Meets.{World, world, ended, Runs, refuseS}
+use Rattle.state.specs.declared.Scope.{Scope}
+use Rattle.scope.specs.Meets.{World, world, ended, Runs}
+use Rattle.state.specs.Setters.{refuseS}
 use Rattle.scope.specs.Values.{mergedAll}
 use Rattle.scope.proofs.Laws.{kept-same, moved-none, runs-ret, runs-then}
 use Rattle.scope.proofs.Puts.{acts-refuse}

@@ -22,10 +22,10 @@ use Rattle.records.proofs.Views.{both, never, ruled-elim, id-elim, literal-elim
 use Rattle.bundle.specs.Lookup.{orElse, onlyNamed}
 use Rattle.resolution.specs.Effect.{Bytes}
 use Rattle.resolution.specs.Resolve.{lastNamed}
-use Rattle.scope.specs.declared.state.Value as code-value
-use Rattle.scope.specs.declared.state.Value.the-variants as val
-use Rattle.scope.specs.declared.state.Local as code-local
-use Rattle.scope.specs.declared.state.Local.the-variants as loc
+use Rattle.state.specs.declared.Value as code-value
+use Rattle.state.specs.declared.Value.the-variants as val
+use Rattle.state.specs.declared.Local as code-local
+use Rattle.state.specs.declared.Local.the-variants as loc
 use Rattle.scope.specs.declared.value.NamedSpan.{NamedSpan}
 use Rattle.scope.specs.declared.value.NamedRead as code-named
 use Rattle.scope.specs.declared.value.NamedRead.the-variants as named

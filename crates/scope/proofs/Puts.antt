@@ -10,13 +10,14 @@ use lib.Dec.{ltb, leb}
 use mathlib.Core.Logic.{⊎-elim, _⊎_, inl, inr}
 use borrow.Author.Tests.{le-leb, lt-leb, lt-ltb, le-ltb, ltb-true, ltb-false, leb-true, leb-false}
 use native.Mathlib.Numerals.{add-one}
-use Rattle.scope.specs.declared.state.Scope.{Scope}
+use Rattle.state.specs.declared.Scope.{Scope}
 use Rattle.records.specs.Bytes.{part, toBe}
 use Rattle.records.specs.Errors.{Error, encRecord, encError, encErrors}
 use Rattle.records.specs.Encode.{encAll, encWhole}
 use Rattle.resolution.specs.Effect.{Bytes, Effect, put, report, unfound, Trace, State, Out, M, Done, ret, _>>=_, _>>_, emit, write, isDirty, onlyIf}
 use Rattle.resolution.specs.Exec.{Machine, Limits, Ran, ran, refused, exec, andThen, step, allow, allowIf, listLimit, listed, putText, putWork, putAt}
-use Rattle.scope.specs.Meets.{World, world, Live, Moved, Ended, ended, stopped, Runs, Kept, Acts, trailOf, ifAside, Env, Here, refuseS, textS, frontS, listS, unfoundS, maxUnfound, LocalsAt, locals-same}
+use Rattle.scope.specs.Meets.{World, world, Live, Moved, Ended, ended, stopped, Runs, Kept, Acts, trailOf, ifAside, Env, Here, LocalsAt, locals-same}
+use Rattle.state.specs.Setters.{refuseS, textS, frontS, listS, unfoundS, maxUnfound, upTo, countedS}
 use Rattle.scope.proofs.Laws.{kept-same, append-nil, aside-nil, drop-more, exec-append, acts-then, stay-same}
 use Rattle.scope.proofs.Locals.{locals-stay, locals-alike}
 
@@ -431,6 +432,11 @@ module _ (i x l w t : List ℕ) (st : Scope) where
           outs = record { text-up = omega arith; list-up = omega arith; text-rest = refl; list-rest = refl };
         });
   }
+
+-- so much does the count of the state
+pub counts : {st r : Scope} → r ≡ countedS st → (i x l w t : List ℕ) → Acts (emit unfound) (world i x l w t st) (world i x l w t r)
+unfolding countedS upTo
+counts {st} e i x l w t = subst (λ (q : Scope). Acts (emit unfound) (world i x l w t st) (world i x l w t q)) (sym e) (count-one i x l w t st (λ _. refl))
 
 -- a byte, and a list after it
 pub set-paste : (l : List ℕ) (at c : ℕ) (b : List ℕ) → at + suc (length b) ≤ length l → take (at + suc (length b)) (paste (set l at c) (at + 1) b (length b)) ≡ take at l ++ (c ∷ b)

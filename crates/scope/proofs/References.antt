@@ -19,10 +19,10 @@ use Rattle.records.proofs.Views.{both, never, id-elim, id-str, optional-elim, t
 use Rattle.texts.specs.Report.{optionOf}
 use Rattle.resolution.specs.Effect.{Bytes, report, emit, write, _>>_}
 use Rattle.resolution.specs.Resolve.{dotted, braced, errorText, writeRefError}
-use Rattle.scope.specs.declared.state.Scope.{Scope}
-use Rattle.scope.specs.declared.state.Referring.{Referring}
-use Rattle.scope.specs.declared.state.Reference as code-reference
-use Rattle.scope.specs.declared.state.Reference.the-variants as ref
+use Rattle.state.specs.declared.Scope.{Scope}
+use Rattle.state.specs.declared.Referring.{Referring}
+use Rattle.state.specs.declared.Reference as code-reference
+use Rattle.state.specs.declared.Reference.the-variants as ref
 use Rattle.scope.specs.Meets.{World, world, Runs, Kept, Acts, ErrorAt, RefErrorAt, ReferenceIs, reads, unread}
 use Rattle.scope.proofs.Laws.{kept-same, kept-then, runs-then}
 use Rattle.scope.proofs.Puts.{acts-join}

@@ -12,8 +12,9 @@ use Rattle.records.specs.Decode.{many, namedAt}
 use Rattle.records.proofs.Views.{both}
 use Rattle.resolution.specs.Effect.{Effect, free, Locals, State, Out, M, ret, _>>=_, release}
 use Rattle.resolution.specs.Exec.{Machine, Limits, Ran, ran, refused, exec, andThen, step}
-use Rattle.scope.specs.declared.state.Scope.{Scope}
-use Rattle.scope.specs.Meets.{World, world, Live, Moved, Ended, ended, stopped, Runs, Kept, LocalsAt, no-locals, some-locals, LocalsStay, locals-same, locals-cleared, NamedIn, namedTexts, backS}
+use Rattle.state.specs.declared.Scope.{Scope}
+use Rattle.scope.specs.Meets.{World, world, Live, Moved, Ended, ended, stopped, Runs, Kept, LocalsAt, no-locals, some-locals, LocalsStay, locals-same, locals-cleared, NamedIn, namedTexts}
+use Rattle.state.specs.Setters.{backS}
 use Rattle.scope.proofs.Laws.{exec-append, drop-more, kept-same, ended-then}
 use Rattle.scope.proofs.Locals.{named-stays}
 

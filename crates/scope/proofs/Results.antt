@@ -23,10 +23,11 @@ use Rattle.records.specs.Tree.{Named}
 use Rattle.records.specs.Decode.{many, namedAt}
 use Rattle.resolution.specs.Effect.{M, Done, ret, _>>_}
 use Rattle.resolution.specs.Resolve.{noteMerges, mergesOf}
-use Rattle.scope.specs.declared.state.Scope.{Scope}
-use Rattle.scope.specs.declared.state.Value as code-value
-use Rattle.scope.specs.declared.state.Value.the-variants as val
-use Rattle.scope.specs.Meets.{World, world, namedTexts, NamedIn, Runs, refuseS, is-number, is-wrong, FirstIs, first-none, first-number, first-other, NumberAt}
+use Rattle.state.specs.declared.Scope.{Scope}
+use Rattle.state.specs.declared.Value as code-value
+use Rattle.state.specs.declared.Value.the-variants as val
+use Rattle.scope.specs.Meets.{World, world, namedTexts, NamedIn, Runs, is-number, is-wrong, FirstIs, first-none, first-number, first-other, NumberAt}
+use Rattle.state.specs.Setters.{refuseS}
 use Rattle.scope.specs.Values.{mergedAll}
 use Rattle.scope.proofs.Laws.{kept-same, runs-ret, runs-then}
 use Rattle.scope.proofs.Steps.{runs-over, runs-as}

@@ -13,7 +13,7 @@ use Rattle.records.specs.Decode.{idAt, optionalAt, stringAt, literalNumberAt, t
 use Rattle.records.proofs.Views.{both, never, id-str, term-elim, select-elim, Body, is-string, is-number, is-function, is-message, is-term, is-variable, is-nested, inline-elim, expression-elim}
 use Rattle.resolution.specs.Effect.{Bytes, State, M, Done, ret, _>>=_, _>>_, emit, write, isDirty}
 use Rattle.resolution.specs.Resolve.{dotted, braced, errorText, errorOf, cutShort, mark}
-use Rattle.scope.specs.declared.state.Scope.{Scope}
+use Rattle.state.specs.declared.Scope.{Scope}
 use Rattle.scope.specs.Meets.{World, world, Live, Runs, Kept, Acts, ErrorAt, CutAt}
 use Rattle.scope.proofs.Laws.{kept-same, runs-ret, runs-dirty}
 use Rattle.scope.proofs.Puts.{acts-over}

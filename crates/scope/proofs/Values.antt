@@ -22,14 +22,15 @@ use Rattle.records.proofs.Views.{many-cons, many-nil}
 use Rattle.resolution.specs.Effect.{Bytes, put, open-text, keep-text, State, Out, M, ret, _>>=_, write, capture}
 use Rattle.resolution.specs.Resolve.{held, stringIf, stringValue, literalValue, namedValues}
 use Rattle.resolution.specs.Exec.{Machine, Limits, ran, refused, exec, andThen, step, allow, allowIf, putAt, putWork}
-use Rattle.scope.specs.declared.state.Scope.{Scope}
-use Rattle.scope.specs.declared.state.Value as code-value
-use Rattle.scope.specs.declared.state.Value.the-variants as val
+use Rattle.state.specs.declared.Scope.{Scope}
+use Rattle.state.specs.declared.Value as code-value
+use Rattle.state.specs.declared.Value.the-variants as val
 use Rattle.scope.specs.declared.value.NamedSpan.{NamedSpan}
 use Rattle.scope.specs.declared.value.NamedRead as code-named
 use Rattle.scope.specs.declared.value.NamedRead.the-variants as named
-use Rattle.scope.specs.Meets.{World, world, takesIf, takes, literalText, namedTexts, TextIn, NamedIn, named-none, named-more, Live, Moved, Ended, ended, stopped, Runs, Kept, locals-same, refuseS, in-store, in-work, StringAt, NamedAt}
-use Rattle.scope.specs.Values.{LiteralIs, is-string, is-digits, NamedReads, heldS}
+use Rattle.scope.specs.Meets.{World, world, takesIf, takes, literalText, namedTexts, TextIn, NamedIn, named-none, named-more, Live, Moved, Ended, ended, stopped, Runs, Kept, locals-same, in-store, in-work, StringAt, NamedAt}
+use Rattle.state.specs.Setters.{refuseS, heldS}
+use Rattle.scope.specs.Values.{LiteralIs, is-string, is-digits, NamedReads}
 use Rattle.scope.proofs.Laws.{kept-same, kept-then, append-nil, aside-nil, ended-then, runs-ret}
 use Rattle.scope.proofs.Locals.{locals-stay, named-high, text-stays}
 use Rattle.scope.proofs.Puts.{workM}

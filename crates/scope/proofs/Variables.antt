@@ -29,11 +29,11 @@ use Rattle.resolution.specs.Effect.{Bytes, report, Locals, State, Out, M, ret, 
 use Rattle.resolution.specs.Resolve.{lastNamed, foundOr, variableIn, getVariable, writeVariable, orWrong, braced}
 use Rattle.resolution.specs.Format.{valueOf, valuesOf}
 use Rattle.resolution.specs.Exec.{Machine, Limits}
-use Rattle.scope.specs.declared.state.Scope.{Scope}
-use Rattle.scope.specs.declared.state.Value as code-value
-use Rattle.scope.specs.declared.state.Value.the-variants as val
-use Rattle.scope.specs.declared.state.Local as code-local
-use Rattle.scope.specs.declared.state.Local.the-variants as loc
+use Rattle.state.specs.declared.Scope.{Scope}
+use Rattle.state.specs.declared.Value as code-value
+use Rattle.state.specs.declared.Value.the-variants as val
+use Rattle.state.specs.declared.Local as code-local
+use Rattle.state.specs.declared.Local.the-variants as loc
 use Rattle.scope.specs.Meets.{World, world, Live, namedTexts, NamedIn, LocalsAt, no-locals, some-locals, Ended, Runs, Kept, Acts, Holds, in-store, in-args, in-work, is-number, is-nothing, is-wrong, LocalIs, is-there, is-missing, variableOf, env, Setup, MissingAt, VariableAt, VariableValueAt}
 use Rattle.scope.specs.Values.{valueOfSome, Ranged}
 use Rattle.scope.proofs.Laws.{kept-same, kept-then, ended-none, ended-then, runs-ret, runs-then}

@@ -11,8 +11,8 @@ use Rattle.records.specs.Bytes.{part}
 use Rattle.records.specs.Errors.{Referred, reference}
 use Rattle.resolution.specs.Effect.{Bytes, report, _>>_, emit, write}
 use Rattle.resolution.specs.Resolve.{braced, writeRefError, writeResult}
-use Rattle.scope.specs.declared.state.Value as code-value
-use Rattle.scope.specs.declared.state.Value.the-variants as val
+use Rattle.state.specs.declared.Value as code-value
+use Rattle.state.specs.declared.Value.the-variants as val
 use Rattle.scope.specs.Meets.{World, env, Kept, Acts, Holds, in-store, in-args, in-work, is-number, is-nothing, is-wrong, ResultIs, has-result, no-function, ResultAt}
 use Rattle.scope.proofs.Laws.{kept-same, kept-then, acts-then}
 use Rattle.scope.proofs.Steps.{runs-as}

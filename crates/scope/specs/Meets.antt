@@ -24,13 +24,14 @@ use Rattle.texts.specs.declared.Wrote.{Wrote}
 use Rattle.texts.specs.declared.Wrote.the-variants as wrote
 use Rattle.bundle.specs.Lookup.{Find, findIn}
 unfoldable pub use Rattle.walks.specs.Trail.{prefixed, patternBytes, trailOf}
-use Rattle.scope.specs.declared.state.Scope.{Scope}
-use Rattle.scope.specs.declared.state.Value as code-value
-use Rattle.scope.specs.declared.state.Value.the-variants as val
-use Rattle.scope.specs.declared.state.Local as code-local
-use Rattle.scope.specs.declared.state.Reference as code-reference
-use Rattle.scope.specs.declared.state.Reference.the-variants as ref
-use Rattle.scope.specs.declared.state.Local.the-variants as loc
+use Rattle.state.specs.declared.Scope.{Scope}
+use Rattle.state.specs.declared.Value as code-value
+use Rattle.state.specs.declared.Value.the-variants as val
+use Rattle.state.specs.declared.Local as code-local
+use Rattle.state.specs.declared.Reference as code-reference
+use Rattle.state.specs.declared.Reference.the-variants as ref
+use Rattle.state.specs.declared.Local.the-variants as loc
+use Rattle.state.specs.Setters.{maxUnfound, upTo, refuseS, begunS, listS}
 use Rattle.numbers.specs.declared.types.Number as code-number
 use Rattle.resolution.specs.Effect.{Bytes, Locals, State, Out, M, Done, ret, _>>=_, _>>_, emit, write, report, capture, release}
 use Rattle.resolution.specs.Resolve.{Setting, Trail, lastNamed, dotted, braced, errorText, errorOf, cutShort, held, stringValue, namedValues, mergesOf, writeRefError, getVariable, writeVariable, orWrong, writeResult, track, lookUp, asTerm, termFound, writeMessage, writeTerm, callFunction, resolve, writePattern, writeElements, writeElement, writeExpression, writeInline, resolveInline, termArguments, getArguments}
@@ -83,10 +84,6 @@ pub data LocalsAt (w : World) (l : Locals) : Type 0 where
   no-locals : w .st .local ≡ false → l ≡ none → LocalsAt w l
   some-locals : (ns : Named) (f low : ℕ) → w .st .local ≡ true → many [] _∷_ (w .st .«local_count») namedAt (w .store) (w .st .«local_at») ≡ got ns f
       → l ≡ some (namedTexts ns) → w .st .back ≤ low → NamedIn (w .work) low (w .st .«local_base») ns → LocalsAt w l
-
--- the most that is counted of lookups unfound
-abbrev pub maxUnfound : ℕ
-maxUnfound = 18446744073709551615
 
 -- the world is at the machine k, and at the state s of the resolution
 pub record Live (L : Limits) (w : World) (s : State) (k : Machine) : Type 0 where
@@ -160,62 +157,6 @@ pub record Kept (w v : World) : Type 0 where
 pub record Acts {A : Type 0} (m : M A) (w v : World) : Type 0 where
   pub kept : Kept w v
   pub runs : Runs m w v
-
--- refused with a number
-abbrev pub refuseS : ℕ → Scope → Scope
-refuseS x s = record { «text_at» = s .«text_at»; «list_at» = s .«list_at»; errors = s .errors; front = s .front; back = s .back; high = s .high; depth = s .depth; begun = s .begun; unfound = s .unfound; aside = s .aside; dirty = s .dirty; local = s .local; «local_at» = s .«local_at»; «local_count» = s .«local_count»; «local_base» = s .«local_base»; refused = x }
-
--- so many patterns on the trail
-abbrev pub depthS : ℕ → Scope → Scope
-depthS x s = record { «text_at» = s .«text_at»; «list_at» = s .«list_at»; errors = s .errors; front = s .front; back = s .back; high = s .high; depth = x; begun = s .begun; unfound = s .unfound; aside = s .aside; dirty = s .dirty; local = s .local; «local_at» = s .«local_at»; «local_count» = s .«local_count»; «local_base» = s .«local_base»; refused = s .refused }
-
--- so many placeables begun
-abbrev pub begunS : ℕ → Bool → Scope → Scope
-begunS x d s = record { «text_at» = s .«text_at»; «list_at» = s .«list_at»; errors = s .errors; front = s .front; back = s .back; high = s .high; depth = s .depth; begun = x; unfound = s .unfound; aside = s .aside; dirty = d; local = s .local; «local_at» = s .«local_at»; «local_count» = s .«local_count»; «local_base» = s .«local_base»; refused = s .refused }
-
--- the workspace's back
-abbrev pub backS : ℕ → Scope → Scope
-backS x s = record { «text_at» = s .«text_at»; «list_at» = s .«list_at»; errors = s .errors; front = s .front; back = x; high = s .high; depth = s .depth; begun = s .begun; unfound = s .unfound; aside = s .aside; dirty = s .dirty; local = s .local; «local_at» = s .«local_at»; «local_count» = s .«local_count»; «local_base» = s .«local_base»; refused = s .refused }
-
--- whether a text is made aside
-abbrev pub asideS : Bool → Scope → Scope
-asideS x s = record { «text_at» = s .«text_at»; «list_at» = s .«list_at»; errors = s .errors; front = s .front; back = s .back; high = s .high; depth = s .depth; begun = s .begun; unfound = s .unfound; aside = x; dirty = s .dirty; local = s .local; «local_at» = s .«local_at»; «local_count» = s .«local_count»; «local_base» = s .«local_base»; refused = s .refused }
-
--- a text of its own was made
-abbrev pub keptS : ℕ → ℕ → Bool → Scope → Scope
-keptS f b x s = record { «text_at» = s .«text_at»; «list_at» = s .«list_at»; errors = s .errors; front = f; back = b; high = s .high; depth = s .depth; begun = s .begun; unfound = s .unfound; aside = x; dirty = s .dirty; local = s .local; «local_at» = s .«local_at»; «local_count» = s .«local_count»; «local_base» = s .«local_base»; refused = s .refused }
-
--- so much text
-abbrev pub textS : ℕ → Scope → Scope
-textS x s = record { «text_at» = x; «list_at» = s .«list_at»; errors = s .errors; front = s .front; back = s .back; high = s .high; depth = s .depth; begun = s .begun; unfound = s .unfound; aside = s .aside; dirty = s .dirty; local = s .local; «local_at» = s .«local_at»; «local_count» = s .«local_count»; «local_base» = s .«local_base»; refused = s .refused }
-
--- so long a list of so many errors
-abbrev pub listS : ℕ → ℕ → Scope → Scope
-listS x n s = record { «text_at» = s .«text_at»; «list_at» = x; errors = n; front = s .front; back = s .back; high = s .high; depth = s .depth; begun = s .begun; unfound = s .unfound; aside = s .aside; dirty = s .dirty; local = s .local; «local_at» = s .«local_at»; «local_count» = s .«local_count»; «local_base» = s .«local_base»; refused = s .refused }
-
--- the workspace's front, and the highest use
-abbrev pub frontS : ℕ → ℕ → Scope → Scope
-frontS f h s = record { «text_at» = s .«text_at»; «list_at» = s .«list_at»; errors = s .errors; front = f; back = s .back; high = h; depth = s .depth; begun = s .begun; unfound = s .unfound; aside = s .aside; dirty = s .dirty; local = s .local; «local_at» = s .«local_at»; «local_count» = s .«local_count»; «local_base» = s .«local_base»; refused = s .refused }
-
--- the workspace's back, and the highest use
-abbrev pub backedS : ℕ → ℕ → Scope → Scope
-backedS b h s = record { «text_at» = s .«text_at»; «list_at» = s .«list_at»; errors = s .errors; front = s .front; back = b; high = h; depth = s .depth; begun = s .begun; unfound = s .unfound; aside = s .aside; dirty = s .dirty; local = s .local; «local_at» = s .«local_at»; «local_count» = s .«local_count»; «local_base» = s .«local_base»; refused = s .refused }
-
--- so many lookups unfound
-abbrev pub unfoundS : ℕ → Scope → Scope
-unfoundS n s = record { «text_at» = s .«text_at»; «list_at» = s .«list_at»; errors = s .errors; front = s .front; back = s .back; high = s .high; depth = s .depth; begun = s .begun; unfound = n; aside = s .aside; dirty = s .dirty; local = s .local; «local_at» = s .«local_at»; «local_count» = s .«local_count»; «local_base» = s .«local_base»; refused = s .refused }
-
--- a term's named arguments
-abbrev pub localsS : ℕ → ℕ → ℕ → Scope → Scope
-localsS a c b s = record { «text_at» = s .«text_at»; «list_at» = s .«list_at»; errors = s .errors; front = s .front; back = s .back; high = s .high; depth = s .depth; begun = s .begun; unfound = s .unfound; aside = s .aside; dirty = s .dirty; local = true; «local_at» = a; «local_count» = c; «local_base» = b; refused = s .refused }
-
--- no term's arguments
-abbrev pub clearS : Scope → Scope
-clearS s = record { «text_at» = s .«text_at»; «list_at» = s .«list_at»; errors = s .errors; front = s .front; back = s .back; high = s .high; depth = s .depth; begun = s .begun; unfound = s .unfound; aside = s .aside; dirty = s .dirty; local = false; «local_at» = s .«local_at»; «local_count» = s .«local_count»; «local_base» = s .«local_base»; refused = s .refused }
-
--- one more of a count that stops at its greatest value
-unfoldable pub upTo : ℕ → ℕ → ℕ
-upTo most n = min (n + 1) most
 
 -- a record was written, or there was no room for it
 unfoldable pub listedS : Wrote → Scope → Scope

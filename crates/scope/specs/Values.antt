@@ -17,16 +17,12 @@ use Rattle.records.specs.Tree.{Literal}
 use Rattle.records.specs.Decode.{namedAt}
 use Rattle.records.specs.Images.{Argument}
 use Rattle.resolution.specs.Format.{valueOf}
-use Rattle.scope.specs.declared.state.Scope.{Scope}
-use Rattle.scope.specs.declared.state.Value as code-value
+use Rattle.state.specs.declared.Scope.{Scope}
+use Rattle.state.specs.declared.Value as code-value
 use Rattle.scope.specs.declared.value.NamedSpan.{NamedSpan}
 use Rattle.scope.specs.declared.value.NamedRead as code-named
 use Rattle.scope.specs.declared.value.NamedRead.the-variants as named
 use Rattle.scope.specs.Meets.{takes, literalText, TextIn, Holds}
-
--- so much kept at the workspace's back, and the highest use
-abbrev pub heldS : ℕ → ℕ → Scope → Scope
-heldS b h s = record { «text_at» = s .«text_at»; «list_at» = s .«list_at»; errors = s .errors; front = s .front; back = b; high = h; depth = s .depth; begun = s .begun; unfound = s .unfound; aside = s .aside; dirty = s .dirty; local = s .local; «local_at» = s .«local_at»; «local_count» = s .«local_count»; «local_base» = s .«local_base»; refused = s .refused }
 
 -- a literal, by its tag and where its bytes stand
 pub data LiteralIs (s : List ℕ) (tag a e : ℕ) (x : Literal) : Type 0 where

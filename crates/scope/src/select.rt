@@ -15,7 +15,6 @@ ghost use Rattle.records.specs.Tree.{Key};
 ghost use Rattle.records.specs.Images.{Store, storeOf};
 ghost use Rattle.resolution.specs.Resolve.{matches, firstBy, hasKey, isDefault, chosen};
 ghost use Rattle.scope.specs.Meets.{Holds, PickAt};
-use crate::state::Value;
 use images::text_of;
 use numbers::equal::same_number;
 use numbers::literal::read_literal;
@@ -29,6 +28,7 @@ use records::read_byte;
 use records::read_str;
 use records::read_u16;
 use records::same_bytes;
+use state::Value;
 use walks::locale_of;
 use walks::skip_pattern;
 

@@ -5,18 +5,18 @@ ghost use mathlib.Core.Bool.{true, false};
 ghost use mathlib.Core.Option.{Option, some, none};
 ghost use Prim.Native.Nat.{ℕ, _+_, _-_, _≤_};
 ghost use lib.ListN.{length};
-ghost use Rattle.scope.specs.declared.state.Value.the-variants as val;
+ghost use Rattle.state.specs.declared.Value.the-variants as val;
 ghost use Rattle.scope.specs.Meets.{world, env, VariableAt, VariableValueAt, ResultAt};
 use crate::put::list_reference;
 use crate::put::put_braced;
 use crate::put::put_value;
-use crate::state::Called;
-use crate::state::Local;
-use crate::state::Resolved;
-use crate::state::Scope;
-use crate::state::Value;
 use crate::value::find_variable;
 use crate::value::list_variable;
+use state::Called;
+use state::Local;
+use state::Resolved;
+use state::Scope;
+use state::Value;
 use texts::Referred;
 
 // A variable's text, or `{$n}`.

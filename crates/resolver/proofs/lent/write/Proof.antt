@@ -41,11 +41,11 @@ use denote.Triple.Clauses.{ensured, lasts}
 use denote.Triple.Table.{entered, cited}
 use denote.Triple.Walked.{says, Stays, stay-ref, stay-dropped, gave-ref, gave-slice, walkOf, goes-ref, goes-dropped, goes-gave-ref, goes-gave-slice, Walks, ends-at, walked, walk-meets}
 use denote.Exit.{yes}
-use Rattle.scope.specs.declared.state.Scope.{Scope}
+use Rattle.state.specs.declared.Scope.{Scope}
 use Rattle.scope.specs.Meets.{world, env, PatternAt}
-use Rattle.scope.proofs.state.Scope as T
-use Rattle.scope.proofs.state.Scope.Laws as T′
-use Rattle.resolver.proofs.Cells.{one-cell}
+use Rattle.state.proofs.Scope as T
+use Rattle.state.proofs.Scope.Laws as T′
+use Rattle.state.proofs.Cells.{one-cell}
 use Rattle.resolver.proofs.write.write_pattern as write-pattern
 use Rattle.resolver.proofs.write.write_pattern.Symbol as write-pattern-def
 use Rattle.resolver.proofs.write.write_pattern.Symbol.{name as #write-pattern}

@@ -2,7 +2,7 @@
 use Prim.Native.Nat.{ℕ}
 use Rattle.scope.proofs.Values.{named-digits-as, named-end, named-string-as, named-unread}
 use Rattle.scope.specs.Meets.{NamedAt}
-use Rattle.scope.specs.declared.state.Scope.{Scope}
+use Rattle.state.specs.declared.Scope.{Scope}
 use borrow.Author.Needs.{needs}
 use lib.ListN.{length}
 use mathlib.Core.List.{List}

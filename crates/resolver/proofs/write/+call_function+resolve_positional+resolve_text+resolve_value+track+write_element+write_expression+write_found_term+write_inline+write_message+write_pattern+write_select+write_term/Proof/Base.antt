@@ -1,6 +1,6 @@
 -- The measures, and what each member is given and asks.
 use Prim.Native.Nat.{_*_, _+_, _-_, _<_, ℕ}
-use Rattle.scope.specs.declared.state.Scope.{Scope}
+use Rattle.state.specs.declared.Scope.{Scope}
 use borrow.Fn.Kinds.{In}
 use borrow.Fn.PlainCycle as cycle
 use Rattle.resolver.proofs.write.call_function.Reads as call-function-reads
@@ -47,12 +47,12 @@ use Rattle.records.proofs.read_u16.Reads as read-u16-reads
 use Rattle.scope.proofs.value.resolve_named.Reads as resolve-named-reads
 use Rattle.bundle.proofs.find_holder.Reads as find-holder-reads
 use Rattle.scope.proofs.call.number_function.Reads as number-function-reads
-use Rattle.scope.proofs.state.set_back.Reads as set-back-reads
-use Rattle.scope.proofs.state.count_unfound.Reads as count-unfound-reads
+use Rattle.state.proofs.set_back.Reads as set-back-reads
+use Rattle.state.proofs.count_unfound.Reads as count-unfound-reads
 use Rattle.walks.proofs.skip_expression.Reads as skip-expression-reads
-use Rattle.scope.proofs.state.set_aside.Reads as set-aside-reads
+use Rattle.state.proofs.set_aside.Reads as set-aside-reads
 use Rattle.texts.proofs.move_back.Reads as move-back-reads
-use Rattle.scope.proofs.state.set_kept.Reads as set-kept-reads
+use Rattle.state.proofs.set_kept.Reads as set-kept-reads
 use Rattle.records.proofs.read_byte.Reads as read-byte-reads
 use Rattle.scope.proofs.value.literal_string.Reads as literal-string-reads
 use Rattle.scope.proofs.value.literal_number.Reads as literal-number-reads
@@ -60,10 +60,10 @@ use Rattle.scope.proofs.variable.resolve_variable.Reads as resolve-variable-rea
 use Rattle.walks.proofs.on_trail.Reads as on-trail-reads
 use Rattle.scope.proofs.put.list_plain.Reads as list-plain-reads
 use Rattle.scope.proofs.put.put_error.Reads as put-error-reads
-use Rattle.scope.proofs.state.set_depth.Reads as set-depth-reads
+use Rattle.state.proofs.set_depth.Reads as set-depth-reads
 use Rattle.scope.proofs.put.put.Reads as put-reads
 use Rattle.scope.proofs.reference.too_many.Reads as too-many-reads
-use Rattle.scope.proofs.reference.begin.Reads as begin-reads
+use Rattle.state.proofs.begin.Reads as begin-reads
 use Rattle.walks.proofs.has_marks.Reads as has-marks-reads
 use Rattle.scope.proofs.put.put_fsi.Reads as put-fsi-reads
 use Rattle.scope.proofs.put.put_cut.Reads as put-cut-reads
@@ -80,8 +80,8 @@ use Rattle.records.proofs.read_u32.Reads as read-u32-reads
 use Rattle.walks.proofs.isolates.Reads as isolates-reads
 use Rattle.walks.proofs.skip_element.Reads as skip-element-reads
 use Rattle.scope.proofs.select.choose.Reads as choose-reads
-use Rattle.scope.proofs.state.set_locals.Reads as set-locals-reads
-use Rattle.scope.proofs.state.clear_locals.Reads as clear-locals-reads
+use Rattle.state.proofs.set_locals.Reads as set-locals-reads
+use Rattle.state.proofs.clear_locals.Reads as clear-locals-reads
 
 -- what is left to begin, then the stage
 abbrev pub μ : Scope → ℕ → ℕ

@@ -1,7 +1,7 @@
 -- What is left of `resolve_text`.
 use Prim.Native.Nat.{ℕ}
 use Rattle.resolver.proofs.Values.{text-made, text-never, text-stopped}
-use Rattle.scope.specs.declared.state.Scope.{Scope}
+use Rattle.state.specs.declared.Scope.{Scope}
 use borrow.Author.Needs.{needs}
 use mathlib.Core.Path.{ap, refl}
 use native.Mathlib.Omega.{arith}

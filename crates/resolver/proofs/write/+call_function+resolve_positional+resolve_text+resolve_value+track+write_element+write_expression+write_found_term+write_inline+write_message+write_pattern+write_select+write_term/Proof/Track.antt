@@ -1,7 +1,7 @@
 -- What is left of `track`.
 use Prim.Native.Nat.{ℕ}
 use Rattle.resolver.proofs.Tracks.{track-cross, track-cyclic, track-far, track-over}
-use Rattle.scope.specs.declared.state.Scope.{Scope}
+use Rattle.state.specs.declared.Scope.{Scope}
 use borrow.Author.Needs.{needs}
 use mathlib.Core.Path.{ap}
 use native.Mathlib.Omega.{arith}

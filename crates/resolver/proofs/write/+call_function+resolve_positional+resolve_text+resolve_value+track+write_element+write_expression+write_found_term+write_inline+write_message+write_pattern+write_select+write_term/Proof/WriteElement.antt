@@ -3,7 +3,7 @@ use Prim.Native.Nat.{ℕ}
 use Rattle.records.proofs.Laws.{str-in}
 use Rattle.records.proofs.Views.{num-is, num-none, str-bad, str-is}
 use Rattle.resolver.proofs.Elements.{element-dirty, element-far, element-full, element-none, element-over, element-placeable, element-text, element-text-none}
-use Rattle.scope.specs.declared.state.Scope.{Scope}
+use Rattle.state.specs.declared.Scope.{Scope}
 use borrow.Author.Needs.{needs}
 use mathlib.Core.List.{[]}
 use mathlib.Core.Path.{_∙_, ap}

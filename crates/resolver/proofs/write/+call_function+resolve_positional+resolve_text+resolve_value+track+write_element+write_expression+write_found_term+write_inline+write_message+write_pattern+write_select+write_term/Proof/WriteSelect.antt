@@ -1,7 +1,7 @@
 -- What is left of `write_select`.
 use Prim.Native.Nat.{ℕ}
 use Rattle.resolver.proofs.Selects.{select-chosen, select-default, select-never, select-over, select-stopped}
-use Rattle.scope.specs.declared.state.Scope.{Scope}
+use Rattle.state.specs.declared.Scope.{Scope}
 use Rattle.texts.specs.Report.{plainOf}
 use borrow.Author.Needs.{needs}
 use mathlib.Core.Path.{_∙_, ap}

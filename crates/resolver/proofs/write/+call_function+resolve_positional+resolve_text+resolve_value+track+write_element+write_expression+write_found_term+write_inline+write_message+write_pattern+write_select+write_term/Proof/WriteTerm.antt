@@ -2,7 +2,7 @@
 use Prim.Native.Nat.{ℕ}
 use Rattle.records.proofs.Views.{num-is, num-none}
 use Rattle.resolver.proofs.Terms.{term-bare, term-freed, term-over, term-refused, term-stopped, term-unflagged, term-unnamed, term-unread}
-use Rattle.scope.specs.declared.state.Scope.{Scope}
+use Rattle.state.specs.declared.Scope.{Scope}
 use borrow.Author.Needs.{needs}
 use mathlib.Core.List.{[]}
 use mathlib.Core.Path.{_∙_, ap}

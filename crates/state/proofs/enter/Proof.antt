@@ -1,4 +1,4 @@
--- `resolver::lent::enter` meets its contract: a walk of its MIR, by hand. The scope's borrow is opened and the scope is copied out; the trail's borrow goes on to `first_on` for good; what `first_on` returned is stored in the scope's cell, and the borrow is closed at it.
+-- `state::enter` meets its contract: a walk of its MIR, by hand. The scope's borrow is opened and the scope is copied out; the trail's borrow goes on to `first_on` for good; what `first_on` returned is stored in the scope's cell, and the borrow is closed at it.
 -- All that the proof knows of `first_on` is that it meets its contract.
 -- Assumes nothing.
 use mathlib.Core.Path.{_≡_, refl}
@@ -38,19 +38,19 @@ use denote.Triple.Clauses.{ensured, lasts}
 use denote.Triple.Table.{entered, cited}
 use denote.Triple.Walked.{says, Stays, stay-ref, stay-dropped, gave-ref, walkOf, goes-ref, goes-dropped, goes-gave-ref, Walks, ends-at, walked, walk-meets}
 use denote.Exit.{yes}
-use Rattle.scope.specs.declared.state.Scope.{Scope}
-use Rattle.scope.specs.Meets.{depthS}
-use Rattle.scope.proofs.state.Scope as T
-use Rattle.scope.proofs.state.Scope.Laws as T′
-use Rattle.resolver.proofs.Cells.{one-cell}
-use Rattle.resolver.proofs.lent.first_on as first-on
-use Rattle.resolver.proofs.lent.first_on.Symbol as first-on-def
-use Rattle.resolver.proofs.lent.first_on.Symbol.{name as #first-on}
-use Rattle.resolver.proofs.lent.first_on.Met as first-on-thm
-use Rattle.resolver.proofs.lent.enter.Key.{name as #enter}
-use Rattle.resolver.proofs.lent.enter as entry
-use Rattle.resolver.proofs.lent.enter.Statement as stated
-use Rattle.resolver.proofs.lent.enter.Code as code
+use Rattle.state.specs.declared.Scope.{Scope}
+use Rattle.state.specs.Setters.{depthS}
+use Rattle.state.proofs.Scope as T
+use Rattle.state.proofs.Scope.Laws as T′
+use Rattle.state.proofs.Cells.{one-cell}
+use Rattle.state.proofs.first_on as first-on
+use Rattle.state.proofs.first_on.Symbol as first-on-def
+use Rattle.state.proofs.first_on.Symbol.{name as #first-on}
+use Rattle.state.proofs.first_on.Met as first-on-thm
+use Rattle.state.proofs.enter.Key.{name as #enter}
+use Rattle.state.proofs.enter as entry
+use Rattle.state.proofs.enter.Statement as stated
+use Rattle.state.proofs.enter.Code as code
 
 -- the trail's type, and its place in the signature
 abbrev Trail : RattleType
@@ -147,4 +147,4 @@ enter-spec 𝓤 H 𝓜 𝓖 𝓡 =
     entered 𝓤 H (tripleOf 𝓤 H (𝓖 .A) entry.signature (entry.spec 𝓤 H (𝓖 .A) (𝓜 .mem) (𝓡 .run)))
     (tables 𝓤 H 𝓜 𝓡 code.env .C) (tables 𝓤 H 𝓜 𝓡 code.env .Λ) #enter code.function (code.unfolded 𝓤 H 𝓜 𝓡)
     (enter-meets 𝓤 H (𝓖 .A) (givenOf 𝓤 H 𝓜 𝓖) (𝓜 .mem) (𝓡 .run) (tablesOf 𝓤 H 𝓜 (tables 𝓤 H 𝓜 𝓡 code.env))
-    (cited 𝓤 H (FirstOn 𝓤 H (𝓖 .A) (𝓜 .mem) (𝓡 .run)) 𝓜 𝓡 code.env #first-on first-on-def.routine code.calls-resolver·lent·first-on (first-on-thm.met 𝓤 H 𝓜 𝓖 𝓡)))
+    (cited 𝓤 H (FirstOn 𝓤 H (𝓖 .A) (𝓜 .mem) (𝓡 .run)) 𝓜 𝓡 code.env #first-on first-on-def.routine code.calls-state·first-on (first-on-thm.met 𝓤 H 𝓜 𝓖 𝓡)))

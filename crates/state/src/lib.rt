@@ -1,9 +1,8 @@
-// The state of a formatting, by value: the Rust's Scope, and where the three buffers stand.
+// The state of a formatting, by value: the Rust's Scope, and where the three buffers stand; the values that it finds; and each single step of it.
 ghost use mathlib.Core.Path.{_≡_};
-ghost use mathlib.Core.List.{List};
-ghost use Prim.Native.Nat.{ℕ};
-ghost use Rattle.resolution.specs.Effect.{unfound, emit};
-ghost use Rattle.scope.specs.Meets.{world, Acts, refuseS, depthS, backS, asideS, keptS, localsS, clearS};
+ghost use Prim.Native.Nat.{_+_, _<_};
+ghost use lib.ListN.{set};
+ghost use Rattle.state.specs.Setters.{refuseS, depthS, begunS, mayBegin, backS, asideS, keptS, localsS, clearS, countedS, missingS, newS};
 use numbers::types::Number;
 
 // What changes while a message is formatted.
@@ -133,11 +132,78 @@ pub fn clear_locals(mut st: Scope) -> Scope
     st
 }
 
+// A lookup unfound more, as far as the count goes.
 pub fn count_unfound(mut st: Scope) -> Scope
-    ensures { λ r. ⌜ ((i x l w t : List ℕ) → Acts (emit unfound) (world i x l w t st) (world i x l w t r)) ⌝ }
+    ensures { λ r. ⌜ r ≡ countedS st ⌝ }
 {
     if st.unfound < 18446744073709551615 {
         st.unfound = st.unfound + 1;
     }
     st
+}
+
+// A call of an id that has no entry: the lookup is counted, the call's arguments are freed, and no error is counted.
+pub fn missing_function(st: Scope, old: usize) -> Called
+    ensures { λ r. ⌜ r ≡ missingS old st ⌝ }
+{
+    Called {
+        st: set_back(count_unfound(st), old),
+        found: false,
+        value: Value::Wrong,
+    }
+}
+
+// Fewer than 100 placeables were begun.
+pub fn may_begin(st: Scope) -> bool
+    ensures { λ r. ⌜ r ≡ mayBegin st ⌝ }
+{
+    st.begun < 100
+}
+
+// A placeable more is begun.
+pub fn begin(mut st: Scope) -> Scope
+    requires { ⌜ st .begun < 100 ⌝ }
+    ensures { λ r. ⌜ r ≡ begunS (st .begun + 1) (st .dirty) st ⌝ }
+{
+    st.begun = st.begun + 1;
+    st
+}
+
+// `Scope::new`: nothing is written, listed, begun or travelled, and the workspace has `room` bytes.
+pub fn new(room: usize) -> Scope
+    ensures { λ r. ⌜ r ≡ newS room ⌝ }
+{
+    Scope {
+        text_at: 0,
+        list_at: 5,
+        errors: 0,
+        front: 0,
+        back: room,
+        high: 0,
+        depth: 0,
+        begun: 0,
+        unfound: 0,
+        aside: false,
+        dirty: false,
+        local: false,
+        local_at: 0,
+        local_count: 0,
+        local_base: 0,
+        refused: 0,
+    }
+}
+
+// The first pattern of a trail, and the depth after it.
+pub fn first_on(trail: &mut [usize; 102], st: Scope, q: usize) -> Scope
+    ensures { λ r. ⌜ (r ≡ depthS 1 st) × (now (trail .exit) ≡ set (now (trail .entry)) 0 q) ⌝ }
+{
+    trail[0] = q;
+    set_depth(st, 1)
+}
+
+// `Scope::maybe_track`, where no pattern is travelled yet.
+pub fn enter(trail: &mut [usize; 102], scope: &mut Scope, q: usize)
+    ensures { λ _. ⌜ (now (scope .exit) ≡ depthS 1 (now (scope .entry))) × (now (trail .exit) ≡ set (now (trail .entry)) 0 q) ⌝ }
+{
+    *scope = first_on(trail, *scope, q);
 }
