@@ -31,6 +31,9 @@ use Rattle.state.specs.declared.Local as code-local
 use Rattle.state.specs.declared.Reference as code-reference
 use Rattle.state.specs.declared.Reference.the-variants as ref
 use Rattle.state.specs.declared.Local.the-variants as loc
+use Rattle.state.specs.declared.Referring.{Referring}
+use Rattle.scope.specs.declared.error.Pieces.{Pieces}
+use Rattle.images.specs.Arguments.{between}
 use Rattle.state.specs.Setters.{maxUnfound, upTo, refuseS, begunS, listS}
 use Rattle.numbers.specs.declared.types.Number as code-number
 use Rattle.resolution.specs.Effect.{Bytes, Locals, State, Out, M, Done, ret, _>>=_, _>>_, emit, write, report, capture, release}
@@ -172,6 +175,15 @@ pub data Holds (i a w : List ℕ) (low : ℕ) (c : code-value.Value) (v : Value)
   is-nothing : c ≡ val.Nothing → v ≡ nothing → Holds i a w low c v
   is-wrong : c ≡ val.Wrong → v ≡ wrong → Holds i a w low c v
 
+-- a value's text in the store; empty where it has none there
+unfoldable pub storedText : List ℕ → code-value.Value → List ℕ
+storedText i (val.Store b e) = between i b e
+storedText i (val.Args b e) = []
+storedText i (val.Work b e) = []
+storedText i (val.Number n) = []
+storedText i val.Nothing = []
+storedText i val.Wrong = []
+
 -- what is read, and what the definition makes of it
 pub record Env : Type 0 where
   pub store : List ℕ
@@ -263,6 +275,30 @@ pub data LocalIs (i a w : List ℕ) (low : ℕ) (r : code-local.Local) (o : Opti
 unfoldable pub variableOf : List (Bytes × Value) → Bytes → Locals → Option Value
 variableOf args i none = lastNamed i args
 variableOf args i (some l) = lastNamed i l
+
+-- the words that stand in the place of an expression: `{???{-{$.()`
+abbrev pub errorWords : List ℕ
+errorWords = 123 ∷ 63 ∷ 63 ∷ 63 ∷ 123 ∷ 45 ∷ 123 ∷ 36 ∷ 46 ∷ 40 ∷ 41 ∷ []
+
+-- a part of the words, one of the store, one of the words, one of the store, and what closes
+unfoldable pub piecesText : List ℕ → List ℕ → Pieces → List ℕ
+piecesText w i p = (between w (p .head) (p .«head_end») ++ (between i (p .from) (p .to) ++ between w (p .joint) (p .«joint_end»))) ++ (between i (p .start) (p .end) ++ (125 ∷ []))
+
+abbrev pub nameless : Pieces
+nameless = record { head = 0; «head_end» = 4; from = 0; to = 0; joint = 0; «joint_end» = 0; start = 0; end = 0 }
+
+-- by whether there is an attribute
+unfoldable pub partedPieces : Bool → ℕ → ℕ → Referring → Pieces
+partedPieces true h k x = record { head = h; «head_end» = k; from = x .from; to = x .to; joint = 8; «joint_end» = 9; start = x .start; end = x .end }
+partedPieces false h k x = record { head = h; «head_end» = k; from = x .from; to = x .to; joint = 0; «joint_end» = 0; start = 0; end = 0 }
+
+unfoldable pub referencePieces : ℕ → ℕ → code-reference.Reference → Pieces
+referencePieces h k (ref.Is x) = partedPieces (x .has) h k x
+referencePieces h k ref.Bad = nameless
+
+-- the pieces of the inline expression at `at`
+pub record PiecesAt (i : List ℕ) (at : ℕ) (p : Pieces) : Type 0 where
+  pub reads : (d : ℕ) (y : Inline) (f : ℕ) → inline d i at ≡ got y f → braced (errorText y) ≡ piecesText errorWords i p
 
 -- what stands in the place of an inline expression that has an error
 pub record ErrorAt (i : List ℕ) (at : ℕ) (x w : List ℕ) (st : Scope) (x′ w′ : List ℕ) (r : Scope) : Type 0 where

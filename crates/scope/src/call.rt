@@ -15,6 +15,7 @@ ghost use Rattle.scope.specs.Values.{MergedAt, mergedAll};
 use crate::value::NamedRead;
 use crate::value::read_named;
 use crate::value::taken;
+use images::text_of;
 use numbers::literal::read_literal;
 use numbers::merge::merge_number;
 use numbers::merge::merge_text;
@@ -43,35 +44,22 @@ pub fn merge_one(
 ) -> Merged
     ensures { λ r. ⌜ MergedAt (now (s .entry)) (now (work .entry)) from to tag a e base o r ⌝ }
 {
-    if to < from {
-        return Merged::Is(o);
-    }
-    if s.len() < to {
-        return Merged::Is(o);
-    }
-    if e < a {
-        return Merged::Is(o);
-    }
-    if s.len() < e {
-        return Merged::Is(o);
-    }
+    let name = text_of(s, from, to);
+    let src = text_of(s, a, e);
     if tag == 2 {
-        let Literal::Is(n) = read_literal(&s[a..e]) else {
+        let Literal::Is(n) = read_literal(src) else {
             return Merged::Is(o);
         };
-        return merge_number(&s[from..to], n, o);
+        return merge_number(name, n, o);
     }
-    if !has_backslash(&s[a..e]) {
-        return Merged::Is(merge_text(&s[from..to], &s[a..e], o));
+    if !has_backslash(src) {
+        return Merged::Is(merge_text(name, src, o));
     }
-    let n = unescaped_len(&s[a..e]);
+    let n = unescaped_len(src);
     if base < n {
         return Merged::Is(o);
     }
-    if work.len() < base {
-        return Merged::Is(o);
-    }
-    Merged::Is(merge_text(&s[from..to], &work[base - n..base], o))
+    Merged::Is(merge_text(name, text_of(work, base - n, base), o))
 }
 
 // Merges the named arguments at `at`, whose texts end at `base` in the workspace.

@@ -20,9 +20,11 @@ ghost use Rattle.scope.specs.Meets.{world, env, Setup, Live, NamedIn, na
 ghost use Rattle.images.specs.Arguments.{Within, meant};
 ghost use Rattle.scope.specs.Values.{TakenAt, LiteralAt, NamedReads, Ranged, valueOfSome};
 ghost use Rattle.state.specs.Setters.{heldS};
+use crate::put::has_room;
 use crate::put::list_reference;
 use images::Given;
 use images::find_argument;
+use images::text_of;
 use numbers::literal::read_literal;
 use numbers::types::Literal;
 use numbers::types::Number;
@@ -106,46 +108,22 @@ pub fn literal_string(s: &[u8], work: &mut [u8], st: Scope, a: usize, e: usize) 
             value: Value::Wrong,
         };
     }
-    if e < a {
-        return Resolved {
-            st: st,
-            value: Value::Wrong,
-        };
-    }
-    if s.len() < e {
-        return Resolved {
-            st: st,
-            value: Value::Wrong,
-        };
-    }
-    if !has_backslash(&s[a..e]) {
+    let src = text_of(s, a, e);
+    if !has_backslash(src) {
         return Resolved {
             st: st,
             value: Value::Store(a, e),
         };
     }
-    let n = unescaped_len(&s[a..e]);
-    let front = st.front;
+    let n = unescaped_len(src);
+    if !has_room(st, n, work.len()) {
+        return Resolved {
+            st: refuse(st, 16),
+            value: Value::Wrong,
+        };
+    }
     let back = st.back;
-    if back < front {
-        return Resolved {
-            st: refuse(st, 16),
-            value: Value::Wrong,
-        };
-    }
-    if work.len() < back {
-        return Resolved {
-            st: refuse(st, 16),
-            value: Value::Wrong,
-        };
-    }
-    if back - front < n {
-        return Resolved {
-            st: refuse(st, 16),
-            value: Value::Wrong,
-        };
-    }
-    unescape_into(&s[a..e], work, back - n);
+    unescape_into(src, work, back - n);
     let s1 = kept(st, n, work.len());
     Resolved {
         st: s1,
