@@ -13,7 +13,7 @@ use Rattle.records.specs.Errors.{Error}
 use Rattle.bundle.specs.Lookup.{Holder, Find, partOf}
 use Rattle.resolution.specs.Effect.{Bytes, Trace, unfound, Locals, State, Out, M, Done, ret, _>>=_, _>>_, emit, write, isDirty, getLocals, maxPlaceables, enterIf, enter, onlyIf, entered, release}
 use Rattle.resolution.specs.Resolve.{Setting, Trail, mark, cutShort, namedValues, writeRefError, lookFor, lookUp, asTerm, asMessage, trackIf, track, onPart, messageFound, termFound, writeMessage, Given, pushed, writeResult, lastNamed, foundOr, variableIn, getVariable, writeVariable, writePattern, writeElements, writeElement, writeExpression, writeNth, writeVariant, writeInline, resolveInline, getArguments, resolve}
-use Rattle.scope.specs.Meets.{positionalValues}
+use Rattle.scope.specs.Relations.Members.{positionalValues}
 use Rattle.scope.proofs.Laws.{append-nil}
 
 abbrev out : {A : Type 0} → Trace → Bytes → ℕ → State → A → Out A

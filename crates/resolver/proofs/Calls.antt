@@ -26,7 +26,9 @@ use Rattle.resolution.specs.Resolve.{Trail, namedValues, Given, mergesOf, call,
 use Rattle.state.specs.declared.Scope.{Scope}
 use Rattle.state.specs.declared.Value as code-value
 use Rattle.state.specs.declared.Value.the-variants as val
-use Rattle.scope.specs.Meets.{World, world, Live, Ended, ended, stopped, Runs, Kept, Acts, NamedIn, namedTexts, Holds, in-store, in-args, in-work, is-number, is-nothing, is-wrong, Env, Setup, settingOf, findOf, crossOf, Here, ValueAt, positionalValues, FirstIs, first-none, first-number, first-other, PositionalAt, ResultIs, has-result, no-function, CalledAt, NamedAt, NumberAt}
+use Rattle.scope.specs.Relations.Meets.{World, world, Live, Ended, ended, stopped, Runs, Kept, Acts, NamedIn, namedTexts, Holds, in-store, in-args, in-work, is-number, is-nothing, is-wrong, Env, Setup, settingOf, findOf, crossOf}
+use Rattle.scope.specs.Relations.Leaves.{FirstIs, first-none, first-number, first-other, ResultIs, has-result, no-function, NamedAt, NumberAt}
+use Rattle.scope.specs.Relations.Members.{Here, ValueAt, positionalValues, PositionalAt, CalledAt}
 use Rattle.state.specs.Setters.{backS}
 use Rattle.scope.proofs.Laws.{Stays, stays, here-stays, kept-same, kept-then, runs-ret, runs-then, ended-then}
 use Rattle.scope.proofs.Steps.{runs-as}

@@ -20,7 +20,7 @@ use Rattle.resolution.specs.Format.{Answer, finished, refusedBefore, refusedRun
 use Rattle.layout.specs.Exact.{Octets}
 use Rattle.resolution.proofs.Formattings.{few-unfound}
 use Rattle.state.specs.declared.Scope.{Scope}
-use Rattle.scope.specs.Meets.{Env, env, Setup, settingOf, findOf}
+use Rattle.scope.specs.Relations.Meets.{Env, env, Setup, settingOf, findOf}
 use Rattle.state.specs.Setters.{maxUnfound}
 use Rattle.resolver.specs.declared.format.Answer as code-answer
 use Rattle.resolver.specs.declared.format.Answer.the-variants as ans

@@ -25,7 +25,9 @@ use Rattle.resolution.specs.Exec.{Limits, Machine}
 use Rattle.resolution.specs.Resolve.{Trail, getVariable, writeVariable, callFunction, writeResult, writeInline, getArguments}
 use Rattle.state.specs.declared.Value as code-value
 use Rattle.state.specs.declared.Value.the-variants as val
-use Rattle.scope.specs.Meets.{World, Live, Runs, Kept, Acts, Holds, is-number, Env, Setup, settingOf, findOf, crossOf, Here, ExpressionAt, InlineAt, MessageAt, TermAt, CalledAt, ResultAt, VariableAt}
+use Rattle.scope.specs.Relations.Meets.{World, Live, Runs, Kept, Acts, Holds, is-number, Env, Setup, settingOf, findOf, crossOf}
+use Rattle.scope.specs.Relations.Leaves.{ResultAt, VariableAt}
+use Rattle.scope.specs.Relations.Members.{Here, ExpressionAt, InlineAt, MessageAt, TermAt, CalledAt}
 use Rattle.scope.proofs.Laws.{kept-same, kept-then, ended-then}
 use Rattle.scope.proofs.Steps.{runs-as, runs-over}
 use Rattle.scope.proofs.Literals.{number-is, literal-ranged, id-short}

@@ -29,7 +29,9 @@ use Rattle.state.specs.declared.Scope.{Scope}
 use Rattle.state.specs.declared.Reference.{Reference}
 use Rattle.state.specs.declared.Referring.{Referring}
 use Rattle.state.specs.declared.Reference.the-variants as ref
-use Rattle.scope.specs.Meets.{World, world, Runs, Kept, Acts, Env, Setup, settingOf, findOf, crossOf, Here, ErrorAt, RefErrorAt, ReferenceIs, reads, unread, TrackAt, MessageAt, FoundTermAt}
+use Rattle.scope.specs.Relations.Meets.{World, world, Runs, Kept, Acts, Env, Setup, settingOf, findOf, crossOf}
+use Rattle.scope.specs.Relations.Leaves.{ErrorAt, RefErrorAt, ReferenceIs, reads, unread}
+use Rattle.scope.specs.Relations.Members.{Here, TrackAt, MessageAt, FoundTermAt}
 use Rattle.scope.proofs.Laws.{kept-same, kept-then, runs-then}
 use Rattle.scope.proofs.Steps.{runs-as, runs-over}
 use Rattle.resolver.proofs.Binds.{look-found, look-lost}

@@ -19,7 +19,9 @@ use Rattle.resolution.specs.Effect.{report, M, Done, ret, _>>=_, emit, release}
 use Rattle.resolution.specs.Resolve.{Setting, Trail, chosen, writePattern, writeExpression, writeNth, writeVariant, resolveInline}
 use Rattle.state.specs.declared.Scope.{Scope}
 use Rattle.state.specs.declared.Value as code-value
-use Rattle.scope.specs.Meets.{World, world, Runs, Kept, Acts, Holds, Env, Setup, settingOf, findOf, crossOf, patternOf, nthOf, Pick, picked, no-pick, PickAt, Here, PatternAt, SelectAt, ValueAt}
+use Rattle.scope.specs.Relations.Meets.{World, world, Runs, Kept, Acts, Holds, Env, Setup, settingOf, findOf, crossOf}
+use Rattle.scope.specs.Relations.Leaves.{patternOf, nthOf, Pick, picked, no-pick, PickAt}
+use Rattle.scope.specs.Relations.Members.{Here, PatternAt, SelectAt, ValueAt}
 use Rattle.state.specs.Setters.{backS}
 use Rattle.scope.proofs.Laws.{stays, here-stays, kept-same, kept-then, ended-then}
 use Rattle.scope.proofs.Steps.{runs-as, runs-over}

@@ -21,7 +21,9 @@ use Rattle.state.specs.declared.Value as code-value
 use Rattle.state.specs.declared.Reference.{Reference}
 use Rattle.state.specs.declared.Referring.{Referring}
 use Rattle.state.specs.declared.Reference.the-variants as ref
-use Rattle.scope.specs.Meets.{World, world, Live, LocalsAt, no-locals, some-locals, NamedIn, named-none, namedTexts, locals-cleared, Moved, Ended, ended, stopped, Runs, Kept, Env, Setup, settingOf, findOf, crossOf, Here, PositionalAt, NamedAt, ReferenceIs, FoundTermAt, TermAt}
+use Rattle.scope.specs.Relations.Meets.{World, world, Live, LocalsAt, no-locals, some-locals, NamedIn, named-none, namedTexts, locals-cleared, Moved, Ended, ended, stopped, Runs, Kept, Env, Setup, settingOf, findOf, crossOf}
+use Rattle.scope.specs.Relations.Leaves.{NamedAt, ReferenceIs}
+use Rattle.scope.specs.Relations.Members.{Here, PositionalAt, FoundTermAt, TermAt}
 use Rattle.state.specs.Setters.{localsS, clearS, backS}
 use Rattle.scope.proofs.Laws.{kept-same, kept-then, append-nil}
 use Rattle.scope.proofs.Steps.{runs-as, runs-over}

@@ -22,7 +22,9 @@ use Rattle.resolution.specs.Effect.{Bytes, report, State, Out, M, Done, emit, w
 use Rattle.resolution.specs.Exec.{Machine, Limits}
 use Rattle.resolution.specs.Resolve.{Setting, Trail, onTrail, bytesOf, braced, errorText, writeRefError, trackIf, track, writePattern, resolve}
 use Rattle.state.specs.declared.Scope.{Scope}
-use Rattle.scope.specs.Meets.{World, world, Live, LocalsStay, locals-same, locals-cleared, Moved, Ended, ended, stopped, Runs, Kept, Acts, trailOf, patternBytes, Env, Setup, settingOf, findOf, crossOf, Here, ErrorAt, PatternAt, TrackAt}
+use Rattle.scope.specs.Relations.Meets.{World, world, Live, LocalsStay, locals-same, locals-cleared, Moved, Ended, ended, stopped, Runs, Kept, Acts, trailOf, patternBytes, Env, Setup, settingOf, findOf, crossOf}
+use Rattle.scope.specs.Relations.Leaves.{ErrorAt}
+use Rattle.scope.specs.Relations.Members.{Here, PatternAt, TrackAt}
 use Rattle.state.specs.Setters.{depthS}
 use Rattle.scope.proofs.Laws.{kept-same, kept-then, runs-then}
 use Rattle.scope.proofs.Locals.{locals-alike}

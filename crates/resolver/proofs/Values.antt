@@ -24,7 +24,9 @@ use Rattle.resolution.specs.Resolve.{Trail, held, stringValue, getVariable, orW
 use Rattle.state.specs.declared.Scope.{Scope}
 use Rattle.state.specs.declared.Value as code-value
 use Rattle.state.specs.declared.Value.the-variants as val
-use Rattle.scope.specs.Meets.{World, world, Live, Ended, Runs, Kept, Holds, in-store, in-args, in-work, is-number as holds-number, is-nothing, is-wrong, Env, Setup, settingOf, findOf, crossOf, Here, InlineAt, ValueAt, TextValueAt, ResultIs, has-result, no-function, CalledAt, StringAt, VariableValueAt}
+use Rattle.scope.specs.Relations.Meets.{World, world, Live, Ended, Runs, Kept, Holds, in-store, in-args, in-work, is-number as holds-number, is-nothing, is-wrong, Env, Setup, settingOf, findOf, crossOf}
+use Rattle.scope.specs.Relations.Leaves.{ResultIs, has-result, no-function, StringAt, VariableValueAt}
+use Rattle.scope.specs.Relations.Members.{Here, InlineAt, ValueAt, TextValueAt, CalledAt}
 use Rattle.state.specs.Setters.{asideS, keptS}
 use Rattle.scope.proofs.Laws.{kept-same, runs-ret, ended-then}
 use Rattle.scope.proofs.Steps.{runs-as, runs-over}

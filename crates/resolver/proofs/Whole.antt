@@ -22,7 +22,8 @@ use Rattle.resolution.specs.Exec.{Machine, Limits, Ran, ran, refused, exec, sta
 use Rattle.resolution.specs.Format.{Buffers, limitsOf, maxPatterns, fresh, runPattern}
 use Rattle.walks.specs.Trail.{prefixed, patternBytes, trailOf}
 use Rattle.state.specs.declared.Scope.{Scope}
-use Rattle.scope.specs.Meets.{World, world, Live, LocalsAt, no-locals, Moved, Ended, ended, stopped, Env, env, Setup, settingOf, findOf, crossOf, Here, PatternAt}
+use Rattle.scope.specs.Relations.Meets.{World, world, Live, LocalsAt, no-locals, Moved, Ended, ended, stopped, Env, env, Setup, settingOf, findOf, crossOf}
+use Rattle.scope.specs.Relations.Members.{Here, PatternAt}
 use Rattle.state.specs.Setters.{depthS, maxUnfound, newS}
 use Rattle.scope.proofs.Puts.{errors-length}
 use Rattle.resolver.specs.Formats.{RanAs, ran-as, refused-as}

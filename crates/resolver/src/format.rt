@@ -14,7 +14,7 @@ ghost use mathlib.Core.Path.{_≡_};
 ghost use Rattle.resolution.specs.Format.{isIdOrNone};
 ghost use Rattle.resolver.specs.Formats.{PatternFound, RunAt, FinishAt, Formats};
 ghost use Rattle.texts.specs.Report.{optionOf};
-ghost use Rattle.scope.specs.Meets.{env};
+ghost use Rattle.scope.specs.Relations.Meets.{env};
 
 // What a formatting carries.
 pub struct Figures {

@@ -3,7 +3,8 @@
 ghost use mathlib.Core.Path.{_≡_};
 ghost use lib.ListN.{length, set};
 ghost use Rattle.state.specs.Setters.{newS, depthS};
-ghost use Rattle.scope.specs.Meets.{world, env, PatternAt};
+ghost use Rattle.scope.specs.Relations.Meets.{world, env};
+ghost use Rattle.scope.specs.Relations.Members.{PatternAt};
 use crate::write::write_pattern;
 use state::Scope;
 use state::enter;

@@ -1,6 +1,8 @@
 // Patterns, expressions and inline expressions write each other. What falls at each call: placeables left, then nesting, then stage.
 ghost use Prim.Native.Nat.{_+_};
-ghost use Rattle.scope.specs.Meets.{world, env, PatternAt, ElementAt, ExpressionAt, SelectAt, InlineAt, MessageAt, TrackAt, TermAt, FoundTermAt, ValueAt, TextValueAt, PositionalAt, CalledAt, ReferenceIs};
+ghost use Rattle.scope.specs.Relations.Meets.{world, env};
+ghost use Rattle.scope.specs.Relations.Leaves.{ReferenceIs};
+ghost use Rattle.scope.specs.Relations.Members.{PatternAt, ElementAt, ExpressionAt, SelectAt, InlineAt, MessageAt, TrackAt, TermAt, FoundTermAt, ValueAt, TextValueAt, PositionalAt, CalledAt};
 use bundle::Found;
 use bundle::find_holder;
 use bundle::find_part;

@@ -13,7 +13,7 @@ use denote.Enum.Declared.{tagOf}
 use lib.Seq.{paste, paste-suc, drop-paste, getD-take, getD-drop}
 use borrow.Author.Tests.{leb-true, leb-false}
 use Rattle.numbers.specs.Number.{Number, inRange, numberText, rangedText}
-use Rattle.numbers.specs.Value.{Value, textual, numeric, nothing, wrong, valueText}
+use Rattle.numbers.specs.Value.{Value, numeric, valueText}
 use Rattle.numbers.specs.Shown.{shown, told}
 use Rattle.numbers.specs.declared.types.Number as code-number
 use Rattle.numbers.proofs.Shown.{count-there}
@@ -35,7 +35,7 @@ use Rattle.state.specs.declared.Value.the-variants as val
 use Rattle.state.proofs.Value.{the-type}
 use Rattle.images.specs.Arguments.{between}
 use Rattle.images.proofs.Laws.{between-in}
-use Rattle.scope.specs.Meets.{world, Kept, Acts, Holds, in-store, in-args, in-work, is-number, is-nothing, is-wrong, listedS, storedText}
+use Rattle.scope.specs.Relations.Meets.{world, Kept, Acts, Holds, in-store, in-args, in-work, is-number, is-nothing, is-wrong, listedS, storedText}
 use Rattle.state.specs.Setters.{refuseS, textS, frontS, listS, upTo, maxUnfound}
 use Rattle.scope.proofs.Puts.{le-or-lt, put-text, put-text-full, put-work, list-full, list-in, error-some}
 

@@ -27,8 +27,8 @@ use Rattle.records.proofs.Views.{many-nil}
 use Rattle.scope.specs.declared.value.NamedSpan.{NamedSpan}
 use Rattle.scope.specs.declared.value.NamedRead as code-named
 use Rattle.scope.specs.declared.value.NamedRead.the-variants as named
-use Rattle.scope.specs.Meets.{takes, literalText, namedTexts, TextIn, NamedIn}
-use Rattle.scope.specs.Values.{LiteralIs, is-string, is-digits, NamedReads, TakenAt, MergedAt, mergedAll}
+use Rattle.scope.specs.Relations.Meets.{takes, literalText, namedTexts, TextIn, NamedIn}
+use Rattle.scope.specs.Relations.Values.{LiteralIs, is-string, is-digits, NamedReads, TakenAt, MergedAt, mergedAll}
 use Rattle.scope.proofs.Values.{takes-marked, text-of, named-first, named-never}
 use Rattle.scope.proofs.Named.{text-string, text-number, named-uncons}
 use Rattle.scope.proofs.Merges.{merge-text-is, merge-number-is, literal-is, literal-bad, all-long, all-next}

@@ -36,7 +36,8 @@ use Rattle.bundle.specs.Meets.{Passes}
 use Rattle.resolution.specs.Resolve.{matches, next as after-next, thisOr, firstBy, hasKey, isDefault, chosen}
 use Rattle.state.specs.declared.Value as code-value
 use Rattle.state.specs.declared.Value.the-variants as val
-use Rattle.scope.specs.Meets.{Pick, picked, no-pick, PickAt, nthOf, patternOf, Holds, in-store, in-args, in-work, is-number, is-nothing, is-wrong}
+use Rattle.scope.specs.Relations.Meets.{Holds, in-store, in-args, in-work, is-number, is-nothing, is-wrong}
+use Rattle.scope.specs.Relations.Leaves.{Pick, picked, no-pick, PickAt, nthOf, patternOf}
 use Rattle.scope.proofs.Literals.{number-is}
 
 -- the key that a kind and a Str from a to e are

@@ -29,8 +29,9 @@ use Rattle.state.specs.declared.Local.the-variants as loc
 use Rattle.scope.specs.declared.value.NamedSpan.{NamedSpan}
 use Rattle.scope.specs.declared.value.NamedRead as code-named
 use Rattle.scope.specs.declared.value.NamedRead.the-variants as named
-use Rattle.scope.specs.Meets.{takes, literalText, namedTexts, TextIn, NamedIn, named-more, in-store, in-work, is-number, LocalIs, is-there, is-missing}
-use Rattle.scope.specs.Values.{LiteralIs, is-string, is-digits, NamedReads, TakenAt, LiteralAt}
+use Rattle.scope.specs.Relations.Meets.{takes, literalText, namedTexts, TextIn, NamedIn, named-more, in-store, in-work, is-number}
+use Rattle.scope.specs.Relations.Leaves.{LocalIs, is-there, is-missing}
+use Rattle.scope.specs.Relations.Values.{LiteralIs, is-string, is-digits, NamedReads, TakenAt, LiteralAt}
 use Rattle.scope.proofs.Locals.{named-low}
 use Rattle.scope.proofs.Variables.{or-none}
 use Rattle.scope.proofs.Literals.{number-rule, literal-ranged}

@@ -2,13 +2,13 @@
 use mathlib.Core.Path.{_≡_, refl, ap, sym, subst, _∙_}
 use mathlib.Core.List.{List, [], _∷_, _++_, append-assoc}
 use mathlib.Core.Bool.{Bool, true, false}
-use mathlib.Core.Option.{Option, none, some}
+use mathlib.Core.Option.{Option}
 use Prim.Native.Nat.{ℕ, _-_, _≤_}
 use native.Mathlib.Omega.{arith}
-use lib.ListN.{length, take}
-use Rattle.records.specs.Got.{Got, got, bad}
+use lib.ListN.{length}
+use Rattle.records.specs.Got.{got, bad}
 use Rattle.records.specs.Bytes.{part, byteAt, strAt}
-use Rattle.records.specs.Tree.{Inline, Arguments}
+use Rattle.records.specs.Tree.{Inline}
 use Rattle.records.specs.Decode.{idAt, optionalAt, expression, inline}
 use Rattle.records.proofs.Views.{both, never, id-str, term-elim, Body, is-string, is-number, is-function, is-message, is-term, is-variable, is-nested, inline-elim}
 use Rattle.texts.specs.Report.{optionOf}
@@ -21,7 +21,8 @@ use Rattle.state.specs.declared.Referring.{Referring}
 use Rattle.state.specs.declared.Reference as code-reference
 use Rattle.state.specs.declared.Reference.the-variants as ref
 use Rattle.scope.specs.declared.error.Pieces.{Pieces}
-use Rattle.scope.specs.Meets.{World, world, Acts, ErrorAt, errorWords, piecesText, nameless, partedPieces, referencePieces, PiecesAt, ReferenceIs, reads, unread}
+use Rattle.scope.specs.Relations.Meets.{World, world, Acts}
+use Rattle.scope.specs.Relations.Leaves.{ErrorAt, errorWords, piecesText, nameless, partedPieces, referencePieces, PiecesAt, ReferenceIs, reads, unread}
 use Rattle.scope.proofs.Laws.{append-nil}
 use Rattle.scope.proofs.Steps.{runs-as, acts-as}
 use Rattle.scope.proofs.Puts.{acts-join}

@@ -26,9 +26,10 @@ use Rattle.resolution.specs.Resolve.{noteMerges, mergesOf}
 use Rattle.state.specs.declared.Scope.{Scope}
 use Rattle.state.specs.declared.Value as code-value
 use Rattle.state.specs.declared.Value.the-variants as val
-use Rattle.scope.specs.Meets.{World, world, namedTexts, NamedIn, Runs, is-number, is-wrong, FirstIs, first-none, first-number, first-other, NumberAt}
+use Rattle.scope.specs.Relations.Meets.{World, world, namedTexts, NamedIn, Runs, is-number, is-wrong}
+use Rattle.scope.specs.Relations.Leaves.{FirstIs, first-none, first-number, first-other, NumberAt}
 use Rattle.state.specs.Setters.{refuseS}
-use Rattle.scope.specs.Values.{mergedAll}
+use Rattle.scope.specs.Relations.Values.{mergedAll}
 use Rattle.scope.proofs.Laws.{kept-same, runs-ret, runs-then}
 use Rattle.scope.proofs.Steps.{runs-over, runs-as}
 use Rattle.scope.proofs.Merges.{notes-fine, notes-long}

@@ -1,20 +1,18 @@
 -- Steps of the leaves over variables: an action under an equation, an expression that was cut short.
-use mathlib.Core.Path.{_≡_, refl, ap, sym, subst, _∙_}
-use mathlib.Core.List.{List, [], _∷_, _++_, append-assoc}
-use mathlib.Core.Bool.{Bool, true, false, _&&_, not}
-use mathlib.Core.Option.{Option, none, some}
-use Prim.Native.Nat.{ℕ, zero, suc, _+_, _-_, _≤_, _<_}
-use native.Mathlib.Omega.{arith}
-use lib.ListN.{length, take, drop}
-use Rattle.records.specs.Got.{Got, got, bad}
-use Rattle.records.specs.Bytes.{part, byteAt, numberAt, strAt}
-use Rattle.records.specs.Tree.{Expression, select, Inline, variable, function, message, term, nested, Arguments}
-use Rattle.records.specs.Decode.{idAt, optionalAt, stringAt, literalNumberAt, termAt, argumentsAt, expression, inline, selectAt}
-use Rattle.records.proofs.Views.{both, never, id-str, term-elim, select-elim, Body, is-string, is-number, is-function, is-message, is-term, is-variable, is-nested, inline-elim, expression-elim}
-use Rattle.resolution.specs.Effect.{Bytes, State, M, Done, ret, _>>=_, _>>_, emit, write, isDirty}
-use Rattle.resolution.specs.Resolve.{dotted, braced, errorText, errorOf, cutShort, mark}
+use mathlib.Core.Path.{_≡_, ap, sym, subst, _∙_}
+use mathlib.Core.List.{List}
+use mathlib.Core.Bool.{true, false}
+use Prim.Native.Nat.{ℕ, _-_}
+use Rattle.records.specs.Got.{got, bad}
+use Rattle.records.specs.Bytes.{byteAt}
+use Rattle.records.specs.Tree.{Expression}
+use Rattle.records.specs.Decode.{expression, inline}
+use Rattle.records.proofs.Views.{both, never, select-elim, expression-elim}
+use Rattle.resolution.specs.Effect.{M, write}
+use Rattle.resolution.specs.Resolve.{braced, errorOf, cutShort, mark}
 use Rattle.state.specs.declared.Scope.{Scope}
-use Rattle.scope.specs.Meets.{World, world, Live, Runs, Kept, Acts, ErrorAt, CutAt}
+use Rattle.scope.specs.Relations.Meets.{World, world, Runs, Acts}
+use Rattle.scope.specs.Relations.Leaves.{ErrorAt, CutAt}
 use Rattle.scope.proofs.Laws.{kept-same, runs-ret, runs-dirty}
 use Rattle.scope.proofs.Puts.{acts-over}
 

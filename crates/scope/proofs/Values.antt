@@ -31,9 +31,10 @@ use Rattle.state.specs.declared.Value.the-variants as val
 use Rattle.scope.specs.declared.value.NamedSpan.{NamedSpan}
 use Rattle.scope.specs.declared.value.NamedRead as code-named
 use Rattle.scope.specs.declared.value.NamedRead.the-variants as named
-use Rattle.scope.specs.Meets.{World, world, takesIf, takes, literalText, namedTexts, TextIn, NamedIn, named-none, named-more, Live, Moved, Ended, ended, stopped, Runs, Kept, locals-same, in-store, in-work, StringAt, NamedAt}
+use Rattle.scope.specs.Relations.Meets.{World, world, takesIf, takes, literalText, namedTexts, TextIn, NamedIn, named-none, named-more, Live, Moved, Ended, ended, stopped, Runs, Kept, locals-same, in-store, in-work}
+use Rattle.scope.specs.Relations.Leaves.{StringAt, NamedAt}
 use Rattle.state.specs.Setters.{refuseS, heldS}
-use Rattle.scope.specs.Values.{LiteralIs, is-string, is-digits, NamedReads}
+use Rattle.scope.specs.Relations.Values.{LiteralIs, is-string, is-digits, NamedReads}
 use Rattle.scope.proofs.Laws.{kept-same, kept-then, append-nil, aside-nil, ended-then, runs-ret}
 use Rattle.scope.proofs.Locals.{locals-stay, named-high, text-stays}
 use Rattle.scope.proofs.Puts.{le-or-lt, workM}
@@ -105,9 +106,6 @@ text-of w base t h x = sym (ap (λ (n : ℕ). part w (base - n) n) (takes-marked
 module _ (i : List ℕ) (a e : ℕ) (w : List ℕ) (st : Scope) where
   pub string-over : {c : code-value.Value} → (st .refused ≡ 0 → ⊥) → StringAt i a e w st w st c
   string-over h = record { kept = λ x l t. kept-same _; runs = λ _ _ x l t. runs-over _ _ h; size = refl; holds = λ _ _ args x l t L s k lv. absurd (h (lv .go)); text = λ _ _ x l t L s k lv. absurd (h (lv .go)) }
-
-  pub string-out : {c : code-value.Value} → (a ≤ e → e ≤ length i → ⊥) → StringAt i a e w st w st c
-  string-out h = record { kept = λ x l t. kept-same _; runs = λ p q. absurd (h p q); size = refl; holds = λ p q. absurd (h p q); text = λ p q. absurd (h p q) }
 
   pub string-here : hasBackslash (part i a (e - a)) ≡ false → StringAt i a e w st w st (val.Store a e)
   string-here h = record {

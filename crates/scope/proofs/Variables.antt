@@ -34,8 +34,9 @@ use Rattle.state.specs.declared.Value as code-value
 use Rattle.state.specs.declared.Value.the-variants as val
 use Rattle.state.specs.declared.Local as code-local
 use Rattle.state.specs.declared.Local.the-variants as loc
-use Rattle.scope.specs.Meets.{World, world, Live, namedTexts, NamedIn, LocalsAt, no-locals, some-locals, Ended, Runs, Kept, Acts, Holds, in-store, in-args, in-work, is-number, is-nothing, is-wrong, LocalIs, is-there, is-missing, variableOf, env, Setup, MissingAt, VariableAt, VariableValueAt}
-use Rattle.scope.specs.Values.{valueOfSome, Ranged}
+use Rattle.scope.specs.Relations.Meets.{World, world, Live, namedTexts, NamedIn, LocalsAt, no-locals, some-locals, Ended, Runs, Kept, Acts, Holds, in-store, in-args, in-work, is-number, is-nothing, is-wrong, env, Setup}
+use Rattle.scope.specs.Relations.Leaves.{LocalIs, is-there, is-missing, variableOf, MissingAt, VariableAt, VariableValueAt}
+use Rattle.scope.specs.Relations.Values.{valueOfSome, Ranged}
 use Rattle.scope.proofs.Laws.{kept-same, kept-then, ended-none, ended-then, runs-ret, runs-then}
 
 -- of equal names the last: by either definition

@@ -15,7 +15,8 @@ use Rattle.resolution.specs.Effect.{Bytes, report, _>>_, emit, write}
 use Rattle.resolution.specs.Resolve.{braced, writeRefError, writeResult}
 use Rattle.state.specs.declared.Value as code-value
 use Rattle.state.specs.declared.Value.the-variants as val
-use Rattle.scope.specs.Meets.{World, env, Kept, Acts, Holds, in-store, in-args, in-work, is-number, is-nothing, is-wrong, ResultIs, has-result, no-function, ResultAt}
+use Rattle.scope.specs.Relations.Meets.{World, env, Kept, Acts, Holds, in-store, in-args, in-work, is-number, is-nothing, is-wrong}
+use Rattle.scope.specs.Relations.Leaves.{ResultIs, has-result, no-function, ResultAt}
 use Rattle.scope.proofs.Laws.{kept-then, acts-then}
 use Rattle.scope.proofs.Steps.{runs-as}
 use Rattle.scope.proofs.Variables.{part-small}

@@ -1,6 +1,6 @@
 // `write_error` by positions: what stands in the place of an expression that has an error.
 ghost use mathlib.Core.Path.{_≡_};
-ghost use Rattle.scope.specs.Meets.{PiecesAt, nameless, referencePieces};
+ghost use Rattle.scope.specs.Relations.Leaves.{PiecesAt, nameless, referencePieces};
 use crate::reference::read_reference;
 use records::Num;
 use records::read_byte;

@@ -6,7 +6,7 @@ ghost use mathlib.Core.Option.{Option, some, none};
 ghost use Prim.Native.Nat.{ℕ, _+_, _-_, _≤_, _<_};
 ghost use lib.ListN.{length};
 ghost use Rattle.texts.specs.Report.{referredOf};
-ghost use Rattle.scope.specs.Meets.{ReferenceIs, RefErrorAt, TooMany};
+ghost use Rattle.scope.specs.Relations.Leaves.{ReferenceIs, RefErrorAt, TooMany};
 ghost use Rattle.state.specs.Setters.{begunS};
 use crate::put::list_plain;
 use crate::put::list_reference;

@@ -46,7 +46,8 @@ use denote.Triple.Table.{entered, cited}
 use denote.Triple.Walked.{says, Stays, stay-dropped, gave-ref, gave-slice, walkOf, goes-dropped, goes-gave-ref, goes-gave-slice, Walks, ends-at, walked, walk-meets}
 use denote.Exit.{yes}
 use Rattle.state.specs.declared.Scope.{Scope}
-use Rattle.scope.specs.Meets.{world, env, PatternAt}
+use Rattle.scope.specs.Relations.Meets.{world, env}
+use Rattle.scope.specs.Relations.Members.{PatternAt}
 use Rattle.state.specs.Setters.{depthS, newS}
 use Rattle.state.proofs.Scope as T
 use Rattle.state.proofs.Scope.Laws as T′

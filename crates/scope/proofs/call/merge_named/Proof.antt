@@ -5,8 +5,8 @@ use Rattle.records.specs.Decode.{many, namedAt}
 use Rattle.records.specs.Got.{got}
 use Rattle.records.specs.Tree.{Named}
 use Rattle.scope.proofs.Calls.{Merging, merging-end, merging-long, merging-never, merging-next, merging-room}
-use Rattle.scope.specs.Meets.{NamedIn, namedTexts}
-use Rattle.scope.specs.Values.{mergedAll}
+use Rattle.scope.specs.Relations.Meets.{NamedIn, namedTexts}
+use Rattle.scope.specs.Relations.Values.{mergedAll}
 use borrow.Author.Needs.{needs}
 use mathlib.Core.List.{[], _∷_}
 use mathlib.Core.Path.{_≡_, refl}

@@ -1,5 +1,5 @@
 -- `scope::error::reference_pieces` meets its contract.
-use Rattle.scope.specs.Meets.{partedPieces}
+use Rattle.scope.specs.Relations.Leaves.{partedPieces}
 use Rattle.scope.proofs.Pieces.{reference-bad, reference-is}
 use mathlib.Core.Path.{_∙_}
 use borrow.Author.Needs.{needs}

@@ -1,7 +1,6 @@
 -- `scope::put::has_room` meets its contract.
 use Rattle.scope.proofs.Buffers.{room-none, room-test}
 use native.Mathlib.Omega.{arith}
-use borrow.Author.Needs.{needs}
 use Rattle.scope.proofs.put.has_room.Statement.{statement}
 use Rattle.scope.proofs.put.has_room.Tie as tie
 

@@ -2,7 +2,7 @@
 use Prim.Native.Nat.{_-_, _≤_, ℕ}
 use Rattle.records.proofs.Views.{num-is, num-none}
 use Rattle.resolver.proofs.Calls.{InlinesAt, Taken, inlines-more, inlines-none, inlines-stop, none-yet, positional-all, positional-none, taken-first, taken-later, taken-most}
-use Rattle.scope.specs.Meets.{World, env, world}
+use Rattle.scope.specs.Relations.Meets.{World, env, world}
 use borrow.Author.Needs.{needs}
 use lib.ListN.{length}
 use mathlib.Core.Logic.{⊎-elim}

@@ -2,7 +2,8 @@
 use Prim.Native.Nat.{_≤_, ℕ}
 use Rattle.records.proofs.Views.{num-is, num-none}
 use Rattle.resolver.proofs.Elements.{elements-more, elements-none, elements-stop, pattern-all, pattern-none, pattern-worse}
-use Rattle.scope.specs.Meets.{ElementsAt, World, env, world}
+use Rattle.scope.specs.Relations.Meets.{World, env, world}
+use Rattle.scope.specs.Relations.Members.{ElementsAt}
 use borrow.Author.Needs.{needs}
 use lib.ListN.{length}
 use mathlib.Core.Path.{_∙_, _≡_, refl}

@@ -1,7 +1,7 @@
 -- What the code that reads, finds and merges named arguments ensures.
 use mathlib.Core.Path.{_≡_}
 use mathlib.Core.List.{List, [], _∷_}
-use mathlib.Core.Bool.{Bool, true, false}
+use mathlib.Core.Bool.{true, false}
 use mathlib.Core.Option.{Option, none, some}
 use Prim.Native.Nat.{ℕ, _-_, _≤_, _<_}
 use lib.ListN.{length}
@@ -17,12 +17,11 @@ use Rattle.records.specs.Tree.{Literal}
 use Rattle.records.specs.Decode.{namedAt}
 use Rattle.records.specs.Images.{Argument}
 use Rattle.resolution.specs.Format.{valueOf}
-use Rattle.state.specs.declared.Scope.{Scope}
 use Rattle.state.specs.declared.Value as code-value
 use Rattle.scope.specs.declared.value.NamedSpan.{NamedSpan}
 use Rattle.scope.specs.declared.value.NamedRead as code-named
 use Rattle.scope.specs.declared.value.NamedRead.the-variants as named
-use Rattle.scope.specs.Meets.{takes, literalText, TextIn, Holds}
+use Rattle.scope.specs.Relations.Meets.{takes, literalText, TextIn, Holds}
 
 -- a literal, by its tag and where its bytes stand
 pub data LiteralIs (s : List ℕ) (tag a e : ℕ) (x : Literal) : Type 0 where
