@@ -135,23 +135,7 @@ pub fn number_function(
                 },
             }
         }
-        Value::Store(_, _) => Resolved {
-            st: st,
-            value: Value::Wrong,
-        },
-        Value::Args(_, _) => Resolved {
-            st: st,
-            value: Value::Wrong,
-        },
-        Value::Work(_, _) => Resolved {
-            st: st,
-            value: Value::Wrong,
-        },
-        Value::Nothing => Resolved {
-            st: st,
-            value: Value::Wrong,
-        },
-        Value::Wrong => Resolved {
+        _ => Resolved {
             st: st,
             value: Value::Wrong,
         },

@@ -69,11 +69,7 @@ fn is_wrong(value: Value) -> bool
 {
     match value {
         Value::Wrong => true,
-        Value::Store(_, _) => false,
-        Value::Args(_, _) => false,
-        Value::Work(_, _) => false,
-        Value::Number(_) => false,
-        Value::Nothing => false,
+        _ => false,
     }
 }
 
