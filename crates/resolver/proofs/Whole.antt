@@ -20,7 +20,7 @@ use Rattle.resolution.specs.Effect.{Bytes, State, Out, Done}
 use Rattle.resolution.specs.Resolve.{Trail, bytesOf, resolve}
 use Rattle.resolution.specs.Exec.{Machine, Limits, Ran, ran, refused, exec, start}
 use Rattle.resolution.specs.Format.{Buffers, limitsOf, maxPatterns, fresh, runPattern}
-use Rattle.walks.specs.Trail.{prefixed, patternBytes, trailOf}
+use Rattle.walks.specs.Relations.Trail.{prefixed, patternBytes, trailOf}
 use Rattle.state.specs.declared.Scope.{Scope}
 use Rattle.scope.specs.Meets.{World, world, Live, LocalsAt, no-locals, Moved, Ended, ended, stopped, Env, env, Setup, settingOf, findOf, crossOf, Here, PatternAt}
 use Rattle.state.specs.Setters.{depthS, maxUnfound, newS}

@@ -4,6 +4,8 @@ ghost use Rattle.scope.specs.Meets.{world, env, PatternAt, ElementAt, Expressio
 use bundle::Found;
 use bundle::find_holder;
 use bundle::find_part;
+use heads::has_marks;
+use heads::isolates;
 use records::Next;
 use records::Num;
 use records::read_byte;
@@ -47,8 +49,6 @@ use state::set_locals;
 use texts::Plain;
 use texts::Referred;
 use texts::move_back;
-use walks::has_marks;
-use walks::isolates;
 use walks::on_trail;
 use walks::skip_element;
 use walks::skip_expression;

@@ -23,7 +23,7 @@ use Rattle.texts.specs.Report.{optionOf}
 use Rattle.texts.specs.declared.Wrote.{Wrote}
 use Rattle.texts.specs.declared.Wrote.the-variants as wrote
 use Rattle.bundle.specs.Lookup.{Find, findIn}
-unfoldable pub use Rattle.walks.specs.Trail.{prefixed, patternBytes, trailOf}
+unfoldable pub use Rattle.walks.specs.Relations.Trail.{prefixed, patternBytes, trailOf}
 use Rattle.state.specs.declared.Scope.{Scope}
 use Rattle.state.specs.declared.Value as code-value
 use Rattle.state.specs.declared.Value.the-variants as val

@@ -15,6 +15,7 @@ ghost use Rattle.records.specs.Tree.{Key};
 ghost use Rattle.records.specs.Images.{Store, storeOf};
 ghost use Rattle.resolution.specs.Resolve.{matches, firstBy, hasKey, isDefault, chosen};
 ghost use Rattle.scope.specs.Meets.{Holds, PickAt};
+use heads::locale_of;
 use images::text_of;
 use numbers::equal::same_number;
 use numbers::literal::read_literal;
@@ -29,7 +30,6 @@ use records::read_str;
 use records::read_u16;
 use records::same_bytes;
 use state::Value;
-use walks::locale_of;
 use walks::skip_pattern;
 
 // `matches` of a key and a text: an Id key of equal bytes.

@@ -14,7 +14,7 @@ use Rattle.records.specs.Names.{sameBytes}
 use Rattle.records.proofs.Laws.{number-inv}
 use Rattle.records.proofs.Named.{clash}
 use Rattle.resolution.specs.Resolve.{onTrail}
-use Rattle.walks.specs.Trail.{EndAt, end-at, no-end, patternBytes, prefixed, trailOf}
+use Rattle.walks.specs.Relations.Trail.{EndAt, end-at, no-end, patternBytes, prefixed, trailOf}
 
 -- the bytes of the pattern at a position
 module _ (s : List ℕ) (p : ℕ) where

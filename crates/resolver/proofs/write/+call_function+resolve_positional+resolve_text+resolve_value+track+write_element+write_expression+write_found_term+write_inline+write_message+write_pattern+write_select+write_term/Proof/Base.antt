@@ -64,7 +64,7 @@ use Rattle.state.proofs.set_depth.Reads as set-depth-reads
 use Rattle.scope.proofs.put.put.Reads as put-reads
 use Rattle.scope.proofs.reference.too_many.Reads as too-many-reads
 use Rattle.state.proofs.begin.Reads as begin-reads
-use Rattle.walks.proofs.has_marks.Reads as has-marks-reads
+use Rattle.heads.proofs.has_marks.Reads as has-marks-reads
 use Rattle.scope.proofs.put.put_fsi.Reads as put-fsi-reads
 use Rattle.scope.proofs.put.put_cut.Reads as put-cut-reads
 use Rattle.scope.proofs.put.put_pdi.Reads as put-pdi-reads
@@ -77,7 +77,7 @@ use Rattle.scope.proofs.variable.write_variable.Reads as write-variable-reads
 use Rattle.scope.proofs.variable.write_result.Reads as write-result-reads
 use Rattle.scope.proofs.put.list_no_value.Reads as list-no-value-reads
 use Rattle.records.proofs.read_u32.Reads as read-u32-reads
-use Rattle.walks.proofs.isolates.Reads as isolates-reads
+use Rattle.heads.proofs.isolates.Reads as isolates-reads
 use Rattle.walks.proofs.skip_element.Reads as skip-element-reads
 use Rattle.scope.proofs.select.choose.Reads as choose-reads
 use Rattle.state.proofs.set_locals.Reads as set-locals-reads

@@ -1,10 +1,10 @@
--- `walks::is_bare` meets its contract: the tag of an expression tells whether it stands bare.
+-- `heads::is_bare` meets its contract: the tag of an expression tells whether it stands bare.
 use Rattle.records.proofs.Views.{num-is, num-none}
-use Rattle.walks.proofs.Heads.{bare-bad, bare-is, bareTag}
+use Rattle.heads.proofs.Heads.{bare-bad, bare-is, bareTag}
 use borrow.Author.Needs.{needs}
 use borrow.Author.Tests.{eq-eqb, ne-eqb}
-use Rattle.walks.proofs.is_bare.Statement.{statement}
-use Rattle.walks.proofs.is_bare.Tie as tie
+use Rattle.heads.proofs.is_bare.Statement.{statement}
+use Rattle.heads.proofs.is_bare.Tie as tie
 
 read-byte-requires : tie.Need-read-byte-requires
 read-byte-requires c κs = search needs

@@ -1,10 +1,10 @@
--- `walks::isolates` meets its contract: the seventh byte of a store is its isolating Flag.
-use Rattle.walks.proofs.Heads.{flag-is, flag-there}
+-- `heads::isolates` meets its contract: the seventh byte of a store is its isolating Flag.
+use Rattle.heads.proofs.Heads.{flag-is, flag-there}
 use borrow.Author.Needs.{needs}
 use borrow.Author.Tests.{le-ltb, lt-ltb}
 use denote.Ref.{now}
-use Rattle.walks.proofs.isolates.Statement.{statement}
-use Rattle.walks.proofs.isolates.Tie as tie
+use Rattle.heads.proofs.isolates.Statement.{statement}
+use Rattle.heads.proofs.isolates.Tie as tie
 
 returns : tie.Need-returns
 returns c = λ st e h. rw (le-ltb 1 _ (c .if1 .taken))

@@ -14,6 +14,8 @@ use Rattle.records.specs.Images.{Store, storeOf}
 use Rattle.records.proofs.Views.{both, never, flag-elim, select-elim, term-elim, Body, is-string, is-number, is-function, is-message, is-term, is-variable, is-nested, inline-elim, expression-elim}
 use Rattle.images.proofs.Views.{byte-inv, store-elim}
 use Rattle.resolution.specs.Resolve.{bare, bareInline}
+use Rattle.heads.specs.Tags.{textTag}
+use borrow.Author.Tests.{eqb-true}
 
 -- a store: its sixth byte is its locale, its seventh its isolating Flag
 module _ (s : List ℕ) {x : Store} {e : ℕ} (h : storeOf s ≡ got x e) where
@@ -58,3 +60,20 @@ module _ (s : List ℕ) (at d : ℕ) {x : Expression} {f : ℕ} (h : expression 
       body i t q (is-term u ht) e = term-elim _ s q ht (λ _ _ _ _ _ _ _ _ w. rw w (rw u at e))
       body i t q (is-variable _ u _ w) e = rw w (rw u at e)
       body i t q (is-nested _ u _ w) e = rw w (rw u at e)
+
+-- the tags of inline expressions whose values are texts of their own
+pub text-tag : (t : ℕ) {C : Type 0} → textTag t ≡ true → (t ≡ 4 → C) → (t ≡ 5 → C) → (t ≡ 7 → C) → C
+unfolding textTag
+text-tag t {C} h c4 c5 c7 = go (eqb t 4) refl (eqb t 5) refl h
+  where
+    go : (a : Bool) → eqb t 4 ≡ a → (b : Bool) → eqb t 5 ≡ b → a || (b || eqb t 7) ≡ true → C
+    go true e4 b e5 h = c4 (eqb-true t 4 e4)
+    go false e4 true e5 h = c5 (eqb-true t 5 e5)
+    go false e4 false e5 h = c7 (eqb-true t 7 h)
+
+pub no-text-tag : (t : ℕ) → textTag t ≡ false → (t ≡ 4 → ⊥) × (t ≡ 5 → ⊥) × (t ≡ 7 → ⊥)
+unfolding textTag
+no-text-tag t h = (λ e. differ (ap textTag (sym e) ∙ h), λ e. differ (ap textTag (sym e) ∙ h), λ e. differ (ap textTag (sym e) ∙ h))
+  where
+    differ : true ≡ false → ⊥
+    differ e = let z : _≡_ {A = ℕ} 0 1 = cc in absurd (omega arith)

@@ -1,9 +1,9 @@
--- `walks::locale_of` meets its contract: the sixth byte of a store is its locale.
-use Rattle.walks.proofs.Heads.{locale-is, locale-there}
+-- `heads::locale_of` meets its contract: the sixth byte of a store is its locale.
+use Rattle.heads.proofs.Heads.{locale-is, locale-there}
 use borrow.Author.Needs.{needs}
 use denote.Ref.{now}
-use Rattle.walks.proofs.locale_of.Statement.{statement}
-use Rattle.walks.proofs.locale_of.Tie as tie
+use Rattle.heads.proofs.locale_of.Statement.{statement}
+use Rattle.heads.proofs.locale_of.Tie as tie
 
 returns : tie.Need-returns
 returns c = λ st e h. locale-there (now (c .before .args .s)) h (c .if1 .taken)

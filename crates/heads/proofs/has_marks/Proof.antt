@@ -1,9 +1,9 @@
--- `walks::has_marks` meets its contract: only what does not stand bare has marks, and only where marks are written.
+-- `heads::has_marks` meets its contract: only what does not stand bare has marks, and only where marks are written.
 use borrow.Author.Needs.{needs}
 use mathlib.Core.Bool.{not}
 use mathlib.Core.Path.{ap}
-use Rattle.walks.proofs.has_marks.Statement.{statement}
-use Rattle.walks.proofs.has_marks.Tie as tie
+use Rattle.heads.proofs.has_marks.Statement.{statement}
+use Rattle.heads.proofs.has_marks.Tie as tie
 
 is-bare-requires : tie.Need-is-bare-requires
 is-bare-requires c κs = search needs
