@@ -26,7 +26,8 @@ use Rattle.resolver.specs.declared.format.Answer as code-answer
 use Rattle.resolver.specs.declared.format.Answer.the-variants as ans
 use Rattle.resolver.specs.declared.format.Part as code-part
 use Rattle.resolver.specs.declared.format.Part.the-variants as part-answer
-use Rattle.resolver.specs.Formats.{answerOf, stoppedOf, Formats, PatternFound, refuses, finds, RanAs, ran-as, refused-as, RunAt, FinishAt}
+use Rattle.resolver.specs.Formats.{answerOf, Formats}
+use Rattle.resolver.specs.Relations.Runs.{stoppedOf, PatternFound, refuses, finds, RanAs, ran-as, refused-as, RunAt, FinishAt}
 use Rattle.resolver.proofs.Whole.{buffers}
 
 -- the count of lookups unfound is never so high that it stops

@@ -21,7 +21,7 @@ use Rattle.state.specs.Setters.{maxUnfound}
 use Rattle.scope.proofs.Puts.{errors-length}
 use Rattle.resolver.specs.declared.format.Answer as code-answer
 use Rattle.resolver.specs.declared.format.Answer.the-variants as ans
-use Rattle.resolver.specs.Formats.{stoppedOf, RanAs, ran-as, refused-as, FinishAt}
+use Rattle.resolver.specs.Relations.Runs.{stoppedOf, RanAs, ran-as, refused-as, FinishAt}
 use Rattle.resolver.proofs.Whole.{buffers, front-is}
 
 header-size : (n : ℕ) → length (header n) ≡ 5

@@ -14,3 +14,5 @@ pub mod Whole
 pub mod Ends
 pub mod Patterns
 pub mod Finish
+pub mod Targets
+pub mod Answers

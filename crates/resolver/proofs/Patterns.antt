@@ -22,7 +22,7 @@ use Rattle.resolution.specs.Resolve.{asMessage, messageOnly}
 use Rattle.resolution.specs.Format.{Buffers, refuse, orRefuse, isIdOrNone, formatPart, formatEntry, formatStore, format}
 use Rattle.resolver.specs.declared.format.Part as code-part
 use Rattle.resolver.specs.declared.format.Part.the-variants as part-answer
-use Rattle.resolver.specs.Formats.{PatternFound, refuses, finds}
+use Rattle.resolver.specs.Relations.Runs.{PatternFound, refuses, finds}
 
 -- the attribute that is asked for, named twice
 pub part-asked : (s : Bytes) (t : Bool) (b : Bytes) (x : Entry) {n : Next} → PartAt s (partOf (asked t b) x) n → PartAt s (partOf (optionOf t b) x) n

@@ -32,6 +32,8 @@ use Rattle.scope.proofs.Capture.{opened, live-opened, ended-capture, holds-capt
 use Rattle.scope.proofs.Literals.{number-is, literal-ranged, id-short}
 use Rattle.resolver.proofs.Bodies.{string-body, number-body, message-body, term-body, variable-body, nested-body, str-body, function-body}
 use Rattle.scope.proofs.Values.{string-value}
+use Rattle.heads.specs.Tags.{textTag}
+use Rattle.heads.proofs.Heads.{text-tag}
 
 -- a value, or Error where there is none: nothing more is done
 runs-or : (o : Option Value) (w : World) → Runs (orWrong o) w w
@@ -69,17 +71,20 @@ module _ (e : Env) (left at : ℕ) where
             subst (λ (q : M Value). Holds (e .store) (e .args) (v .work) (v .st .back) c (q s .value)) (sym (is u n t y f k)) (g .holds u y f k n t here L s m lv z);
       }
 
-      pub value-message : tag ≡ 4 → ValueAt e left at w v c
+      value-message : tag ≡ 4 → ValueAt e left at w v c
       unfolding resolveInline
       value-message h = value-text (λ u n t y f k. message-body (e .store) at tag p hb left k h (λ i q a hn ha ey. rw ey))
 
-      pub value-term : tag ≡ 5 → ValueAt e left at w v c
+      value-term : tag ≡ 5 → ValueAt e left at w v c
       unfolding resolveInline
       value-term h = value-text (λ u n t y f k. term-body (e .store) at tag p hb left k h (λ i q a j r z hn ha hr ey. rw ey))
 
-      pub value-nested : tag ≡ 7 → ValueAt e left at w v c
+      value-nested : tag ≡ 7 → ValueAt e left at w v c
       unfolding resolveInline
       value-nested h = value-text (λ u n t y f k. nested-body (e .store) at tag p hb left k h (λ x hx ey. rw ey))
+
+      pub value-of-text : textTag tag ≡ true → ValueAt e left at w v c
+      value-of-text h = text-tag tag h value-message value-term value-nested
 
     -- no Str stands past the tag: never
     pub value-worse : (w : World) (c : code-value.Value) → (tag ≡ 4 → ⊥) → (tag ≡ 5 → ⊥) → (tag ≡ 7 → ⊥) → strAt (e .store) p ≡ bad → ValueAt e left at w w c

@@ -25,7 +25,7 @@ use Rattle.state.specs.declared.Scope.{Scope}
 use Rattle.scope.specs.Meets.{World, world, Live, LocalsAt, no-locals, Moved, Ended, ended, stopped, Env, env, Setup, settingOf, findOf, crossOf, Here, PatternAt}
 use Rattle.state.specs.Setters.{depthS, maxUnfound, newS}
 use Rattle.scope.proofs.Puts.{errors-length}
-use Rattle.resolver.specs.Formats.{RanAs, ran-as, refused-as}
+use Rattle.resolver.specs.Relations.Runs.{RanAs, ran-as, refused-as}
 
 -- the state in which a run begins
 abbrev pub scope0 : List ℕ → Scope

@@ -12,7 +12,8 @@ use texts::fill_zero;
 use texts::put_header;
 ghost use mathlib.Core.Path.{_≡_};
 ghost use Rattle.resolution.specs.Format.{isIdOrNone};
-ghost use Rattle.resolver.specs.Formats.{PatternFound, RunAt, FinishAt, Formats};
+ghost use Rattle.resolver.specs.Formats.{Formats};
+ghost use Rattle.resolver.specs.Relations.Runs.{PatternFound, RunAt, FinishAt};
 ghost use Rattle.texts.specs.Report.{optionOf};
 ghost use Rattle.scope.specs.Meets.{env};
 

@@ -4,7 +4,7 @@ ghost use mathlib.Core.Path.{_≡_};
 ghost use lib.ListN.{length, set};
 ghost use Rattle.state.specs.Setters.{newS, depthS};
 ghost use Rattle.scope.specs.Meets.{world, env, PatternAt};
-use crate::write::write_pattern;
+use crate::pattern;
 use state::Scope;
 use state::enter;
 use state::new;
@@ -23,7 +23,7 @@ pub fn write(
 )
     ensures { λ _. ⌜ PatternAt (env (now (store .entry)) (now (args .entry))) left at (world (now (store .entry)) (now (text .entry)) (now (list .entry)) (now (work .entry)) (now (trail .entry)) (now (scope .entry))) (world (now (store .entry)) (now (text .exit)) (now (list .exit)) (now (work .exit)) (now (trail .exit)) (now (scope .exit))) ⌝ }
 {
-    *scope = write_pattern(store, args, text, list, work, trail, *scope, left, at);
+    *scope = pattern::write(store, args, text, list, work, trail, *scope, left, at);
 }
 
 // `Pattern::resolve`, at a scope of its own: it is made here, lent down the whole formatting of the pattern at q, and handed on as it is then.

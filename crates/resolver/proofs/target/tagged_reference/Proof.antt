@@ -1,8 +1,8 @@
--- `resolver::write::tagged_reference` meets its contract: past the store's end nothing is read, and before it the tag takes one byte.
+-- `resolver::target::tagged_reference` meets its contract: past the store's end nothing is read, and before it the tag takes one byte.
 use Rattle.resolver.proofs.References.{reference-past}
 use borrow.Author.Needs.{needs}
-use Rattle.resolver.proofs.write.tagged_reference.Statement.{statement}
-use Rattle.resolver.proofs.write.tagged_reference.Tie as tie
+use Rattle.resolver.proofs.target.tagged_reference.Statement.{statement}
+use Rattle.resolver.proofs.target.tagged_reference.Tie as tie
 
 returns : tie.Need-returns
 returns c = reference-past _ _ (c .if1 .taken)
