@@ -3,7 +3,7 @@ use crate::fields::Lengths;
 use crate::fields::alike;
 use crate::fields::counts_at;
 use crate::fields::lent;
-use crate::fields::places;
+use crate::fields::places_of;
 use crate::fields::used;
 use resolver::format::Answer;
 use resolver::format::Figures;
@@ -147,7 +147,7 @@ fn as_told(told: &[u8], answer: u8, text: &[u8], list: &[u8], work: &[u8]) -> bo
 
 // The product, on what the case holds.
 fn formatted(s: &[u8], text: &mut [u8], list: &mut [u8], work: &mut [u8]) -> Answer {
-    let p = places(s);
+    let p = places_of(s);
     format(
         blob(s, 1),
         string(s, p.id),

@@ -15,7 +15,7 @@ pub struct Places {
     pub arguments: usize,
 }
 
-pub fn places(s: &[u8]) -> Places {
+pub fn places_of(s: &[u8]) -> Places {
     let id = past_blob(s, 1);
     let has = past_string(s, id);
     let attribute = past(s, has, 1);
@@ -29,7 +29,7 @@ pub fn places(s: &[u8]) -> Places {
 
 // Past the arguments.
 fn lengths_at(s: &[u8]) -> usize {
-    let p = places(s);
+    let p = places_of(s);
     past_blob(s, p.arguments)
 }
 

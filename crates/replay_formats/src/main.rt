@@ -123,8 +123,12 @@ fn show_line(c: Counts, i: usize) {
     );
 }
 
-fn show(c: Counts) {
-    let count = if c.n[6] == 0 { 7 } else { 8 };
+// The last line stands only where a case differs.
+fn shown(c: Counts) -> usize {
+    if c.n[6] == 0 { 7 } else { 8 }
+}
+
+fn show(c: Counts, count: usize) {
     let mut i = 0usize;
     while i < count {
         show_line(c, i);
@@ -139,7 +143,8 @@ fn replay(name: &[u8]) {
     }
     io::write_all(STDOUT_FILENO, name);
     io::write_all(STDOUT_FILENO, b":\n");
-    show(all_cases(fd, case_count(fd)));
+    let c = all_cases(fd, case_count(fd));
+    show(c, shown(c));
     libc::close(fd);
 }
 
