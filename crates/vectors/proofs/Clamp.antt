@@ -7,8 +7,8 @@ use native.Mathlib.Omega.{arith}
 use lib.ListN.{length, getD, take, drop, List·getD-eq-default, drop-of-length-le, length-drop}
 use lib.Seq.{take-all, take-nil}
 use lib.Dec.{leb}
-use borrow.Author.Tests.{leb-true, leb-false}
-use Rattle.vectors.specs.Readings.{u16In, u32In, u64In, stringIn, pastString, blobIn, pastBlob}
+use borrow.Author.Tests.{leb-true, leb-false, le-leb, lt-leb}
+use Rattle.vectors.specs.Readings.{u16In, u32In, u64In, ifWhole, partIn, stringIn, pastString, blobIn, pastBlob}
 
 -- a function of lists and positions that has one value at the end and past it
 pub clamped : {A : Type 0} (f : ℕ → A) (n k : ℕ) → (n ≤ k → f n ≡ f k) → f (min k n) ≡ f k
@@ -24,12 +24,21 @@ clamped f n k past = go (leb k n) refl
         let m : min k n ≡ n = omega (arith, h) in
         ap f m ∙ past (omega (arith, h))
 
+whole-nil : (t : Bool) → ifWhole t [] ≡ []
+unfolding ifWhole
+whole-nil true = refl
+whole-nil false = refl
+
 module _ (s : List ℕ) where
   pub getD-clamp : (k : ℕ) → getD s (min k (length s)) 0 ≡ getD s k 0
   getD-clamp k = clamped (λ i. getD s i 0) (length s) k (λ h. List·getD-eq-default s 0 (omega arith) ∙ sym (List·getD-eq-default s 0 h))
 
-  pub drop-clamp : (k : ℕ) → drop (min k (length s)) s ≡ drop k s
-  drop-clamp k = clamped (λ i. drop i s) (length s) k (λ h. drop-of-length-le s {i = length s} (omega arith) ∙ sym (drop-of-length-le s h))
+  pub part-out : (n k : ℕ) → length s ≤ k → partIn s k n ≡ []
+  unfolding partIn
+  part-out n k h = ap (ifWhole (leb (k + n) (length s))) (ap (take n) (drop-of-length-le s h) ∙ take-nil n) ∙ whole-nil (leb (k + n) (length s))
+
+  pub part-clamp : (n k : ℕ) → partIn s (min k (length s)) n ≡ partIn s k n
+  part-clamp n k = clamped (λ i. partIn s i n) (length s) k (λ h. part-out n (length s) (omega arith) ∙ sym (part-out n k h))
 
   pub u16-out : (k : ℕ) → length s ≤ k → u16In s k ≡ 0
   unfolding u16In
@@ -59,13 +68,13 @@ module _ (s : List ℕ) where
     unfolding u64In
     u64-is e1 e2 e3 = rw (e1, e3, e2, u32-clamp (at + 4))
 
-    pub string-is : {n : ℕ} {r : List ℕ} → p ≡ min (at + 2) (length s) → n ≡ u16In s at → r ≡ take n (drop p s) → r ≡ stringIn s at
+    pub string-is : {n : ℕ} {r : List ℕ} → p ≡ min (at + 2) (length s) → n ≡ u16In s at → r ≡ partIn s p n → r ≡ stringIn s at
     unfolding stringIn
-    string-is e1 e2 e3 = rw (e3, e2, e1, drop-clamp (at + 2))
+    string-is e1 e2 e3 = e3 ∙ rw (e2, e1, part-clamp (u16In s at) (at + 2))
 
-    pub blob-is : {n : ℕ} {r : List ℕ} → p ≡ min (at + 4) (length s) → n ≡ u32In s at → r ≡ take n (drop p s) → r ≡ blobIn s at
+    pub blob-is : {n : ℕ} {r : List ℕ} → p ≡ min (at + 4) (length s) → n ≡ u32In s at → r ≡ partIn s p n → r ≡ blobIn s at
     unfolding blobIn
-    blob-is e1 e2 e3 = rw (e3, e2, e1, drop-clamp (at + 4))
+    blob-is e1 e2 e3 = e3 ∙ rw (e2, e1, part-clamp (u32In s at) (at + 4))
 
     pub past-string-is : {n r : ℕ} → p ≡ min (at + 2) (length s) → n ≡ u16In s at → r ≡ min (p + n) (length s) → r ≡ pastString s at
     unfolding pastString
@@ -77,18 +86,20 @@ module _ (s : List ℕ) where
 
   -- a part, by where it starts and ends
   module _ (at n : ℕ) where
-    pub part-past : length s < at → [] ≡ take n (drop at s)
-    part-past h = sym (rw (drop-of-length-le s {i = at} (omega (arith, h)), take-nil {A = ℕ} n))
+    pub part-past : length s < at + n → [] ≡ partIn s at n
+    unfolding partIn ifWhole
+    part-past h = sym (rw (lt-leb (at + n) (length s) h))
 
-    pub part-rest : length s - at < n → take (length s - at) (drop at s) ≡ take n (drop at s)
-    part-rest k =
-        let e = length-drop at s in
-        take-all (length s - at) (drop at s) (omega (arith, e)) ∙ sym (take-all n (drop at s) (omega (arith, e, k)))
-
-    pub part-in : take (at + n - at) (drop at s) ≡ take n (drop at s)
-    part-in =
+    pub part-in : at + n ≤ length s → take (at + n - at) (drop at s) ≡ partIn s at n
+    unfolding partIn ifWhole
+    part-in h =
         let e : at + n - at ≡ n = omega arith in
-        ap (λ (k : ℕ). take k (drop at s)) e
+        ap (λ (k : ℕ). take k (drop at s)) e ∙ sym (rw (le-leb (at + n) (length s) h))
 
-  pub tail-is : (at : ℕ) {r : List ℕ} → r ≡ take (length s) (drop at s) → r ≡ drop at s
-  tail-is at e = e ∙ take-all (length s) (drop at s) (rw (length-drop at s) (omega arith))
+  pub tail-past : (at : ℕ) → length s < at → [] ≡ drop at s
+  tail-past at h = sym (drop-of-length-le s {i = at} (omega (arith, h)))
+
+  pub tail-in : (at : ℕ) → take (length s - at) (drop at s) ≡ drop at s
+  tail-in at =
+      let e = length-drop at s in
+      take-all (length s - at) (drop at s) (omega (arith, e))

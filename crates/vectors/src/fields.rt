@@ -1,8 +1,9 @@
-// The fields of a case: bytes, numbers with the highest byte first, Strs and Blobs. What lies past the end reads as 0, and is no part of a Str or a Blob.
+// The fields of a case: bytes, numbers with the highest byte first, Strs and Blobs. What lies past the end reads as 0, and a Str or
+// a Blob that passes it as empty.
 ghost use mathlib.Core.Path.{_≡_};
 ghost use Prim.Native.Nat.{_+_, _<_, min};
-ghost use lib.ListN.{length, getD, take, drop};
-ghost use Rattle.vectors.specs.Readings.{u16In, u32In, u64In, stringIn, pastString, blobIn, pastBlob};
+ghost use lib.ListN.{length, getD, drop};
+ghost use Rattle.vectors.specs.Readings.{u16In, u32In, u64In, partIn, stringIn, pastString, blobIn, pastBlob};
 
 pub fn byte(s: &[u8], at: usize) -> u8
     ensures { λ r. ⌜ r ≡ getD (now (s .entry)) at 0 ⌝ }
@@ -51,15 +52,15 @@ pub fn u64_at(s: &[u8], at: usize) -> u64
     u32_at(s, at) * 4294967296 + u32_at(s, past(s, at, 4))
 }
 
-// The n bytes from a position on, or as many as there are.
+// The n bytes from a position on, and nothing where they pass the end.
 pub fn part<'a>(s: &'a [u8], at: usize, n: usize) -> &'a [u8]
-    ensures { λ r. ⌜ now r ≡ take n (drop at (now (s .entry))) ⌝ }
+    ensures { λ r. ⌜ now r ≡ partIn (now (s .entry)) at n ⌝ }
 {
     if s.len() < at {
         return &s[0..0];
     }
     if s.len() - at < n {
-        return &s[at..];
+        return &s[0..0];
     }
     let to = at + n;
     &s[at..to]
@@ -69,7 +70,10 @@ pub fn part<'a>(s: &'a [u8], at: usize, n: usize) -> &'a [u8]
 pub fn tail<'a>(s: &'a [u8], at: usize) -> &'a [u8]
     ensures { λ r. ⌜ now r ≡ drop at (now (s .entry)) ⌝ }
 {
-    part(s, at, s.len())
+    if s.len() < at {
+        return &s[0..0];
+    }
+    &s[at..]
 }
 
 // The bytes of a Str, and the position past them.
