@@ -13,34 +13,28 @@ fn append(d: &mut [u8], at: usize, src: &[u8]) -> usize {
     }
 }
 
-// 960 times a text and a variable.
-fn elements(d: &mut [u8], from: usize, pair: &[u8]) -> usize {
+// 960 texts and variables.
+fn elements(d: &mut [u8], from: usize, text: &[u8]) -> usize {
     let mut at = from;
     let mut left = 960usize;
     while 0 < left {
-        at = append(d, at, pair);
+        at = append(d, at, b"\x01\x00\x3C");
+        at = append(d, at, text);
+        at = append(d, at, b"\x02\x06\x00\x01n");
         left -= 1;
     }
     at
 }
 
-// A plain resource of one message `m`.
-fn item(d: &mut [u8], at: usize, pair: &[u8]) -> usize {
-    let a = append(
-        d,
-        at,
-        b"\x01\x00\x00\xFF\x14\x01\x00\x01\x01\x00\x01m\x01\x00\x00\xFF\x02\x07\x80",
-    );
-    let b = elements(d, a, pair);
-    append(d, b, b"\x00\x00")
-}
-
-// Eight items.
-fn items(d: &mut [u8], from: usize, pair: &[u8]) -> usize {
+// Eight items: a plain resource of one message `m` each.
+fn items(d: &mut [u8], from: usize, text: &[u8]) -> usize {
     let mut at = from;
     let mut left = 8usize;
     while 0 < left {
-        at = item(d, at, pair);
+        at = append(d, at, b"\x01\x00\x00\xFF\x14\x01\x00\x01");
+        at = append(d, at, b"\x01\x00\x01m\x01\x00\x00\xFF\x02\x07\x80");
+        at = elements(d, at, text);
+        at = append(d, at, b"\x00\x00");
         left -= 1;
     }
     at
@@ -51,12 +45,12 @@ fn made(d: &mut [u8]) -> usize {
     let b = items(
         d,
         a,
-        b"\x01\x00\x3CTwo harbour porpoises and one calf were seen at leg seven...\x02\x06\x00\x01n",
+        b"Two harbour porpoises and one calf were seen at leg seven...",
     );
     items(
         d,
         b,
-        b"\x01\x00\x3C\xD0\x94\xD0\xB2\xD0\xB5 \xD0\xBC\xD0\xBE\xD1\x80\xD1\x81\xD0\xBA\xD0\xB8\xD0\xB5 \xD1\x81\xD0\xB2\xD0\xB8\xD0\xBD\xD1\x8C\xD0\xB8 \xD0\xB8 \xD0\xB4\xD0\xB5\xD1\x82\xD1\x91\xD0\xBD\xD1\x8B\xD1\x88 7......\x02\x06\x00\x01n",
+        b"\xD0\x94\xD0\xB2\xD0\xB5 \xD0\xBC\xD0\xBE\xD1\x80\xD1\x81\xD0\xBA\xD0\xB8\xD0\xB5 \xD1\x81\xD0\xB2\xD0\xB8\xD0\xBD\xD1\x8C\xD0\xB8 \xD0\xB8 \xD0\xB4\xD0\xB5\xD1\x82\xD1\x91\xD0\xBD\xD1\x8B\xD1\x88 7......",
     )
 }
 

@@ -6,16 +6,28 @@ use Rattle.bench_store.proofs.elements.Statement.{statement}
 use Rattle.bench_store.proofs.elements.Tie as tie
 
 abbrev Inv-loop : tie.InvT-loop
-Inv-loop d₀ from pair at₀ left₀ d at left = length d ≡ length d₀
+Inv-loop d₀ from text at₀ left₀ t6 t7 d at left = length d ≡ length d₀
 
 abbrev μ-loop : tie.MeasureT-loop
-μ-loop d₀ from pair at₀ left₀ d at left = left
+μ-loop d₀ from text at₀ left₀ t6 t7 d at left = left
 
 loop-holds : tie.Need-loop-holds Inv-loop μ-loop
 loop-holds c = search needs
 
+slice-aggregate-append : tie.Need-slice-aggregate-append Inv-loop μ-loop
+slice-aggregate-append c = search needs
+
 append-requires : tie.Need-append-requires Inv-loop μ-loop
 append-requires c κs = search needs
+
+append-requires-2 : tie.Need-append-requires-2 Inv-loop μ-loop
+append-requires-2 c κs = search needs
+
+slice-aggregate-append-2 : tie.Need-slice-aggregate-append-2 Inv-loop μ-loop
+slice-aggregate-append-2 c = search needs
+
+append-requires-3 : tie.Need-append-requires-3 Inv-loop μ-loop
+append-requires-3 c κs = search needs
 
 sub-left : tie.Need-sub-left Inv-loop μ-loop
 sub-left c = search needs
@@ -33,4 +45,4 @@ returns : tie.Need-returns Inv-loop μ-loop
 returns c = search needs
 
 pub elements-spec : {M : Type 1} → statement M
-elements-spec = tie.close (tie.spec Inv-loop μ-loop loop-holds append-requires sub-left loop-less loop-again same-length returns)
+elements-spec = tie.close (tie.spec Inv-loop μ-loop loop-holds slice-aggregate-append append-requires append-requires-2 slice-aggregate-append-2 append-requires-3 sub-left loop-less loop-again same-length returns)
