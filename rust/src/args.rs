@@ -61,11 +61,11 @@ impl<'args> FluentArgs<'args> {
         out.byte(1);
         out.u16(self.0.len());
         for (name, value) in &self.0 {
-            out.str(name);
+            out.str(name.as_bytes());
             match value {
                 FluentValue::String(text) => {
                     out.byte(1);
-                    out.str(text);
+                    out.str(text.as_bytes());
                 }
                 FluentValue::Number(number) => {
                     out.byte(2);

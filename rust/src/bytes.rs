@@ -1,28 +1,33 @@
-//! Writing document 01's integers, strings and counts.
+//! Writing document 01's integers, strings and counts, for images that no type
+//! of this crate makes.
 
 use crate::operations::Refusal;
 
 /// Bytes that are being written; a length or count that its field can't hold
 /// is remembered.
-#[derive(Default)]
+#[derive(Clone, Debug, Default)]
 pub struct Writer {
     bytes: Vec<u8>,
     too_long: bool,
 }
 
 impl Writer {
+    /// A byte.
     pub fn byte(&mut self, n: u8) {
         self.bytes.push(n);
     }
 
+    /// A Flag.
     pub fn flag(&mut self, on: bool) {
         self.byte(u8::from(on));
     }
 
+    /// Bytes as they are.
     pub fn raw(&mut self, bytes: &[u8]) {
         self.bytes.extend_from_slice(bytes);
     }
 
+    /// A number of 64 bits.
     pub fn u64(&mut self, n: u64) {
         self.raw(&n.to_be_bytes());
     }
@@ -34,9 +39,11 @@ impl Writer {
         self.raw(&fits.unwrap_or_default().to_be_bytes());
     }
 
-    pub fn str(&mut self, text: &str) {
-        self.u16(text.len());
-        self.raw(text.as_bytes());
+    /// A Str: a length of 16 bits, and the bytes.
+    pub fn str(&mut self, text: impl AsRef<[u8]>) {
+        let bytes = text.as_ref();
+        self.u16(bytes.len());
+        self.raw(bytes);
     }
 
     /// A u32 for a length that is not known yet, to be `close`d.

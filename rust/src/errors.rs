@@ -49,7 +49,7 @@ impl fmt::Display for FluentError {
                 write!(f, "Attempt to override an existing {kind}: \"{id}\".")
             }
             Self::ResolverError(error) => write!(f, "Resolver error: {error}"),
-            Self::Refused(refusal) => write!(f, "Refused: {refusal}"),
+            Self::Refused(refusal) => refusal.fmt(f),
         }
     }
 }

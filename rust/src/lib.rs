@@ -44,13 +44,14 @@
 
 mod args;
 mod bundle;
-mod bytes;
+pub mod bytes;
 mod errors;
 // the one place that calls the linked functions
 #[allow(unsafe_code)]
 mod ffi;
 mod locale;
 pub mod operations;
+mod refusals;
 mod resource;
 mod stack;
 pub mod syntax;
@@ -68,7 +69,8 @@ pub use args::FluentArgs;
 pub use bundle::{Buffers, FluentAttribute, FluentBundle, FluentMessage, FluentPattern, Formatted};
 pub use errors::{EntryKind, FluentError, ReferenceKind, ResolverError};
 pub use locale::{Locale, UnknownLocale};
-pub use operations::{Function, Refusal};
+pub use operations::Function;
+pub use refusals::Refusal;
 pub use resource::{FluentResource, ResourceBuilder};
 pub use stack::on_deep_stack;
 pub use value::{FluentNumber, FluentValue, NotADecimal};

@@ -8,8 +8,9 @@ use lib.ListN.{length, drop, length-append, length-drop}
 use lib.Dec.{leb, eqb}
 use borrow.Author.Tests.{leb-true}
 use Rattle.records.specs.Got.{Got, got, bad}
-use Rattle.records.specs.Bytes.{toBe, run}
-use Rattle.records.specs.Rules.{idStep, isId}
+use Rattle.records.specs.Bytes.{toBe}
+use Rattle.rules.specs.Run.{run}
+use Rattle.rules.specs.Rules.{idStep, isId}
 use Rattle.records.specs.Images.{Entry, Item, Store, isSome, maxStore, maxItems, maxLocale, storeOf, resourceOf}
 use Rattle.records.specs.Encode.{encStr, encWhole, encFunction, encItem, encAll, encStore}
 use Rattle.records.specs.Errors.{Error, encErrors}
@@ -18,8 +19,10 @@ use Rattle.layout.specs.Exact.{Octets}
 use Rattle.layout.proofs.Numbers.{length-toBe}
 use Rattle.layout.proofs.Octets.{octets-append, and-right}
 use Rattle.layout.proofs.Theorems.{resource-sound, store-complete, store-octets}
-use Rattle.bundle.specs.Lookup.{findIn}
-use Rattle.bundle.specs.Additions.{done, refused, Added, refuse, succeed, orRefuse, atFront, withItem, hasRoom, repeats, listed, addPlainTo, addResource, addOverridingTo, addResourceOverriding, addFunctionTo, addFunction, newBundle}
+use Rattle.entries.specs.Lookup.{findIn}
+use Rattle.bundle.specs.Additions.{done, refused, Added, refuse, succeed, orRefuse, listed, addPlainTo, addResource, addOverridingTo, addResourceOverriding, addFunctionTo, addFunction, newBundle}
+use Rattle.growth.specs.Items.{atFront, withItem, hasRoom}
+use Rattle.entries.specs.Repeats.{repeats}
 use Rattle.bundle.specs.Growth.{Grown, Accepted, AcceptedResource, Founded}
 use Rattle.bundle.proofs.Grown.{store-length, octets-drop, grown}
 

@@ -1,249 +1,31 @@
--- Steps of the additions: each refusal, in its order, and the bytes that a success writes.
-use mathlib.Core.Path.{_≡_, refl, ap, sym, subst, _∙_}
-use mathlib.Core.Bool.{Bool, true, false, _&&_, not}
-use mathlib.Core.List.{List, [], _∷_, _++_, append-nil, append-assoc}
-use mathlib.Core.Option.{Option, some, none}
-use Prim.Native.Nat.{ℕ, zero, suc, _+_, _-_, _≤_, _<_}
+-- Steps of the additions: each refusal, and what a success leaves.
+use mathlib.Core.Path.{_≡_, refl, ap, sym, _∙_}
+use mathlib.Core.Bool.{true, false}
+use mathlib.Core.List.{List, [], _∷_}
+use Prim.Native.Nat.{ℕ, _+_, _≤_, _<_}
 use native.Mathlib.Omega.{arith}
-use lib.ListN.{length, set, take, drop, length-append, length-set, length-take, length-drop, take-append-drop}
-use lib.Seq.{sets, paste, length-sets, length-take-le, take-append-le, drop-append-le, take-at, drop-at, take-append-add, drop-append-add, drop-drop, take-add, take-take}
-use lib.Dec.{eqb, ltb, leb}
-use borrow.Author.Tests.{eq-eqb, ne-eqb, le-leb, lt-leb, lt-ltb, le-ltb, leb-true, ltb-true, not-true, not-false}
-use Rattle.records.specs.declared.Next.{Next}
-use Rattle.records.specs.declared.Next.the-variants as next
-use Rattle.records.specs.Got.{Got, got, bad, Parser, nextOf}
-use Rattle.records.specs.Bytes.{part, toBe, numberAt}
-use Rattle.records.specs.Rules.{isId}
-use Rattle.records.specs.Encode.{encAll, encCounted, encFlag, encStr, encWhole, encFunction, encItem, encStore}
-use Rattle.records.specs.Errors.{Error, encError, encErrors}
-use Rattle.records.specs.Decode.{many}
-use Rattle.records.specs.Images.{Entry, Item, Store, maxImage, maxStore, maxItems, maxLocale, isSome, storeOf, resourceOf}
-use Rattle.records.proofs.Laws.{after-elim, got-elim}
-use Rattle.records.proofs.Views.{both, never, next-is, next-none, many-cons, many-nil}
-use Rattle.texts.specs.Append.{over}
-use Rattle.texts.specs.Report.{header, headed}
-use Rattle.texts.proofs.Place.{over-none, paste-over, sets-over, set-over, length-over, then-over, then-set}
-use Rattle.texts.proofs.Recording.{length-u16, length-u32, length-str, headed-done}
-use Rattle.bundle.specs.declared.Answer.{Answer}
+use lib.ListN.{length}
+use borrow.Author.Tests.{eq-eqb, ne-eqb, le-leb, lt-leb}
+use Rattle.records.specs.Got.{got, bad}
+use Rattle.rules.specs.Rules.{isId}
+use Rattle.records.specs.Encode.{encFunction}
+use Rattle.records.specs.Errors.{Error, encErrors}
+use Rattle.records.specs.Images.{Entry, Store, isSome, storeOf, resourceOf}
+use Rattle.entries.specs.Lookup.{findIn}
+use Rattle.entries.specs.Repeats.{repeats}
+use Rattle.entries.specs.Relations.Marked.{marked}
+use Rattle.growth.specs.Items.{atFront, withItem, hasRoom}
+use Rattle.listing.specs.declared.Listed.{Listed}
+use Rattle.listing.specs.declared.Listed.the-variants as list
+use Rattle.listing.specs.Relations.Lists.{Lists, lists-all, lists-short}
 use Rattle.bundle.specs.declared.Answer.the-variants as answer
-use Rattle.bundle.specs.Lookup.{findIn}
-use Rattle.bundle.specs.Additions.{Added, refuse, succeed, orRefuse, atFront, newBundle, withItem, hasRoom, repeats, listed, addPlainTo, addResource, addOverridingTo, addResourceOverriding, addFunctionTo, addFunction}
-use Rattle.bundle.specs.declared.Tally.{Tally}
-use Rattle.bundle.specs.Gives.{answerOf, gave, Tallies}
-use Rattle.bundle.proofs.Open.{store-parts, whole-resource}
-
--- a store that is read, an image that is read
-pub store-used : (s : List ℕ) {r : Next} {u : ℕ} → r ≡ nextOf (storeOf s) → r ≡ next.At u → (9 ≤ u) × (u ≤ 1048576) × (u ≤ length s)
-unfolding maxStore
-store-used s is h = next-is is h (λ st hs. store-parts s hs (λ k _ le _ _ _ lo hi. (lo, le, hi)))
-
-pub image-small : (s : List ℕ) {r : Next} {e : ℕ} → r ≡ nextOf (resourceOf s) → r ≡ next.At e → length s ≤ 65536
-unfolding maxImage
-image-small s is h = next-is is h (λ es hr. whole-resource s hr (λ k _ _ ef le _. omega arith))
-
-many-length : {A : Type 0} (p : Parser A) (s : List ℕ) (n at : ℕ) {l : List A} {f : ℕ} → many [] _∷_ n p s at ≡ got l f → n ≡ length l
-many-length p s zero at h = many-nil [] _∷_ p s zero at (omega arith) h (λ el _. sym (ap length el))
-many-length p s (suc n) at {l} {f} h =
-    many-cons [] _∷_ p s (suc n) at (omega arith) h (λ a e l′ _ hl el.
-    let m : suc n - 1 ≡ n = omega arith in
-    let ih = many-length p s n e (subst (λ (j : ℕ). many [] _∷_ j p s e ≡ got l′ f) m hl) in
-    let el′ : length l ≡ suc (length l′) = ap length el in
-    omega arith)
-
-pub count-is : (s : List ℕ) {n e : ℕ} {st : Store} {f : ℕ} → numberAt 2 s 7 ≡ got n e → storeOf s ≡ got st f → n ≡ length (st .items)
-count-is s h hs = store-parts s hs (λ k _ _ hk _ hm _ _. both h hk (λ en _. en ∙ many-length _ s k 9 hm))
-
-pub count-bad : (s : List ℕ) {C : Type 0} {st : Store} {f : ℕ} → numberAt 2 s 7 ≡ bad → storeOf s ≡ got st f → C
-count-bad s h hs = store-parts s hs (λ k _ _ hk _ _ _ _. never h hk)
-
--- room for an item
-module _ (used count n : ℕ) where
-  pub room-no-slice : {size : ℕ} → size < used + n → (s : List ℕ) → length s ≡ size → false ≡ hasRoom s used count n
-  unfolding hasRoom
-  room-no-slice h s e = rw (lt-leb (used + n) (length s) (omega arith))
-
-  pub room-no-store : {size : ℕ} → used + n ≤ size → 1048576 < used + n → (s : List ℕ) → length s ≡ size → false ≡ hasRoom s used count n
-  unfolding hasRoom maxStore
-  room-no-store h k s e = rw (le-leb (used + n) (length s) (omega arith), lt-leb (used + n) 1048576 k)
-
-  pub room-items : {size : ℕ} {r : Bool} → used + n ≤ size → used + n ≤ 1048576 → r ≡ ltb count 256 → (s : List ℕ) → length s ≡ size → r ≡ hasRoom s used count n
-  unfolding hasRoom maxStore maxItems
-  room-items h k e s q = rw (le-leb (used + n) (length s) (omega arith), le-leb (used + n) 1048576 k) e
-
-  and-left : (a b : Bool) → a && b ≡ true → a ≡ true
-  and-left true b h = refl
-  and-left false b h = let z : _≡_ {A = ℕ} 0 1 = cc in absurd (omega arith)
-
-  and-right : (a b : Bool) → a && b ≡ true → b ≡ true
-  and-right true b h = h
-  and-right false b h = let z : _≡_ {A = ℕ} 0 1 = cc in absurd (omega arith)
-
-  pub room-is : (s : List ℕ) → hasRoom s used count n ≡ true → (used + n ≤ length s) × (used + n ≤ 1048576) × (count < 256)
-  unfolding hasRoom maxStore maxItems
-  room-is s h =
-      let r = and-right (leb (used + n) (length s)) _ h in
-      (leb-true (used + n) (length s) (and-left (leb (used + n) (length s)) _ h), leb-true (used + n) 1048576 (and-left (leb (used + n) 1048576) _ r), ltb-true count 256 (and-right (leb (used + n) 1048576) _ r))
-
--- the bytes of an item
-pub resource-written : (d : List ℕ) (at mode : ℕ) (image : List ℕ) {e f : List ℕ} → at + (1 + length image) ≤ length d → e ≡ set d at mode → f ≡ paste e (at + 1) image (length image) → f ≡ over d at (mode ∷ image)
-resource-written d at mode image {e} {f} h p q =
-    let a : e ≡ over d at (mode ∷ []) = p ∙ set-over d at mode (omega arith) in
-    q ∙ paste-over e (at + 1) image ∙ then-over d at (mode ∷ []) image a (omega arith) (omega arith)
-
--- a function record behind its mode
-module _ (d : List ℕ) (at : ℕ) (id : List ℕ) (h : at + (9 + length id) ≤ length d) where
-  function-is : ((((3 ∷ []) ++ toBe 4 (8 + length id)) ++ (1 ∷ [])) ++ (1 ∷ [])) ++ toBe 2 (length id) ++ id ≡ 3 ∷ encFunction id
-  unfolding encFunction encWhole encStr toBe
-  function-is =
-      let e : 8 + length id ≡ 4 + length (1 ∷ 1 ∷ toBe 2 (length id) ++ id) = omega (arith, length-append (toBe 2 (length id)) id) in
-      ap (λ (n : ℕ). 3 ∷ toBe 4 n ++ (1 ∷ 1 ∷ toBe 2 (length id) ++ id)) e
-
-  pub function-written : {d1 d2 d3 d4 d5 d6 : List ℕ} → d1 ≡ set d at 3 → d2 ≡ sets d1 (at + 1) (toBe 4 (8 + length id)) → d3 ≡ set d2 (at + 5) 1 → d4 ≡ set d3 (at + 6) 1
-      → d5 ≡ sets d4 (at + 7) (toBe 2 (length id)) → d6 ≡ paste d5 (at + 9) id (length id) → d6 ≡ over d at (3 ∷ encFunction id)
-  function-written {d1} {d2} {d3} {d4} {d5} {d6} p1 p2 p3 p4 p5 p6 =
-      let l4 = length-u32 (8 + length id) in
-      let l2 = length-u16 (length id) in
-      let x1 : d1 ≡ over d at (3 ∷ []) = p1 ∙ set-over d at 3 (omega arith) in
-      let n1 : length d1 ≡ length d = ap length x1 ∙ length-over d at (3 ∷ []) (omega arith) in
-      let a2 : List ℕ = (3 ∷ []) ++ toBe 4 (8 + length id) in
-      let m2 : length a2 ≡ 5 = length-append (3 ∷ []) (toBe 4 (8 + length id)) ∙ omega arith in
-      let x2 : d2 ≡ over d at a2 = p2 ∙ sets-over d1 (at + 1) (toBe 4 (8 + length id)) (omega arith) ∙ then-over d at (3 ∷ []) (toBe 4 (8 + length id)) x1 (omega arith) (omega arith) in
-      let a3 : List ℕ = a2 ++ (1 ∷ []) in
-      let m3 : length a3 ≡ 6 = length-append a2 (1 ∷ []) ∙ omega arith in
-      let x3 : d3 ≡ over d at a3 = p3 ∙ then-set d at a2 1 x2 (omega arith) (omega arith) in
-      let a4 : List ℕ = a3 ++ (1 ∷ []) in
-      let m4 : length a4 ≡ 7 = length-append a3 (1 ∷ []) ∙ omega arith in
-      let x4 : d4 ≡ over d at a4 = p4 ∙ then-set d at a3 1 x3 (omega arith) (omega arith) in
-      let n4 : length d4 ≡ length d = ap length x4 ∙ length-over d at a4 (omega arith) in
-      let a5 : List ℕ = a4 ++ toBe 2 (length id) in
-      let m5 : length a5 ≡ 9 = length-append a4 (toBe 2 (length id)) ∙ omega arith in
-      let x5 : d5 ≡ over d at a5 = p5 ∙ sets-over d4 (at + 7) (toBe 2 (length id)) (omega arith) ∙ then-over d at a4 (toBe 2 (length id)) x4 (omega arith) (omega arith) in
-      p6 ∙ paste-over d5 (at + 9) id ∙ then-over d at a5 id x5 (omega arith) (omega arith) ∙ ap (over d at) function-is
-
-drop-part : (s : List ℕ) (a u : ℕ) → a ≤ u → u ≤ length s → drop a (take u s) ≡ take (u - a) (drop a s)
-drop-part s a u h k =
-    let e : u ≡ a + (u - a) = omega arith in
-    ap (λ (n : ℕ). drop a (take n s)) e ∙ ap (drop a) (take-add a (u - a) s) ∙ drop-at (take a s) (take (u - a) (drop a s)) a (length-take-le a s (omega arith))
-
-over-front : (x b : List ℕ) (n : ℕ) → length b ≡ n → over x 0 b ≡ b ++ drop n x
-unfolding over
-over-front x b n e = let k : 0 + length b ≡ n = omega arith in ap (λ (j : ℕ). b ++ drop j x) k
-
-over-is : (x : List ℕ) (k : ℕ) (b : List ℕ) → over x k b ≡ take k x ++ (b ++ drop (k + length b) x)
-unfolding over
-over-is x k b = append-assoc (take k x) b (drop (k + length b) x)
-
--- the header of a store, over its used length and its item count
-module _ (s : List ℕ) (used count : ℕ) (item : List ℕ) (lo : 9 ≤ used) (fits : used + length item ≤ length s) where
-  rest : List ℕ
-  rest = item ++ drop (used + length item) s
-
-  whole-is : over s used item ≡ take used s ++ rest
-  unfolding over rest
-  whole-is = append-assoc (take used s) item (drop (used + length item) s)
-
-  whole-drop : (a : ℕ) → a ≤ used → drop a (over s used item) ≡ take (used - a) (drop a s) ++ rest
-  whole-drop a h =
-      let f = length-take-le used s (omega arith) in
-      ap (drop a) whole-is ∙ drop-append-le a (take used s) rest (omega arith) ∙ ap (λ (l : List ℕ). l ++ rest) (drop-part s a used h (omega arith))
-
-  whole-middle : take 3 (drop 4 (over s used item)) ≡ part s 4 3
-  whole-middle =
-      let l : length (take (used - 4) (drop 4 s)) ≡ used - 4 = length-take-le (used - 4) (drop 4 s) (omega (arith, length-drop 4 s)) in
-      ap (take 3) (whole-drop 4 (omega arith)) ∙ take-append-le 3 (take (used - 4) (drop 4 s)) rest (omega arith) ∙ take-take 3 (used - 4) (drop 4 s) (omega arith)
-
-  item-end : withItem s used count item ≡ (toBe 4 (used + length item) ++ (part s 4 3 ++ (toBe 2 (count + 1) ++ (part s 9 (used - 9) ++ item)))) ++ drop (used + length item) s
-  unfolding withItem atFront
-  item-end =
-      let R : List ℕ = part s 9 (used - 9) in
-      let lA : length (toBe 4 (used + length item)) ≡ 4 = length-u32 (used + length item) in
-      let lB : length (toBe 2 (count + 1)) ≡ 2 = length-u16 (count + 1) in
-      let lM : length (part s 4 3) ≡ 3 = length-take-le 3 (drop 4 s) (omega (arith, length-drop 4 s)) in
-      let lR : length R ≡ used - 9 = length-take-le (used - 9) (drop 9 s) (omega (arith, length-drop 9 s)) in
-      let e1 : length (R ++ item) ≡ length R + length item = length-append R item in
-      let e2 : length (toBe 2 (count + 1) ++ (R ++ item)) ≡ length (toBe 2 (count + 1)) + length (R ++ item) = length-append (toBe 2 (count + 1)) (R ++ item) in
-      let e3 : length (part s 4 3 ++ (toBe 2 (count + 1) ++ (R ++ item))) ≡ length (part s 4 3) + length (toBe 2 (count + 1) ++ (R ++ item)) = length-append (part s 4 3) (toBe 2 (count + 1) ++ (R ++ item)) in
-      let e4 : length (toBe 4 (used + length item) ++ (part s 4 3 ++ (toBe 2 (count + 1) ++ (R ++ item)))) ≡ used + length item = length-append (toBe 4 (used + length item)) (part s 4 3 ++ (toBe 2 (count + 1) ++ (R ++ item))) ∙ omega arith in
-      ap (λ (n : ℕ). (toBe 4 (used + length item) ++ (part s 4 3 ++ (toBe 2 (count + 1) ++ (R ++ item)))) ++ drop n s) e4
-
-  regroup : (a m b r i t : List ℕ) → (a ++ m) ++ (b ++ (r ++ (i ++ t))) ≡ (a ++ (m ++ (b ++ (r ++ i)))) ++ t
-  regroup a m b r i t = simp append-assoc
-
-  pub counts-written : {a b : List ℕ} → a ≡ over (over s used item) 0 (toBe 4 (used + length item)) → b ≡ over a 7 (toBe 2 (count + 1)) → b ≡ withItem s used count item
-  unfolding rest
-  counts-written {a} {b} p q =
-      let A : List ℕ = toBe 4 (used + length item) in
-      let B : List ℕ = toBe 2 (count + 1) in
-      let lA : length A ≡ 4 = length-u32 (used + length item) in
-      let lB : length B ≡ 2 = length-u16 (count + 1) in
-      let X : List ℕ = over s used item in
-      let ea : a ≡ A ++ drop 4 X = p ∙ over-front X A 4 lA in
-      let e7 : 7 ≡ length A + 3 = omega arith in
-      let e9 : 7 + length B ≡ length A + 5 = omega arith in
-      let e45 : 4 + 5 ≡ 9 = refl in
-      let t7 : take 7 a ≡ A ++ part s 4 3 = ap (take 7) ea ∙ ap (λ (n : ℕ). take n (A ++ drop 4 X)) e7 ∙ take-append-add A (drop 4 X) 3 ∙ ap (λ (l : List ℕ). A ++ l) whole-middle in
-      let d9 : drop (7 + length B) a ≡ part s 9 (used - 9) ++ rest =
-      ap (drop (7 + length B)) ea ∙ ap (λ (n : ℕ). drop n (A ++ drop 4 X)) e9 ∙ drop-append-add A (drop 4 X) 5 ∙ drop-drop 5 4 X ∙ whole-drop 9 (omega arith) in
-      let last : (A ++ part s 4 3) ++ (B ++ (part s 9 (used - 9) ++ rest)) ≡ (A ++ (part s 4 3 ++ (B ++ (part s 9 (used - 9) ++ item)))) ++ drop (used + length item) s = regroup A (part s 4 3) B (part s 9 (used - 9)) item (drop (used + length item) s) in
-      q ∙ over-is a 7 B ∙ ap (λ (l : List ℕ). l ++ (B ++ drop (7 + length B) a)) t7 ∙ ap (λ (l : List ℕ). (A ++ part s 4 3) ++ (B ++ l)) d9 ∙ last ∙ sym item-end
-
--- a new bundle's bytes
-new-bytes : ℕ → ℕ → List ℕ
-new-bytes locale isolating = 0 ∷ 0 ∷ 0 ∷ 9 ∷ 1 ∷ locale ∷ isolating ∷ 0 ∷ 0 ∷ []
-
-flag-byte : (b : ℕ) → b ≤ 1 → encFlag (eqb b 1) ≡ b ∷ []
-unfolding encFlag
-flag-byte zero h = refl
-flag-byte (suc zero) h = refl
-flag-byte (suc (suc b)) h = absurd (omega arith)
-
-new-is : (locale isolating : ℕ) → isolating ≤ 1 → encStore (record { locale = locale; isolating = eqb isolating 1; items = [] }) ≡ new-bytes locale isolating
-unfolding encStore encWhole encCounted encAll toBe new-bytes
-new-is locale isolating h = rw (flag-byte isolating h)
-
-module _ (s : List ℕ) (locale isolating : ℕ) where
-  pub new-1 : length s < 9 → gave (answer.Refused 1) s [] ≡ newBundle s locale isolating
-  unfolding gave answerOf newBundle orRefuse refuse
-  new-1 h = rw (lt-leb 9 (length s) h)
-
-  module _ (l9 : 9 ≤ length s) where
-    pub new-2 : 3 < locale → gave (answer.Refused 2) s [] ≡ newBundle s locale isolating
-    unfolding gave answerOf newBundle orRefuse refuse maxLocale
-    new-2 h = rw (le-leb 9 (length s) l9, lt-leb locale 3 h)
-
-    pub new-3 : locale ≤ 3 → 1 < isolating → gave (answer.Refused 3) s [] ≡ newBundle s locale isolating
-    unfolding gave answerOf newBundle orRefuse refuse maxLocale
-    new-3 h k = rw (le-leb 9 (length s) l9, le-leb locale 3 h, lt-leb isolating 1 k)
-
-    pub new-done : locale ≤ 3 → isolating ≤ 1 → {a : List ℕ} → a ≡ sets s 0 (toBe 4 9) → gave (answer.Done 0) (set (set (set (set (set a 4 1) 5 locale) 6 isolating) 7 0) 8 0) [] ≡ newBundle s locale isolating
-    unfolding gave answerOf newBundle orRefuse succeed maxLocale atFront new-bytes toBe
-    new-done h k {a} p =
-        let w : set (set (set (set (set a 4 1) 5 locale) 6 isolating) 7 0) 8 0 ≡ sets s 0 (new-bytes locale isolating) = rw p in
-        let f : sets s 0 (new-bytes locale isolating) ≡ new-bytes locale isolating ++ drop 9 s = sets-over s 0 (new-bytes locale isolating) (omega arith) ∙ over-front s (new-bytes locale isolating) 9 refl in
-        rw (le-leb 9 (length s) l9, le-leb locale 3 h, le-leb isolating 1 k, new-is locale isolating k, w, f)
-
--- the list that a plain addition leaves
-pub list-headed : (l : List ℕ) (errors : List Error) {a b : List ℕ} → 5 + length (encAll encError errors) ≤ length l → 5 + length (encAll encError errors) < 4294967296
-    → a ≡ over l 5 (encAll encError errors) → b ≡ headed a (5 + length (encAll encError errors)) → b ≡ atFront (encErrors errors) l
-unfolding atFront encErrors encWhole header
-list-headed l errors {a} {b} h g p q =
-    let E : List ℕ = encAll encError errors in
-    let n : length a ≡ length l = ap length p ∙ length-over l 5 E h in
-    let H : List ℕ = toBe 4 (5 + length E) ++ (1 ∷ []) in
-    let lH : length H ≡ 5 = length-append (toBe 4 (5 + length E)) (1 ∷ []) ∙ omega (arith, length-u32 (5 + length E)) in
-    let x : b ≡ H ++ drop 5 a = q ∙ headed-done a (5 + length E) (omega arith) g ∙ over-front a H 5 lH in
-    let d5 : drop 5 a ≡ E ++ drop (5 + length E) l = ap (drop 5) (p ∙ over-is l 5 E) ∙ drop-at (take 5 l) (E ++ drop (5 + length E) l) 5 (length-take-le 5 l (omega arith)) in
-    let e4 : 4 + length (1 ∷ E) ≡ 5 + length E = omega arith in
-    let ll : length (toBe 4 (4 + length (1 ∷ E)) ++ (1 ∷ E)) ≡ 5 + length E = length-append (toBe 4 (4 + length (1 ∷ E))) (1 ∷ E) ∙ omega (arith, length-u32 (4 + length (1 ∷ E))) in
-    x ∙ ap (λ (t : List ℕ). H ++ t) d5 ∙ group (toBe 4 (5 + length E)) E (drop (5 + length E) l)
-    ∙ ap (λ (k : ℕ). (toBe 4 k ++ (1 ∷ E)) ++ drop (5 + length E) l) (sym e4) ∙ ap (λ (k : ℕ). (toBe 4 (4 + length (1 ∷ E)) ++ (1 ∷ E)) ++ drop k l) (sym ll)
-  where
-    group : (u v t : List ℕ) → (u ++ (1 ∷ [])) ++ (v ++ t) ≡ (u ++ (1 ∷ v)) ++ t
-    group u v t = simp append-assoc
-
-pub errors-length : (errors : List Error) → length (encErrors errors) ≡ 5 + length (encAll encError errors)
-unfolding encErrors encWhole
-errors-length errors = length-append (toBe 4 (4 + length (1 ∷ encAll encError errors))) (1 ∷ encAll encError errors) ∙ omega (arith, length-u32 (4 + length (1 ∷ encAll encError errors)))
+use Rattle.bundle.specs.declared.Place.{Place}
+use Rattle.bundle.specs.declared.Place.the-variants as place
+use Rattle.bundle.specs.Additions.{refuse, succeed, orRefuse, listed, addPlainTo, addResource, addOverridingTo, addResourceOverriding, addFunctionTo, addFunction}
+use Rattle.bundle.specs.Gives.{answerOf, gave}
+use Rattle.bundle.specs.Relations.Places as places
+use Rattle.bundle.specs.Relations.Places.{ResourcePlace, FunctionPlace}
+use Rattle.bundle.proofs.Placing.{not-refused, resource-placed, function-placed}
 
 -- a plain addition, by its answers
 module _ (s image l : List ℕ) where
@@ -321,72 +103,67 @@ module _ (s id : List ℕ) (code : ℕ) where
           unfolding gave answerOf addFunction addFunctionTo orRefuse succeed
           function-done h es′ = rw (hs, hi, eq-eqb code 1 hc, hf, h, es′)
 
--- what the code's answer on room says
-module _ (s : List ℕ) (used count n : ℕ) {r : Bool} where
-  pub no-room : {k : ℕ} → count ≡ k → r ≡ hasRoom s used count n → not r ≡ true → hasRoom s used k n ≡ false
-  no-room e h t = ap (λ (j : ℕ). hasRoom s used j n) (sym e) ∙ sym h ∙ not-true r t
+-- by the place of the item: a refusal
+known-refusal : {r : Place} {m n : ℕ} → r ≡ place.Refused m → r ≡ place.Refused n → m ≡ n
+known-refusal h e = cc
 
-  pub has-room-is : {k : ℕ} → count ≡ k → r ≡ hasRoom s used count n → not r ≡ false → hasRoom s used k n ≡ true
-  has-room-is e h t = ap (λ (j : ℕ). hasRoom s used j n) (sym e) ∙ sym h ∙ not-false r t
+pub plain-no-place : (s image l : List ℕ) {r : Place} {n : ℕ} → ResourcePlace s image r → r ≡ place.Refused n → gave (answer.Refused n) s l ≡ addResource s image l
+plain-no-place s image l (places.resource-4 hs h) e = rw (← known-refusal h e) (plain-4 s image l hs)
+plain-no-place s image l (places.resource-5 st u hs hr h) e = rw (← known-refusal h e) (plain-5 s image l hs hr)
+plain-no-place s image l (places.resource-6 st u es f hs hr room h) e = rw (← known-refusal h e) (plain-6 s image l hs hr room)
+plain-no-place s image l (places.resource-at st u es f hs hr room h) e = absurd (not-refused h e)
 
-  pub fitting : r ≡ hasRoom s used count n → not r ≡ false → (used + n ≤ length s) × (used + n ≤ 1048576) × (count < 256)
-  fitting h t = room-is used count n s (sym h ∙ not-false r t)
+pub over-no-place : (s image : List ℕ) {r : Place} {n : ℕ} → ResourcePlace s image r → r ≡ place.Refused n → gave (answer.Refused n) s [] ≡ addResourceOverriding s image
+over-no-place s image (places.resource-4 hs h) e = rw (← known-refusal h e) (over-4 s image hs)
+over-no-place s image (places.resource-5 st u hs hr h) e = rw (← known-refusal h e) (over-5 s image hs hr)
+over-no-place s image (places.resource-6 st u es f hs hr room h) e = rw (← known-refusal h e) (over-6 s image hs hr room)
+over-no-place s image (places.resource-at st u es f hs hr room h) e = absurd (not-refused h e)
 
--- an item, and the counts over it
-pub item-put : (s : List ℕ) (used count : ℕ) (item : List ℕ) {k w : ℕ} {a b : List ℕ} → 9 ≤ used → used + length item ≤ length s → count ≡ k → w ≡ used + length item
-    → a ≡ over s used item → b ≡ over (over a 0 (toBe 4 w)) 7 (toBe 2 (count + 1)) → b ≡ withItem s used k item
-item-put s used count item {k} {w} {a} {b} lo fits e ew p q =
-    counts-written s used count item lo fits refl (q ∙ ap (λ (t : List ℕ). over (over t 0 (toBe 4 w)) 7 (toBe 2 (count + 1))) p ∙ ap (λ (z : ℕ). over (over (over s used item) 0 (toBe 4 z)) 7 (toBe 2 (count + 1))) ew)
-    ∙ ap (λ (j : ℕ). withItem s used j item) e
+pub function-no-place : (s id : List ℕ) (code : ℕ) {r : Place} {n : ℕ} → FunctionPlace s id code r → r ≡ place.Refused n → gave (answer.Refused n) s [] ≡ addFunction s id code
+function-no-place s id code (places.function-4 hs h) e = rw (← known-refusal h e) (function-4 s id code hs)
+function-no-place s id code (places.function-8 st u hs hi h) e = rw (← known-refusal h e) (function-8 s id code hs hi)
+function-no-place s id code (places.function-9 st u hs hi hc h) e = rw (← known-refusal h e) (function-9 s id code hs hi hc)
+function-no-place s id code (places.function-10 st u hs hi hc hf h) e = rw (← known-refusal h e) (function-10 s id code hs hi hc hf)
+function-no-place s id code (places.function-6 st u hs hi hc hf room h) e = rw (← known-refusal h e) (function-6 s id code hs hi hc hf room)
+function-no-place s id code (places.function-at st u hs hi hc hf room h) e = absurd (not-refused h e)
 
--- the slice keeps its length
-pub counts-length : (s : List ℕ) (used : ℕ) (item : List ℕ) (w c : ℕ) {a b : List ℕ} → 9 ≤ length s → used + length item ≤ length s → a ≡ over s used item → b ≡ over (over a 0 (toBe 4 w)) 7 (toBe 2 c) → length b ≡ length s
-counts-length s used item w c {a} {b} lo fits p q =
-    let la : length a ≡ length s = ap length p ∙ length-over s used item fits in
-    let l4 = length-u32 w in
-    let l2 = length-u16 c in
-    let lb : length (over a 0 (toBe 4 w)) ≡ length a = length-over a 0 (toBe 4 w) (omega arith) in
-    ap length q ∙ length-over (over a 0 (toBe 4 w)) 7 (toBe 2 c) (omega arith) ∙ lb ∙ la
+-- by the place of the item: a success
+pub over-filed : (s image : List ℕ) {r : Place} {u k : ℕ} {s′ : List ℕ} → ResourcePlace s image r → r ≡ place.At u k → s′ ≡ withItem s u k (2 ∷ image)
+    → gave (answer.Done 0) s′ [] ≡ addResourceOverriding s image
+over-filed s image {u = u} p q w =
+    resource-placed p q (λ st es e hs hr ek room. over-done s image hs hr room (w ∙ ap (λ (j : ℕ). withItem s u j (2 ∷ image)) ek))
 
-pub function-length : (id : List ℕ) → length (3 ∷ encFunction id) ≡ 9 + length id
-unfolding encFunction encWhole
-function-length id =
-    let a = length-str id in
-    let b = length-append (toBe 4 (4 + length (1 ∷ 1 ∷ encStr id))) (1 ∷ 1 ∷ encStr id) in
-    let c = length-u32 (4 + length (1 ∷ 1 ∷ encStr id)) in
-    omega arith
+pub function-filed : (s id : List ℕ) (code : ℕ) {r : Place} {u k : ℕ} {s′ : List ℕ} → FunctionPlace s id code r → r ≡ place.At u k → s′ ≡ withItem s u k (3 ∷ encFunction id)
+    → gave (answer.Done 0) s′ [] ≡ addFunction s id code
+function-filed s id code {u = u} p q w =
+    function-placed p q (λ st hs hi hc hf ek room. function-done s id code hs hi hc hf room (w ∙ ap (λ (j : ℕ). withItem s u j (3 ∷ encFunction id)) ek))
 
--- the records that were tallied are those of the repeated entries
-module _ {m r : List Error} {t : Tally} (y : Tallies m t) (e : m ≡ r) where
-  pub tally-count : t .count ≡ length r
-  tally-count = y .count ∙ ap length e
+-- the list of a plain addition
+not-short : {w : Listed} {n : ℕ} → w ≡ list.All n → w ≡ list.Short → ⊥
+not-short h e = let z : _≡_ {A = ℕ} 0 1 = cc in omega arith
 
-  pub tally-size : 5 + t .size ≡ length (encErrors r)
-  tally-size = ap (λ (n : ℕ). 5 + n) (y .size ∙ ap (λ (z : List Error). length (encAll encError z)) e) ∙ sym (errors-length r)
+known-count : {w : Listed} {m n : ℕ} → w ≡ list.All m → w ≡ list.All n → m ≡ n
+known-count h e = cc
 
-  pub list-done : (l : List ℕ) {a b : List ℕ} → 5 + t .size ≤ length l → 5 + t .size < 4294967296 → a ≡ over l 5 (encAll encError m) → b ≡ headed a (5 + t .size) → b ≡ atFront (encErrors r) l
-  list-done l {a} {b} h g p q =
-      let ez : t .size ≡ length (encAll encError r) = y .size ∙ ap (λ (z : List Error). length (encAll encError z)) e in
-      list-headed l r (omega arith) (omega arith) (p ∙ ap (λ (z : List Error). over l 5 (encAll encError z)) e) (q ∙ ap (λ (n : ℕ). headed a (5 + n)) ez)
+module _ (s image l marks : List ℕ) {r : Place} {u k : ℕ} (p : ResourcePlace s image r) (q : r ≡ place.At u k)
+    (m : (st : Store) (v : ℕ) (es : List Entry) (f : ℕ) → storeOf s ≡ got st v → resourceOf image ≡ got es f → marked marks 0 es ≡ repeats (findIn (st .items)) es)
+    {w : Listed} {l′ : List ℕ} (y : (es : List Entry) (f : ℕ) → resourceOf image ≡ got es f → Lists (marked marks 0 es) l w l′) where
+  listing : {C : Type 0} → ((st : Store) (es : List Entry) (e : ℕ) → storeOf s ≡ got st u → resourceOf image ≡ got es e → k ≡ length (st .items)
+      → hasRoom s u (length (st .items)) (1 + length image) ≡ true → Lists (repeats (findIn (st .items)) es) l w l′ → C) → C
+  listing c = resource-placed p q (λ st es e hs hr ek room. c st es e hs hr ek room (rw (← m st u es e hs hr) (y es e hr)))
 
--- the used length and the count, each over the bytes that stood there
-pub counts-over : (d : List ℕ) (used count : ℕ) {a b : List ℕ} → 9 ≤ length d → a ≡ sets d 0 (toBe 4 used) → b ≡ sets a 7 (toBe 2 count) → b ≡ over (over d 0 (toBe 4 used)) 7 (toBe 2 count)
-counts-over d used count {a} {b} h p q =
-    let l4 = length-u32 used in
-    let l2 = length-u16 count in
-    let x : a ≡ over d 0 (toBe 4 used) = p ∙ sets-over d 0 (toBe 4 used) (omega arith) in
-    let l : length a ≡ length d = ap length x ∙ length-over d 0 (toBe 4 used) (omega arith) in
-    q ∙ sets-over a 7 (toBe 2 count) (omega arith) ∙ ap (λ (t : List ℕ). over t 7 (toBe 2 count)) x
+  pub plain-short : w ≡ list.Short → gave (answer.Refused 7) s l′ ≡ addResource s image l
+  plain-short h = listing (λ st es e hs hr ek room z. go st es e hs hr room z)
+    where
+      go : (st : Store) (es : List Entry) (e : ℕ) → storeOf s ≡ got st u → resourceOf image ≡ got es e → hasRoom s u (length (st .items)) (1 + length image) ≡ true
+          → Lists (repeats (findIn (st .items)) es) l w l′ → gave (answer.Refused 7) s l′ ≡ addResource s image l
+      go st es e hs hr room (lists-all a _ _) = absurd (not-short a h)
+      go st es e hs hr room (lists-short _ n o) = rw o (plain-7 s image l hs hr room n)
 
--- writing keeps the length
-pub written-length : (d : List ℕ) (p x i : ℕ) (vs : List ℕ) {e : List ℕ} → e ≡ sets (set d p x) i vs → length e ≡ length d
-written-length d p x i vs h = ap length h ∙ length-sets (set d p x) i vs ∙ length-set d p x
-
-pub resource-length : (d : List ℕ) (at mode : ℕ) (image : List ℕ) {f : List ℕ} → at + (1 + length image) ≤ length d → f ≡ over d at (mode ∷ image) → length f ≡ length d
-resource-length d at mode image h p = ap length p ∙ length-over d at (mode ∷ image) (omega arith)
-
-pub function-put-length : (d : List ℕ) (at : ℕ) (id : List ℕ) {f : List ℕ} → at + (9 + length id) ≤ length d → f ≡ over d at (3 ∷ encFunction id) → length f ≡ length d
-function-put-length d at id h p = let z = function-length id in ap length p ∙ length-over d at (3 ∷ encFunction id) (omega arith)
-
-pub function-head-length : (d : List ℕ) (at : ℕ) (id : List ℕ) {d2 d5 : List ℕ} → d2 ≡ sets (set d at 3) (at + 1) (toBe 4 (8 + length id)) → d5 ≡ sets (set (set d2 (at + 5) 1) (at + 6) 1) (at + 7) (toBe 2 (length id)) → length d5 ≡ length d
-function-head-length d at id {d2} p q = written-length (set d2 (at + 5) 1) (at + 6) 1 (at + 7) (toBe 2 (length id)) q ∙ length-set d2 (at + 5) 1 ∙ written-length d at 3 (at + 1) (toBe 4 (8 + length id)) p
+  pub plain-filed : {n : ℕ} {s′ : List ℕ} → w ≡ list.All n → s′ ≡ withItem s u k (1 ∷ image) → gave (answer.Done n) s′ l′ ≡ addResource s image l
+  plain-filed {n} {s′} h i = listing (λ st es e hs hr ek room z. go st es e hs hr ek room z)
+    where
+      go : (st : Store) (es : List Entry) (e : ℕ) → storeOf s ≡ got st u → resourceOf image ≡ got es e → k ≡ length (st .items) → hasRoom s u (length (st .items)) (1 + length image) ≡ true
+          → Lists (repeats (findIn (st .items)) es) l w l′ → gave (answer.Done n) s′ l′ ≡ addResource s image l
+      go st es e hs hr ek room (lists-all a o b) = plain-done s image l hs hr room o (known-count h a) (i ∙ ap (λ (j : ℕ). withItem s u j (1 ∷ image)) ek) b
+      go st es e hs hr ek room (lists-short a _ _) = absurd (not-short h a)

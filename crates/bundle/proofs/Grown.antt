@@ -18,7 +18,7 @@ use Rattle.layout.proofs.Stands.{octets-part}
 use Rattle.layout.proofs.Numbers.{length-toBe}
 use Rattle.layout.proofs.Octets.{octets-append, and-left, and-right}
 use Rattle.layout.proofs.Theorems.{store-sound, store-complete, store-octets}
-use Rattle.bundle.specs.Additions.{atFront, withItem, hasRoom}
+use Rattle.growth.specs.Items.{atFront, withItem, hasRoom}
 use Rattle.bundle.specs.Growth.{withMore, Grown}
 
 all-append : {A : Type 0} (Ok : A → Type 0) (l k : List A) → All Ok l → All Ok k → All Ok (l ++ k)

@@ -1,18 +1,18 @@
 -- New bundle and additions: document 01, "What each operation refuses". Each is a function from the lent slices to the answer and what they hold then.
-use mathlib.Core.Bool.{Bool, true, false, _&&_, _||_, not}
-use mathlib.Core.List.{List, [], _∷_, _++_}
-use mathlib.Core.Option.{Option, some, none}
-use Prim.Native.Nat.{ℕ, _+_, _-_}
-use lib.ListN.{length, drop}
-use lib.Dec.{ltb, leb, eqb}
+-- An item's bytes and the room for it: `growth`, specs/Items. The entries that repeat an id: `entries`, specs/Repeats.
+use mathlib.Core.Bool.{Bool, true, false, not}
+use mathlib.Core.List.{List, [], _∷_}
+use Prim.Native.Nat.{ℕ, _+_}
+use lib.ListN.{length}
+use lib.Dec.{leb, eqb}
 use Rattle.records.specs.Got.{Got, got, bad}
-use Rattle.records.specs.Bytes.{part, toBe}
-use Rattle.records.specs.Rules.{isId}
-use Rattle.records.specs.Names.{sameBytes}
-use Rattle.records.specs.Images.{Kind, Entry, Item, Store, maxStore, maxItems, maxLocale, isSome, storeOf, resourceOf}
-use Rattle.records.specs.Encode.{encResource, encFunction, encFlag, encStore}
+use Rattle.rules.specs.Rules.{isId}
+use Rattle.records.specs.Images.{Entry, Store, maxLocale, isSome, storeOf, resourceOf}
+use Rattle.records.specs.Encode.{encFunction, encStore}
 use Rattle.records.specs.Errors.{Error, encErrors}
-use Rattle.bundle.specs.Lookup.{Find, findIn}
+use Rattle.entries.specs.Lookup.{findIn}
+use Rattle.entries.specs.Repeats.{repeats}
+use Rattle.growth.specs.Items.{atFront, withItem, hasRoom}
 
 -- "A refusal's result is its number. An addition's carries its count of Overriding records, 0 for overriding resources and functions."
 pub data Answer : Type 0 where
@@ -39,10 +39,6 @@ unfoldable pub orRefuse : Bool → ℕ → List ℕ → List ℕ → Added → A
 orRefuse true n s l a = a
 orRefuse false n s l a = refuse n s l
 
--- bytes at the front of a buffer, "later bytes as before"
-unfoldable pub atFront : List ℕ → List ℕ → List ℕ
-atFront b s = b ++ drop (length b) s
-
 -- "New bundle: 1 slice under 9 bytes; 2 locale above 3; 3 isolating byte above 1. Slice unchanged."
 unfoldable pub newBundle : List ℕ → ℕ → ℕ → Added
 newBundle s locale isolating =
@@ -50,31 +46,6 @@ newBundle s locale isolating =
     (orRefuse (leb locale maxLocale) 2 s []
     (orRefuse (leb isolating 1) 3 s []
     (succeed 0 (atFront (encStore (record { locale = locale; isolating = eqb isolating 1; items = [] })) s) [])))
-
--- the slice with one item more, its bytes `item`, after the others: the used length and the item count go up, the rest of the header stays
-unfoldable pub withItem : List ℕ → ℕ → ℕ → List ℕ → List ℕ
-withItem s used count item =
-    atFront (toBe 4 (used + length item) ++ (part s 4 3 ++ (toBe 2 (count + 1) ++ (part s 9 (used - 9) ++ item)))) s
-
--- "6 used length plus item above the slice or 1,048,576, or 256 items present"
-unfoldable pub hasRoom : List ℕ → ℕ → ℕ → ℕ → Bool
-hasRoom s used count n = leb (used + n) (length s) && (leb (used + n) maxStore && ltb count maxItems)
-
--- one Overriding record for each entry whose id is held already: in the bundle, or by an entry before it in the image
-unfoldable pub isHeld : Find → List (List ℕ) → List ℕ → Bool
-isHeld find [] i = isSome (find i)
-isHeld find (n ∷ ns) i = sameBytes n i || isHeld find ns i
-
-unfoldable pub repeatIf : Bool → Entry → List Error → List Error
-repeatIf true e l = Error.overriding (e .kind) (e .id) ∷ l
-repeatIf false e l = l
-
-unfoldable pub repeatsFrom : Find → List (List ℕ) → List Entry → List Error
-repeatsFrom find seen [] = []
-repeatsFrom find seen (e ∷ es) = repeatIf (isHeld find seen (e .id)) e (repeatsFrom find (e .id ∷ seen) es)
-
-unfoldable pub repeats : Find → List Entry → List Error
-repeats find es = repeatsFrom find [] es
 
 -- "7 (plain) list buffer too short for header and records"
 unfoldable pub listed : List ℕ → List ℕ → List Error → List ℕ → Added

@@ -1,22 +1,27 @@
 -- Definitions are shut until a proof opens them. A case of given bytes is proved by computing, which needs all that a formatting rests on: the names
 -- below, by crate. `opened` opens them all.
-use Rattle.numbers.specs.Bytes as numbers-bytes
-use Rattle.numbers.specs.Decimal as numbers-decimal
-use Rattle.numbers.specs.Literal as numbers-literal
-use Rattle.numbers.specs.Text as numbers-text
+use Rattle.decimals.specs.Bytes as numbers-bytes
+use Rattle.decimals.specs.Decimal as numbers-decimal
+use Rattle.literals.specs.Literal as numbers-literal
+use Rattle.decimals.specs.Text as numbers-text
 use Rattle.numbers.specs.Equal as numbers-equal
 use Rattle.numbers.specs.Value as numbers-value
-use Rattle.numbers.specs.Plural as numbers-plural
+use Rattle.plural.specs.Plural as numbers-plural
 use Rattle.records.specs.Got as records-got
 use Rattle.records.specs.Bytes as records-bytes
-use Rattle.records.specs.Rules as records-rules
+use Rattle.rules.specs.Run as rules-run
+use Rattle.rules.specs.Rules as records-rules
 use Rattle.records.specs.Names as records-names
+use Rattle.rules.specs.Same as rules-same
 use Rattle.records.specs.Decode as records-decode
 use Rattle.records.specs.Images as records-images
 use Rattle.records.specs.Encode as records-encode
 use Rattle.records.specs.Errors as records-errors
-use Rattle.texts.specs.Unescape as texts-unescape
-use Rattle.bundle.specs.Lookup as bundle-lookup
+use Rattle.scalars.specs.Scalars as scalars-scalars
+use Rattle.unescape.specs.Unescape as unescape-unescape
+use Rattle.entries.specs.Lookup as bundle-lookup
+use Rattle.entries.specs.Repeats as entries-repeats
+use Rattle.growth.specs.Items as growth-items
 use Rattle.bundle.specs.Additions as bundle-additions
 use Rattle.resolution.specs.Effect as resolver-effect
 use Rattle.resolution.specs.Resolve as resolver-resolve
@@ -56,7 +61,7 @@ unfolding records-got.after records-got.test records-got.pick
 recordsGot = tt
 
 unfoldable pub recordsBytes : Unit {0}
-unfolding records-bytes.bytesAt records-bytes.byteAt records-bytes.numberAt records-bytes.spanAt records-bytes.run records-bytes.toBe
+unfolding records-bytes.bytesAt records-bytes.byteAt records-bytes.numberAt records-bytes.spanAt rules-run.run records-bytes.toBe
 recordsBytes = tt
 
 unfoldable pub recordsRules : Unit {0}
@@ -64,7 +69,7 @@ unfolding records-rules.letter records-rules.digit records-rules.idStep records-
 recordsRules = tt
 
 unfoldable pub recordsNames : Unit {0}
-unfolding records-names.sameBytes records-names.among records-names.distinct
+unfolding rules-same.sameBytes records-names.among records-names.distinct
 recordsNames = tt
 
 unfoldable pub recordsDecode : Unit {0}
@@ -83,16 +88,16 @@ unfoldable pub recordsErrors : Unit {0}
 unfolding records-errors.encReferred records-errors.encRecord records-errors.encError records-errors.encErrors records-errors.listHeader
 recordsErrors = tt
 
-unfoldable pub textsUnescape : Unit {0}
-unfolding texts-unescape.hasBackslash texts-unescape.hexValue texts-unescape.digitsOf texts-unescape.scalarPiece texts-unescape.scalarOf texts-unescape.escapeOf texts-unescape.pieceOf texts-unescape.moreOf texts-unescape.isScalar texts-unescape.scalarOr texts-unescape.encScalar texts-unescape.readsAs texts-unescape.unescapeFrom texts-unescape.unescape
-textsUnescape = tt
+unfoldable pub unescapeUnescape : Unit {0}
+unfolding unescape-unescape.hasBackslash scalars-scalars.hexValue unescape-unescape.digitsOf unescape-unescape.scalarPiece unescape-unescape.scalarOf unescape-unescape.escapeOf unescape-unescape.pieceOf unescape-unescape.moreOf scalars-scalars.isScalar scalars-scalars.scalarOr scalars-scalars.encScalar unescape-unescape.readsAs unescape-unescape.unescapeFrom unescape-unescape.unescape
+unescapeUnescape = tt
 
 unfoldable pub bundleLookup : Unit {0}
 unfolding bundle-lookup.orElse bundle-lookup.onlyNamed bundle-lookup.firstEntry bundle-lookup.lastEntry bundle-lookup.holderAfter bundle-lookup.findFrom bundle-lookup.findIn bundle-lookup.attributeOf bundle-lookup.partOf
 bundleLookup = tt
 
 unfoldable pub bundleAdditions : Unit {0}
-unfolding bundle-additions.refuse bundle-additions.succeed bundle-additions.orRefuse bundle-additions.atFront bundle-additions.newBundle bundle-additions.withItem bundle-additions.hasRoom bundle-additions.isHeld bundle-additions.repeatIf bundle-additions.repeatsFrom bundle-additions.repeats bundle-additions.listed bundle-additions.addPlainTo bundle-additions.addResource bundle-additions.addOverridingTo bundle-additions.addResourceOverriding bundle-additions.addFunctionTo bundle-additions.addFunction
+unfolding bundle-additions.refuse bundle-additions.succeed bundle-additions.orRefuse growth-items.atFront bundle-additions.newBundle growth-items.withItem growth-items.hasRoom entries-repeats.isHeld entries-repeats.repeatIf entries-repeats.repeatsFrom entries-repeats.repeats bundle-additions.listed bundle-additions.addPlainTo bundle-additions.addResource bundle-additions.addOverridingTo bundle-additions.addResourceOverriding bundle-additions.addFunctionTo bundle-additions.addFunction
 bundleAdditions = tt
 
 unfoldable pub resolverEffect : Unit {0}
@@ -112,5 +117,5 @@ unfolding resolver-format.valueOf resolver-format.valuesOf resolver-format.maxPa
 resolverFormat = tt
 
 unfoldable pub opened : Unit {0}
-unfolding numbersBytes numbersDecimal numbersLiteral numbersText numbersEqual numbersValue numbersPlural recordsGot recordsBytes recordsRules recordsNames recordsDecode recordsImages recordsEncode recordsErrors textsUnescape bundleLookup bundleAdditions resolverEffect resolverResolve resolverExec resolverFormat
+unfolding numbersBytes numbersDecimal numbersLiteral numbersText numbersEqual numbersValue numbersPlural recordsGot recordsBytes recordsRules recordsNames recordsDecode recordsImages recordsEncode recordsErrors unescapeUnescape bundleLookup bundleAdditions resolverEffect resolverResolve resolverExec resolverFormat
 opened = tt

@@ -2,18 +2,9 @@
 use mathlib.Core.List.{List, [], _∷_}
 use mathlib.Core.Bool.{true, false}
 use Prim.Native.Nat.{ℕ, _+_, _-_, _*_}
-use Prim.Native.Char.{Char, code}
-use Prim.Native.String as string
 use Prim.Native.String.{String}
 use lib.Dec.{ltb}
-
-abbrev pub Bytes : Type 0
-Bytes = List ℕ
-
--- the bytes of a quoted ASCII text
-abbrev pub ascii : String → Bytes
-ascii string.[] = []
-ascii (string._∷_ c s) = code c ∷ ascii s
+pub use Rattle.decimals.specs.Ascii.{Bytes, ascii}
 
 -- "⟨ ⟩ are U+2068, U+2069"
 abbrev pub ⟨ : Bytes

@@ -5,7 +5,7 @@ use bundle::Answer;
 use resolver::format::Answer as Formatted;
 ghost use mathlib.Core.Path.{_≡_};
 ghost use Rattle.bundle.specs.Additions.{newBundle, addResource, addResourceOverriding, addFunction};
-ghost use Rattle.texts.specs.Report.{optionOf};
+ghost use Rattle.texts.specs.Optional.{optionOf};
 ghost use Rattle.exports.specs.Numbers.{numberOf, countOf};
 ghost use Rattle.exports.specs.Formatted.{FormatsTo};
 

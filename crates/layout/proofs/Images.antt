@@ -10,7 +10,7 @@ use lib.Dec.{eqb, ltb, leb}
 use borrow.Author.Tests.{leb-true, ltb-true, le-leb, lt-ltb}
 use Rattle.records.specs.Got.{Got, got, Parser, after, test, pick}
 use Rattle.records.specs.Bytes.{toBe, numberAt}
-use Rattle.records.specs.Rules.{isUtf8}
+use Rattle.rules.specs.Rules.{isUtf8}
 use Rattle.records.specs.Decode.{many}
 use Rattle.records.specs.Images.{Kind, Item, Store, Argument, maxImage, maxStore, maxItems, maxLocale, maxScale, digitsLimit, oneAt, kindAt, attributeAt, attributesAt, complete, entryAt, resourceAt, functionAt, itemAt, localeAt, storeOf, wholeOf, argumentNumberAt, argumentValueAt, argumentAt, argumentsAt}
 use Rattle.records.specs.Encode.{encStr, encFlag, encOptional, encAll, encCounted, encPattern, encKind, encAttribute, encEntry, encWhole, encResource, encFunction, encItem, encStore, encArgument, encNamedArgument, encArgumentsImage}

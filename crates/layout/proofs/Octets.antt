@@ -8,8 +8,9 @@ use native.Mathlib.Nat.{mod-lt}
 use lib.ListN.{length}
 use lib.Dec.{ltb, eqb}
 use borrow.Author.Tests.{ltb-true, ltb-false, eqb-true, lt-ltb, le-ltb, le-leb, lt-leb, ne-eqb}
-use Rattle.records.specs.Bytes.{toBe, run}
-use Rattle.records.specs.Rules.{choose, letter, digit, idStep, isId, utf8First, utf8Low, utf8High, utf8Rest, utf8Step, isUtf8, isText, numberStep, isNumber, escapeStep, isString}
+use Rattle.records.specs.Bytes.{toBe}
+use Rattle.rules.specs.Run.{run}
+use Rattle.rules.specs.Rules.{choose, letter, digit, idStep, isId, utf8First, utf8Low, utf8High, utf8Rest, utf8Step, isUtf8, isText, numberStep, isNumber, escapeStep, isString}
 use Rattle.layout.specs.Exact.{Octets}
 
 pub octets-append : (x y : List ℕ) → Octets x → Octets y → Octets (x ++ y)

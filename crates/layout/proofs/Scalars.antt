@@ -8,8 +8,8 @@ use native.Mathlib.Omega.{arith}
 use lib.ListN.{length}
 use lib.Dec.{ltb, eqb}
 use borrow.Author.Tests.{ltb-true, ltb-false, eqb-true, eqb-false, lt-ltb, le-ltb, eq-eqb, ne-eqb}
-use Rattle.records.specs.Bytes.{run}
-use Rattle.records.specs.Rules.{choose, utf8First, utf8Low, utf8High, utf8Rest, utf8Step, isUtf8}
+use Rattle.rules.specs.Run.{run}
+use Rattle.rules.specs.Rules.{choose, utf8First, utf8Low, utf8High, utf8Rest, utf8Step, isUtf8}
 use Rattle.records.specs.Encode.{encAll}
 use Rattle.records.specs.Valid.{All}
 use Rattle.layout.proofs.Octets.{run-end, first-above, utf8-stays, utf8-out}

@@ -8,13 +8,13 @@ use native.Mathlib.Omega.{arith}
 use native.Mathlib.Nat.{zero-mul, mul-right-comm, eq-of-mul-eq-mul-right, one-le-pow}
 use lib.Dec.{eqb}
 use borrow.Author.Tests.{eqb-true, eqb-false, eq-eqb, ne-eqb}
-use Rattle.numbers.specs.Decimal.{Options, Number, kindNumber, styleNumber, displayNumber}
+use Rattle.decimals.specs.Decimal.{Options, Number, kindNumber, styleNumber, displayNumber}
 use Rattle.numbers.specs.Equal.{sameFlag, sameCount, sameText, sameWords, sameCounts, sameOptions, sameValue, sameNumber}
-use Rattle.numbers.specs.Shown.{shownCount, toldCount, shownText, toldText, shownOptions, toldOptions, shown, told}
-use Rattle.numbers.proofs.Same.{same-refl, same-eq, eq-same}
-use Rattle.numbers.proofs.Tests.{and-true}
-use Rattle.numbers.specs.Bytes.{sameBytes}
-use Rattle.numbers.proofs.Shown.{count-there}
+use Rattle.decimals.specs.Relations.Shown.{shownCount, toldCount, shownText, toldText, shownOptions, toldOptions, shown, told}
+use Rattle.decimals.proofs.Same.{same-refl, same-eq, eq-same}
+use Rattle.decimals.proofs.Tests.{and-true}
+use Rattle.decimals.specs.Bytes.{sameBytes}
+use Rattle.decimals.proofs.Shown.{count-there}
 
 pub flag-refl : (t : Bool) → sameFlag t t ≡ true
 unfolding sameFlag

@@ -1,14 +1,12 @@
 -- Tests on what calls answered.
 use mathlib.Core.Path.{_≡_, refl, sym, _∙_}
-use mathlib.Core.Bool.{Bool, true, false, _&&_}
-use mathlib.Core.List.{List}
-use mathlib.Core.Option.{Option, none, some}
+use mathlib.Core.Bool.{Bool, true, false}
 use Prim.Native.Nat.{ℕ}
 use lib.Dec.{eqb}
 use borrow.Author.Tests.{eq-eqb, ne-eqb}
-use Rattle.numbers.specs.Bytes.{sameBytes}
+use Rattle.decimals.specs.Bytes.{sameBytes}
 use Rattle.numbers.specs.Equal.{sameFlag, sameText}
-use Rattle.numbers.specs.Shown.{toldText}
+use Rattle.decimals.specs.Relations.Shown.{toldText}
 
 pub agree : {x y p q : ℕ} → x ≡ p → y ≡ q → x ≡ y → eqb p q ≡ true
 agree {x} {y} {p} {q} a b e = eq-eqb p q (sym a ∙ e ∙ b)
@@ -23,7 +21,3 @@ flags-texts true true = refl
 flags-texts true false = refl
 flags-texts false true = refl
 flags-texts false false = refl
-
-pub and-true : (a b : Bool) → a && b ≡ true → (a ≡ true) × (b ≡ true)
-and-true true b h = (refl, h)
-and-true false b h = (h, (cc))

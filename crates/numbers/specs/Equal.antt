@@ -4,8 +4,8 @@ use mathlib.Core.List.{List}
 use mathlib.Core.Bool.{Bool, true, false, _&&_, _||_, not}
 use mathlib.Core.Option.{Option, none, some}
 use lib.Dec.{eqb}
-use Rattle.numbers.specs.Bytes.{sameBytes}
-use Rattle.numbers.specs.Decimal.{Options, Number, kindNumber, styleNumber, displayNumber}
+use Rattle.decimals.specs.Bytes.{sameBytes}
+use Rattle.decimals.specs.Decimal.{Options, Number, kindNumber, styleNumber, displayNumber}
 
 unfoldable pub sameFlag : Bool → Bool → Bool
 sameFlag true b = b

@@ -1,10 +1,5 @@
-pub mod Bytes
-pub mod Decimal
-pub mod Literal
-pub mod Spelling
-pub mod Text
+-- Values, equality and NUMBER; Relations has what only contracts and proofs use.
 pub mod Equal
 pub mod Number
 pub mod Value
-pub mod Plural
-pub mod Shown
+pub mod Relations

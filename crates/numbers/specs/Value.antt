@@ -4,15 +4,16 @@ use mathlib.Core.List.{List, [], _∷_}
 use mathlib.Core.Bool.{Bool, true, false, _&&_, not}
 use mathlib.Core.Option.{Option, none, some}
 use lib.Dec.{ltb, eqb}
-use Rattle.numbers.specs.Bytes.{sameBytes}
-use Rattle.numbers.specs.Decimal.{Options, Number, fractionLimit}
-use Rattle.numbers.specs.Text.{numberText}
-use Rattle.numbers.specs.declared.types.Kind.{Kind}
-use Rattle.numbers.specs.declared.types.Kind.the-variants.{Cardinal, Ordinal}
-use Rattle.numbers.specs.declared.types.Style.{Style}
-use Rattle.numbers.specs.declared.types.Style.the-variants.{Decimal, Currency, Percent}
-use Rattle.numbers.specs.declared.types.Display.{Display}
-use Rattle.numbers.specs.declared.types.Display.the-variants.{Symbol, Code, Name}
+use Rattle.decimals.specs.Ascii.{ascii}
+use Rattle.decimals.specs.Bytes.{sameBytes}
+use Rattle.decimals.specs.Decimal.{Options, Number, fractionLimit}
+use Rattle.decimals.specs.Text.{numberText}
+use Rattle.decimals.specs.declared.types.Kind.{Kind}
+use Rattle.decimals.specs.declared.types.Kind.the-variants.{Cardinal, Ordinal}
+use Rattle.decimals.specs.declared.types.Style.{Style}
+use Rattle.decimals.specs.declared.types.Style.the-variants.{Decimal, Currency, Percent}
+use Rattle.decimals.specs.declared.types.Display.{Display}
+use Rattle.decimals.specs.declared.types.Display.the-variants.{Symbol, Code, Name}
 
 -- the Rust's FluentValue: String, Number, None, Error
 pub data Value : Type 0 where
@@ -20,70 +21,55 @@ pub data Value : Type 0 where
   numeric : Number → Value
   nothing wrong : Value
 
--- the names of the ten options, and the words that some of them know
--- type
+-- the names of the ten options
 abbrev pub typeName : List ℕ
-typeName = 116 ∷ 121 ∷ 112 ∷ 101 ∷ []
+typeName = ascii "type"
 
--- style
 abbrev pub styleName : List ℕ
-styleName = 115 ∷ 116 ∷ 121 ∷ 108 ∷ 101 ∷ []
+styleName = ascii "style"
 
--- currency
 abbrev pub currencyName : List ℕ
-currencyName = 99 ∷ 117 ∷ 114 ∷ 114 ∷ 101 ∷ 110 ∷ 99 ∷ 121 ∷ []
+currencyName = ascii "currency"
 
--- currencyDisplay
 abbrev pub currencyDisplayName : List ℕ
-currencyDisplayName = 99 ∷ 117 ∷ 114 ∷ 114 ∷ 101 ∷ 110 ∷ 99 ∷ 121 ∷ 68 ∷ 105 ∷ 115 ∷ 112 ∷ 108 ∷ 97 ∷ 121 ∷ []
+currencyDisplayName = ascii "currencyDisplay"
 
--- useGrouping
 abbrev pub useGroupingName : List ℕ
-useGroupingName = 117 ∷ 115 ∷ 101 ∷ 71 ∷ 114 ∷ 111 ∷ 117 ∷ 112 ∷ 105 ∷ 110 ∷ 103 ∷ []
+useGroupingName = ascii "useGrouping"
 
--- minimumIntegerDigits
 abbrev pub minimumIntegerDigitsName : List ℕ
-minimumIntegerDigitsName = 109 ∷ 105 ∷ 110 ∷ 105 ∷ 109 ∷ 117 ∷ 109 ∷ 73 ∷ 110 ∷ 116 ∷ 101 ∷ 103 ∷ 101 ∷ 114 ∷ 68 ∷ 105 ∷ 103 ∷ 105 ∷ 116 ∷ 115 ∷ []
+minimumIntegerDigitsName = ascii "minimumIntegerDigits"
 
--- minimumFractionDigits
 abbrev pub minimumFractionDigitsName : List ℕ
-minimumFractionDigitsName = 109 ∷ 105 ∷ 110 ∷ 105 ∷ 109 ∷ 117 ∷ 109 ∷ 70 ∷ 114 ∷ 97 ∷ 99 ∷ 116 ∷ 105 ∷ 111 ∷ 110 ∷ 68 ∷ 105 ∷ 103 ∷ 105 ∷ 116 ∷ 115 ∷ []
+minimumFractionDigitsName = ascii "minimumFractionDigits"
 
--- maximumFractionDigits
 abbrev pub maximumFractionDigitsName : List ℕ
-maximumFractionDigitsName = 109 ∷ 97 ∷ 120 ∷ 105 ∷ 109 ∷ 117 ∷ 109 ∷ 70 ∷ 114 ∷ 97 ∷ 99 ∷ 116 ∷ 105 ∷ 111 ∷ 110 ∷ 68 ∷ 105 ∷ 103 ∷ 105 ∷ 116 ∷ 115 ∷ []
+maximumFractionDigitsName = ascii "maximumFractionDigits"
 
--- minimumSignificantDigits
 abbrev pub minimumSignificantDigitsName : List ℕ
-minimumSignificantDigitsName = 109 ∷ 105 ∷ 110 ∷ 105 ∷ 109 ∷ 117 ∷ 109 ∷ 83 ∷ 105 ∷ 103 ∷ 110 ∷ 105 ∷ 102 ∷ 105 ∷ 99 ∷ 97 ∷ 110 ∷ 116 ∷ 68 ∷ 105 ∷ 103 ∷ 105 ∷ 116 ∷ 115 ∷ []
+minimumSignificantDigitsName = ascii "minimumSignificantDigits"
 
--- maximumSignificantDigits
 abbrev pub maximumSignificantDigitsName : List ℕ
-maximumSignificantDigitsName = 109 ∷ 97 ∷ 120 ∷ 105 ∷ 109 ∷ 117 ∷ 109 ∷ 83 ∷ 105 ∷ 103 ∷ 110 ∷ 105 ∷ 102 ∷ 105 ∷ 99 ∷ 97 ∷ 110 ∷ 116 ∷ 68 ∷ 105 ∷ 103 ∷ 105 ∷ 116 ∷ 115 ∷ []
+maximumSignificantDigitsName = ascii "maximumSignificantDigits"
 
--- ordinal
+-- and the words that some of them know
 abbrev pub ordinalWord : List ℕ
-ordinalWord = 111 ∷ 114 ∷ 100 ∷ 105 ∷ 110 ∷ 97 ∷ 108 ∷ []
+ordinalWord = ascii "ordinal"
 
--- currency
 abbrev pub currencyWord : List ℕ
-currencyWord = 99 ∷ 117 ∷ 114 ∷ 114 ∷ 101 ∷ 110 ∷ 99 ∷ 121 ∷ []
+currencyWord = ascii "currency"
 
--- percent
 abbrev pub percentWord : List ℕ
-percentWord = 112 ∷ 101 ∷ 114 ∷ 99 ∷ 101 ∷ 110 ∷ 116 ∷ []
+percentWord = ascii "percent"
 
--- code
 abbrev pub codeWord : List ℕ
-codeWord = 99 ∷ 111 ∷ 100 ∷ 101 ∷ []
+codeWord = ascii "code"
 
--- name
 abbrev pub nameWord : List ℕ
-nameWord = 110 ∷ 97 ∷ 109 ∷ 101 ∷ []
+nameWord = ascii "name"
 
--- false
 abbrev pub falseWord : List ℕ
-falseWord = 102 ∷ 97 ∷ 108 ∷ 115 ∷ 101 ∷ []
+falseWord = ascii "false"
 
 -- options with one of them set
 unfoldable pub withKind : Kind → Options → Options

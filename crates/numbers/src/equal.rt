@@ -1,14 +1,14 @@
 // Equality of numbers: value and all ten options.
-use crate::text::shortest;
-use crate::types::Count;
-use crate::types::Number;
-use crate::types::Options;
-use crate::types::display_number;
-use crate::types::kind_number;
-use crate::types::style_number;
+use decimals::text::shortest;
+use decimals::types::Count;
+use decimals::types::Number;
+use decimals::types::Options;
+use decimals::types::display_number;
+use decimals::types::kind_number;
+use decimals::types::style_number;
 ghost use mathlib.Core.Path.{_≡_};
 ghost use Rattle.numbers.specs.Equal.{sameFlag, sameCount, sameWords, sameCounts, sameValue, sameNumber};
-ghost use Rattle.numbers.specs.Shown.{told, toldOptions, toldCount};
+ghost use Rattle.decimals.specs.Relations.Shown.{told, toldOptions, toldCount};
 
 fn same_count(a: Count, b: Count) -> bool
     ensures { λ r. ⌜ r ≡ sameCount (toldCount a) (toldCount b) ⌝ }

@@ -1,8 +1,4 @@
-// Numbers: exact decimals with NUMBER's ten options, their text, equality and plural categories.
-pub mod bytes;
+// Equality of numbers, and the merge of NUMBER's named options.
 pub mod equal;
-pub mod literal;
 pub mod merge;
-pub mod plural;
-pub mod text;
-pub mod types;
+pub mod words;

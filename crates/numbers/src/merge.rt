@@ -1,21 +1,28 @@
 // NUMBER's named options.
-use crate::bytes::same_bytes;
-use crate::text::whole;
-use crate::types::Count;
-use crate::types::Display;
-use crate::types::FRACTION_LIMIT;
-use crate::types::Kind;
-use crate::types::Merged;
-use crate::types::Number;
-use crate::types::Options;
-use crate::types::Style;
+use crate::words::place_in;
+use decimals::bytes::same_bytes;
+use decimals::text::whole;
+use decimals::types::Count;
+use decimals::types::Display;
+use decimals::types::FRACTION_LIMIT;
+use decimals::types::Kind;
+use decimals::types::Number;
+use decimals::types::Options;
+use decimals::types::Style;
 ghost use mathlib.Core.Path.{_≡_};
 ghost use mathlib.Core.Bool.{_&&_};
 ghost use lib.Dec.{eqb, ltb};
-ghost use Rattle.numbers.specs.Decimal.{fractionLimit};
+ghost use Rattle.decimals.specs.Decimal.{fractionLimit};
 ghost use Rattle.numbers.specs.Value.{numeric, kindOf, styleOf, displayOf, toCount, mergeText};
-ghost use Rattle.numbers.specs.Shown.{told, toldOptions, shownOptions, countNamed, pickCount, setCount, setWords, mergedOf};
-ghost use Rattle.numbers.specs.declared.types.Count.the-variants.{Set};
+ghost use Rattle.decimals.specs.Relations.Shown.{told, toldOptions, shownOptions};
+ghost use Rattle.numbers.specs.Relations.Shown.{countNamed, pickCount, setCount, setWords, mergedOf};
+ghost use Rattle.decimals.specs.declared.types.Count.the-variants.{Set};
+
+// What merging one option answers: the options, or that the option is a minimumFractionDigits above the limit.
+pub enum Merged {
+    Is(Options),
+    TooLong,
+}
 
 fn kind_of(s: &[u8]) -> Kind
     ensures { λ r. ⌜ r ≡ kindOf (now (s .entry)) ⌝ }
@@ -77,54 +84,39 @@ fn with_words(o: Options, kind: Kind, style: Style, display: Display) -> Options
 pub fn merge_text(name: &[u8], value: &[u8], o: Options) -> Options
     ensures { λ r. ⌜ r ≡ shownOptions (mergeText (now (name .entry)) (now (value .entry)) (toldOptions o)) ⌝ }
 {
+    let at = place_in(name, b"type,style,currency,currencyDisplay,useGrouping,");
     let k = o.kind;
     let s = o.style;
     let d = o.currency_display;
-    if same_bytes(name, b"type") {
-        return with_words(o, kind_of(value), s, d);
+    match at {
+        0 => with_words(o, kind_of(value), s, d),
+        1 => with_words(o, k, style_of(value), d),
+        2 => {
+            let mut r = o;
+            r.currency = true;
+            r
+        }
+        3 => with_words(o, k, s, display_of(value)),
+        4 => {
+            let mut r = o;
+            r.use_grouping = !same_bytes(value, b"false");
+            r
+        }
+        _ => o,
     }
-    if same_bytes(name, b"style") {
-        return with_words(o, k, style_of(value), d);
-    }
-    if same_bytes(name, b"currency") {
-        let mut r = o;
-        r.currency = true;
-        return r;
-    }
-    if same_bytes(name, b"currencyDisplay") {
-        return with_words(o, k, s, display_of(value));
-    }
-    if same_bytes(name, b"useGrouping") {
-        let mut r = o;
-        r.use_grouping = !same_bytes(value, b"false");
-        return r;
-    }
-    o
 }
 
 // Which digit count a name names, from 0; 5 for none.
-fn count_named(name: &[u8]) -> u8
+fn count_named(name: &[u8]) -> usize
     ensures { λ r. ⌜ r ≡ countNamed (now (name .entry)) ⌝ }
 {
-    if same_bytes(name, b"minimumIntegerDigits") {
-        return 0;
-    }
-    if same_bytes(name, b"minimumFractionDigits") {
-        return 1;
-    }
-    if same_bytes(name, b"maximumFractionDigits") {
-        return 2;
-    }
-    if same_bytes(name, b"minimumSignificantDigits") {
-        return 3;
-    }
-    if same_bytes(name, b"maximumSignificantDigits") {
-        return 4;
-    }
-    5
+    place_in(
+        name,
+        b"minimumIntegerDigits,minimumFractionDigits,maximumFractionDigits,minimumSignificantDigits,maximumSignificantDigits,",
+    )
 }
 
-fn count_at(at: u8, place: u8, k: u64, old: Count) -> Count
+fn count_at(at: usize, place: usize, k: u64, old: Count) -> Count
     ensures { λ r. ⌜ r ≡ pickCount (eqb at place) (Set k) old ⌝ }
 {
     if at == place {
@@ -134,7 +126,7 @@ fn count_at(at: u8, place: u8, k: u64, old: Count) -> Count
 }
 
 // Options with the digit count at a place set.
-fn with_count(o: Options, at: u8, k: u64) -> Options
+fn with_count(o: Options, at: usize, k: u64) -> Options
     ensures { λ r. ⌜ r ≡ setCount at k o ⌝ }
 {
     let kind = o.kind;
@@ -169,7 +161,7 @@ fn to_count(n: Number) -> u64
     whole(n.digits, n.scale)
 }
 
-fn too_long(at: u8, k: u64) -> bool
+fn too_long(at: usize, k: u64) -> bool
     ensures { λ r. ⌜ r ≡ (eqb at 1 && ltb fractionLimit k) ⌝ }
 {
     if at == 1 {

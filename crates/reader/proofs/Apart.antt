@@ -46,7 +46,8 @@ use denote.Triple.Spec.{Meets, tripleOf}
 use denote.Triple.Walked.{says, Stays, stay-none, walkOf, goes-none, Walks, ends-at, walked, walk-meets}
 use denote.Exit.{yes}
 use denote.Triple.Clauses.{Ended, Clauses, closing, ensured, lasts}
-use Rattle.records.specs.Got.{Parser, numOf}
+use Rattle.records.specs.Got.{Parser}
+use Rattle.records.specs.Relations.Answer.{numOf}
 use Rattle.records.specs.declared.Num.{Num}
 use Rattle.records.proofs.Num as N
 use Rattle.records.proofs.Num.Laws as N′

@@ -4,11 +4,12 @@ use mathlib.Core.Path.{_≡_, ap, sym, _∙_}
 use Prim.Native.Nat.{ℕ, _-_}
 use mathlib.Core.List.{List}
 use lib.ListN.{length}
-use Rattle.records.specs.Got.{Parser, numOf}
+use Rattle.records.specs.Got.{Parser}
+use Rattle.records.specs.Relations.Answer.{numOf}
 use Rattle.records.specs.Bytes.{numberAt}
 use Rattle.records.specs.declared.Num.{Num}
 use Rattle.records.specs.declared.Num.the-variants.{At}
-use Rattle.reader.specs.Rows.{endOf, rowAt, sizedAt}
+use Rattle.reader.specs.Relations.Rows.{endOf, rowAt, sizedAt}
 use Rattle.reader.specs.declared.Row.{Row}
 use Rattle.reader.specs.declared.Sized.{Sized}
 

@@ -45,12 +45,13 @@ use denote.Triple.Spec.{Meets, tripleOf}
 use denote.Triple.Walked.{says, Stays, stay-none, stay-none-slice, walkOf, goes-none, goes-none-slice, Walks, ends-at, walked, walk-meets}
 use denote.Exit.{yes}
 use denote.Triple.Clauses.{Ended, Clauses, closing, ensured, lasts}
-use Rattle.records.specs.Got.{Parser, numOf}
+use Rattle.records.specs.Got.{Parser}
+use Rattle.records.specs.Relations.Answer.{numOf}
 use Rattle.records.specs.declared.Num.{Num}
 use Rattle.records.proofs.Num as N
 use Rattle.records.proofs.Num.Laws as N′
 use Rattle.records.specs.Bytes.{numberAt}
-use Rattle.reader.specs.Rows.{endOf, rowOf, rowAt, sizedOf, sizedAt}
+use Rattle.reader.specs.Relations.Rows.{endOf, rowOf, rowAt, sizedOf, sizedAt}
 use Rattle.reader.specs.declared.Reader.{Reader}
 use Rattle.reader.specs.declared.Row.{Row}
 use Rattle.reader.specs.declared.Sized.{Sized}

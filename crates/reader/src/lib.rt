@@ -6,9 +6,9 @@
 ghost use mathlib.Core.Path.{_≡_};
 ghost use Prim.Native.Nat.{_-_};
 ghost use lib.ListN.{length};
-ghost use Rattle.records.specs.Got.{numOf};
+ghost use Rattle.records.specs.Relations.Answer.{numOf};
 ghost use Rattle.records.specs.Bytes.{byteAt, numberAt, spanAt};
-ghost use Rattle.reader.specs.Rows.{endOf, rowOf, rowAt, sizedOf, sizedAt};
+ghost use Rattle.reader.specs.Relations.Rows.{endOf, rowOf, rowAt, sizedOf, sizedAt};
 use records::Num;
 
 // An image, and a position in it.

@@ -1,16 +1,26 @@
 // The longest arguments image, 65,536 bytes, which is too long for a vector: one text of 65,523 bytes. It is put twice, so that the text of the message is
 // longer than a Str or an image can be.
-use crate::cases;
+use records::write_bytes;
 use resolver::format::Answer;
 use resolver::format::Figures;
+use resolver::format::format;
+use vectors::all_are;
+use vectors::differs;
+use vectors::part;
+
+fn letters() -> [u8; 65537] {
+    [120; 65537]
+}
 
 // Twice the text between its marks.
-const TEXT: usize = 131058;
+fn room() -> [u8; 131058] {
+    [0xAA; 131058]
+}
 
 // The argument `n`, a text of so many x.
 fn image_of(head: &[u8; 13]) -> [u8; 65537] {
-    let mut b = [120u8; 65537];
-    records::write_bytes(&mut b, 0, head);
+    let mut b = letters();
+    write_bytes(&mut b, 0, head);
     b
 }
 
@@ -19,7 +29,7 @@ fn formatted(args: &[u8], text: &mut [u8]) -> Answer {
     let mut list = [0xAAu8; 5];
     let mut work = [0xAAu8; 1];
     let has = false;
-    resolver::format::format(
+    format(
         b"\x00\x00\x00\x28\x01\x00\x01\x00\x01\x01\x00\x00\x00\x1E\x01\x00\x01\x01\x00\x01a\x01\x00\x00\x00\x0C\x00\x02\x02\x06\x00\x01n\x02\x06\x00\x01n\x00\x00",
         b"a",
         has,
@@ -54,7 +64,7 @@ fn is_text(s: &[u8]) -> bool {
 }
 
 fn are_figures(f: Figures) -> bool {
-    if f.text != TEXT {
+    if f.text != 131058 {
         return false;
     }
     if f.errors != 0 {
@@ -69,60 +79,36 @@ fn are_figures(f: Figures) -> bool {
     f.work == 0
 }
 
-fn finished(r: Answer) -> bool {
+// 0 where it is finished with these figures; 13, and nothing changes; 15, and the text is cleared.
+fn number(r: Answer) -> u8 {
     match r {
-        Answer::Finished(f) => are_figures(f),
-        Answer::Refused(_) => false,
-        Answer::Cleared(_) => false,
+        Answer::Finished(f) => if are_figures(f) { 0 } else { 255 },
+        Answer::Refused(n) => if n == 13 { 13 } else { 255 },
+        Answer::Cleared(n) => if n == 15 { 15 } else { 255 },
     }
 }
 
-// The arguments image is a byte too long: 13, and nothing changes.
-fn too_long(args: &[u8], text: &mut [u8]) -> u64 {
-    let r = formatted(args, text);
-    match r {
-        Answer::Refused(n) => {
-            if n == 13 {
-                return cases::differs(cases::all_are(text, 0xAA));
-            }
-            1
-        }
-        Answer::Finished(_) => 1,
-        Answer::Cleared(_) => 1,
+fn differ(args: &[u8], text: &mut [u8], want: u8) -> u64 {
+    let n = number(formatted(args, text));
+    if n != want {
+        return 1;
+    }
+    match n {
+        0 => differs(is_text(text)),
+        13 => differs(all_are(text, 0xAA)),
+        _ => differs(all_are(text, 0)),
     }
 }
 
-fn fits(args: &[u8], text: &mut [u8]) -> u64 {
-    let r = formatted(args, text);
-    if finished(r) {
-        return cases::differs(is_text(text));
-    }
-    1
-}
-
-// The text buffer is a byte too short: 15, and it is cleared.
-fn too_short(args: &[u8], text: &mut [u8]) -> u64 {
-    let r = formatted(args, text);
-    match r {
-        Answer::Cleared(n) => {
-            if n == 15 {
-                return cases::differs(cases::all_are(text, 0));
-            }
-            1
-        }
-        Answer::Finished(_) => 1,
-        Answer::Refused(_) => 1,
-    }
-}
-
+// The image is a byte too long; it fits; the text buffer is a byte too short.
 pub fn limit() -> u64 {
-    let mut text = [0xAAu8; 131058];
+    let mut text = room();
     let long = image_of(b"\x00\x01\x00\x01\x01\x00\x01\x00\x01n\x01\xFF\xF4");
-    let mut differ = too_long(&long, &mut text);
-    let zero = 0usize;
-    let most = 65536usize;
+    let a = differ(&long, &mut text, 13);
     let args = image_of(b"\x00\x01\x00\x00\x01\x00\x01\x00\x01n\x01\xFF\xF3");
-    differ = cases::more(differ, fits(&args[zero..most], &mut text));
-    let mut short = [0xAAu8; 131057];
-    cases::more(differ, too_short(&args[zero..most], &mut short))
+    let b = differ(part(&args, 0, 65536), &mut text, 0);
+    let zero = 0usize;
+    let short = 131057usize;
+    let c = differ(part(&args, 0, 65536), &mut text[zero..short], 15);
+    std::num::wrapping_add_u64(std::num::wrapping_add_u64(a, b), c)
 }

@@ -4,150 +4,153 @@ mod cases;
 mod fields;
 mod limit;
 
-use cases::more;
+use fields::answer_at;
 use libc::STDOUT_FILENO;
+use vectors::Counts;
+use vectors::byte;
+use vectors::case_count;
+use vectors::counted;
+use vectors::differs;
+use vectors::line;
+use vectors::next_case;
+use vectors::no_counts;
+use vectors::open;
+use vectors::part;
+use vectors::tail;
 
-// A case is at most so long.
-const LONGEST: usize = 65536;
-
-// How many cases were compared, in which buffers, how many comparisons differ, and the number of the first case that does.
-struct Tally {
-    cases: u64,
-    refused: u64,
-    ample: u64,
-    fitting: u64,
-    short: u64,
-    unknown: u64,
-    differ: u64,
-    first: u64,
-}
-
-fn differing(t: Tally, by: u64) -> Tally {
-    let mut r = t;
+// The places of the counts: 0 cases, 1 refused, 2 ample, 3 just fitting, 4 short, 5 unknown, 6 comparisons that differ, 7 the first case that does.
+fn differing(c: Counts, by: u64) -> Counts {
+    let mut r = c;
     if 0 < by {
-        if r.differ == 0 {
-            r.first = r.cases;
+        if r.n[6] == 0 {
+            r.n[7] = r.n[0];
         }
     }
-    r.differ = more(r.differ, by);
+    counted(r, 6, by)
+}
+
+// The place of a way's count; place 8 is not printed.
+fn place(way: u8) -> usize {
+    match way {
+        0 => 8,
+        1 => 2,
+        2 => 3,
+        _ => 4,
+    }
+}
+
+fn tried(c: Counts, s: &[u8], told: &[u8], way: u8) -> Counts {
+    if !cases::is_tried(told, way) {
+        return c;
+    }
+    let by = differs(cases::agrees(s, told, way));
+    counted(differing(c, by), place(way), 1)
+}
+
+// A formatting that finishes is tried in buffers of other lengths too.
+fn all_tries(c: Counts, s: &[u8], told: &[u8], count: u8) -> Counts {
+    let mut r = c;
+    let mut way = 0u8;
+    while way < count {
+        r = tried(r, s, told, way);
+        way += 1;
+    }
     r
 }
 
-// A formatting that finishes, in buffers of other lengths.
-fn finished(t: Tally, s: &[u8]) -> Tally {
-    let mut r = t;
-    r.ample = more(r.ample, 1);
-    r.fitting = more(r.fitting, 1);
-    r.short = more(r.short, cases::shorts(s));
-    let by = more(cases::ample(s), cases::fitting(s));
-    differing(r, more(by, cases::short(s)))
-}
-
-fn formatting(t: Tally, s: &[u8]) -> Tally {
-    let mut r = differing(t, cases::told(s));
-    if cases::is_refused(s) {
-        r.refused = more(r.refused, 1);
-        return r;
+fn compared(c: Counts, s: &[u8]) -> Counts {
+    let told = tail(s, answer_at(s));
+    if byte(told, 0) == 0 {
+        return all_tries(c, s, told, 6);
     }
-    finished(r, s)
+    all_tries(counted(c, 1, 1), s, told, 1)
 }
 
-fn tallied(t: Tally, s: &[u8]) -> Tally {
-    let mut r = t;
-    r.cases = more(r.cases, 1);
-    let op = fields::byte(s, 0);
-    match op {
-        40 | 41 => formatting(r, s),
-        _ => {
-            r.unknown = more(r.unknown, 1);
-            r
-        }
+fn replayed(c: Counts, s: &[u8]) -> Counts {
+    let r = counted(c, 0, 1);
+    match byte(s, 0) {
+        40 | 41 => compared(r, s),
+        _ => counted(r, 5, 1),
     }
 }
 
-// The next case's length: u32, and 0 where the file ends.
-fn next_length(fd: i32) -> usize {
-    let mut head = [0u8; 4];
-    let n = io::read_full(fd, &mut head);
-    if n < 4 {
-        return 0;
-    }
-    fields::u32_at(&head, 0)
+fn next(fd: i32, c: Counts) -> Counts {
+    let mut buffer = io::large_buffer();
+    let n = next_case(fd, &mut buffer);
+    replayed(c, part(&buffer, 0, n))
 }
 
-// A case that fills the slice, of a file that goes so far.
-fn read_case(fd: i32, t: Tally, s: &mut [u8]) -> Tally {
-    let n = io::read_full(fd, s);
-    if n < s.len() {
-        return tallied(t, b"");
-    }
-    tallied(t, s)
-}
-
-fn next(fd: i32, t: Tally) -> Tally {
-    let n = next_length(fd);
-    if LONGEST < n {
-        return tallied(t, b"");
-    }
-    let mut buffer = [0u8; 65536];
-    let zero = 0usize;
-    read_case(fd, t, &mut buffer[zero..n])
-}
-
-fn replayed(fd: i32, count: usize) -> Tally {
-    let mut t = Tally {
-        cases: 0,
-        refused: 0,
-        ample: 0,
-        fitting: 0,
-        short: 0,
-        unknown: 0,
-        differ: 0,
-        first: 0,
-    };
+fn all_cases(fd: i32, count: u64) -> Counts {
+    let mut r = no_counts();
     let mut left = count;
     while 0 < left {
-        t = next(fd, t);
+        r = next(fd, r);
         left -= 1;
     }
-    t
+    r
 }
 
-fn line(n: u64, what: &[u8]) {
-    io::print_decimal(STDOUT_FILENO, n);
-    io::write_all(STDOUT_FILENO, what);
+// Where the words of a count stand.
+struct Words {
+    at: usize,
+    length: usize,
 }
 
-fn show(t: Tally) {
-    line(t.cases, b" formattings\n");
-    line(t.refused, b" of them refused\n");
-    line(t.ample, b" with ample buffers\n");
-    line(t.fitting, b" with buffers that just fit\n");
-    line(t.short, b" with a buffer one byte short\n");
-    line(t.unknown, b" unknown\n");
-    line(t.differ, b" differ\n");
-    if 0 < t.differ {
-        line(t.first, b" is the first case that differs\n");
+fn words_of(i: usize) -> Words {
+    match i {
+        0 => Words { at: 0, length: 13 },
+        1 => Words { at: 13, length: 17 },
+        2 => Words { at: 30, length: 20 },
+        3 => Words { at: 50, length: 28 },
+        4 => Words { at: 78, length: 30 },
+        5 => Words { at: 108, length: 9 },
+        6 => Words { at: 117, length: 8 },
+        _ => Words {
+            at: 125,
+            length: 32,
+        },
     }
 }
 
-// The file: WVEC, version 1, u32 case count, cases.
+fn show_line(c: Counts, i: usize) {
+    let w = words_of(i);
+    line(
+        c,
+        i,
+        b" formattings\n of them refused\n with ample buffers\n with buffers that just fit\n with a buffer one byte short\n unknown\n differ\n is the first case that differs\n",
+        w.at,
+        w.length,
+    );
+}
+
+// The last line stands only where a case differs.
+fn shown(c: Counts) -> usize {
+    if c.n[6] == 0 { 7 } else { 8 }
+}
+
+fn show(c: Counts, count: usize) {
+    let mut i = 0usize;
+    while i < count {
+        show_line(c, i);
+        i += 1;
+    }
+}
+
 fn replay(name: &[u8]) {
-    let fd = os::open_read(name);
+    let fd = open(name);
     if fd < 0 {
-        os::fail(name);
         return;
     }
-    let mut head = [0u8; 9];
-    io::read_full(fd, &mut head);
     io::write_all(STDOUT_FILENO, name);
     io::write_all(STDOUT_FILENO, b":\n");
-    show(replayed(fd, fields::u32_at(&head, 5)));
+    let c = all_cases(fd, case_count(fd));
+    show(c, shown(c));
     libc::close(fd);
 }
 
 fn main() {
     replay(b"formats.vec");
     replay(b"sentences.vec");
-    line(limit::limit(), b" differ at the longest arguments image\n");
+    let c = counted(no_counts(), 0, limit::limit());
+    line(c, 0, b" differ at the longest arguments image\n", 0, 39);
 }

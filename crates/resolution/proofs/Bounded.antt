@@ -16,8 +16,8 @@ use Rattle.records.specs.Encode.{encAll, encWhole}
 use Rattle.records.specs.Errors.{encError, encErrors}
 use Rattle.records.specs.Valid.{ValidStore}
 use Rattle.layout.proofs.Numbers.{length-toBe}
-use Rattle.bundle.specs.Lookup.{findIn, partOf}
-use Rattle.bundle.proofs.Sizes.{entry-size, part-size}
+use Rattle.entries.specs.Lookup.{findIn, partOf}
+use Rattle.entries.proofs.Sizes.{entry-size, part-size}
 use Rattle.resolution.specs.Effect.{Bytes, put, report, begin, expand, unfound, open-text, keep-text, free, merged, Trace, Out, Done}
 use Rattle.resolution.specs.Resolve.{Setting, bytesOf, asMessage, resolve}
 use Rattle.resolution.specs.Exec.{listLimit}

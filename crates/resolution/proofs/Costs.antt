@@ -9,14 +9,14 @@ use lib.ListN.{length, length-append}
 use lib.Dec.{ltb}
 use Rattle.numbers.specs.Number.{Number}
 use Rattle.numbers.specs.Value.{Value, textual, numeric, nothing, wrong}
-use Rattle.texts.specs.Unescape.{hasBackslash}
+use Rattle.unescape.specs.Unescape.{hasBackslash}
 use Rattle.records.specs.Bytes.{toBe}
 use Rattle.records.specs.Tree.{Literal, Key, Named, Pattern, pattern, Elements, no-more, more, Element, text, placeable, Expression, inline, select, Inline, variable, nested, Arguments, without, with-args, Inlines, no-inline, and, Variants, no-variant, or, Variant, variant}
 use Rattle.records.specs.Images.{Entry}
 use Rattle.records.specs.Encode.{encStr, encOptional, encSized, encCounted, encNamed, encFlag, encKey, countElements, countInlines, countVariants, encPattern, encElements, encElement, encExpression, encInline, encArguments, encInlines, encVariants, encVariant}
 use Rattle.records.specs.Errors.{Error, Referred, reference, noValue, missingDefault, cyclic, tooManyPlaceables, encRecord, encError}
 use Rattle.layout.proofs.Numbers.{length-toBe}
-use Rattle.bundle.specs.Lookup.{Holder, Find, partOf}
+use Rattle.entries.specs.Lookup.{Holder, Find, partOf}
 use Rattle.resolution.specs.Effect.{Bytes, Effect, put, report, begin, expand, unfound, open-text, keep-text, free, merged, Locals, State, M, Done, ret, _>>=_, _>>_, emit, write, isDirty, getLocals, setLocals, maxPlaceables, enterIf, enter, onlyIf, entered, capture, release}
 use Rattle.resolution.specs.Resolve.{Setting, Trail, Given, mark, cutShort, held, stringIf, stringValue, literalValue, namedValues, writeRefError, lookFor, lookUp, asMessage, asTerm, trackIf, track, onPart, missingPart, messageFound, termFound, writeMessage, writeTerm, noteIf, noteOne, noteMerges, mergesOf, call, callFunction, writeResult, orWrong, foundOr, variableIn, getVariable, writeVariable, writePattern, writeElements, writeElement, writeExpression, writeNth, writeVariant, writeInline, resolveInline, termArguments, getArguments, resolve}
 use Rattle.resolution.proofs.Held.{message-held, term-held}

@@ -9,7 +9,7 @@ use lib.Dec.{ltb}
 use borrow.Author.Tests.{ltb-true, ltb-false, lt-ltb, le-ltb}
 use Rattle.records.specs.Tree.{Pattern}
 use Rattle.records.specs.Errors.{Error, overriding, reference, noValue, missingDefault, cyclic, tooManyPlaceables}
-use Rattle.bundle.specs.Lookup.{Holder, Find}
+use Rattle.entries.specs.Lookup.{Holder, Find}
 use Rattle.resolution.specs.Effect.{Bytes, Effect, report, expand, unfound, open-text, keep-text, free, Trace, State, M, Done, ret, _>>=_, _>>_, emit, write, isDirty, getLocals, setLocals, maxPlaceables, enterIf, enter, onlyIf, entered, capture, release}
 use Rattle.resolution.specs.Resolve.{Setting, Trail, lookFor, lookUp, resolve}
 use Rattle.resolution.proofs.Walk.{Rel, Closed, Plain, rResolve}

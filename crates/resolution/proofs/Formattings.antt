@@ -12,8 +12,8 @@ use Rattle.records.specs.Got.{Got, got, bad}
 use Rattle.records.specs.Tree.{Pattern}
 use Rattle.records.specs.Images.{Entry, Store, Argument, storeOf}
 use Rattle.records.specs.Errors.{encErrors, listHeader}
-use Rattle.bundle.specs.Lookup.{Find, findIn}
-use Rattle.bundle.specs.Additions.{atFront}
+use Rattle.entries.specs.Lookup.{Find, findIn}
+use Rattle.growth.specs.Items.{atFront}
 use Rattle.resolution.specs.Effect.{Bytes}
 use Rattle.resolution.specs.Resolve.{Setting}
 use Rattle.resolution.specs.Exec.{Ran, ran, refused, start}

@@ -7,7 +7,7 @@ use native.Mathlib.Omega.{arith}
 use lib.Dec.{ltb}
 use borrow.Author.Tests.{lt-ltb}
 use Rattle.records.specs.Tree.{Pattern, pattern, Elements, no-more, more, Element, text, placeable}
-use Rattle.bundle.specs.Lookup.{Holder, Find}
+use Rattle.entries.specs.Lookup.{Holder, Find}
 use Rattle.resolution.specs.Effect.{Bytes, expand, State, M, Done, ret, _>>=_, _>>_, emit, write, isDirty, getLocals, setLocals, maxPlaceables, enterIf, enter, onlyIf, entered, capture, release}
 use Rattle.resolution.specs.Resolve.{Setting, Trail, lookFor, lookUp, writePattern, writeElements, writeElement, resolve}
 use Rattle.resolution.specs.Format.{maxPatterns, fresh}

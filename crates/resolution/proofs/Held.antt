@@ -2,8 +2,8 @@
 use mathlib.Core.Path.{_≡_}
 use mathlib.Core.Option.{Option, none, some}
 use Rattle.records.specs.Images.{Kind, Entry}
-use Rattle.bundle.specs.Lookup.{Holder}
-use Rattle.bundle.proofs.Sizes.{no-some}
+use Rattle.entries.specs.Lookup.{Holder}
+use Rattle.entries.proofs.Sizes.{no-some}
 use Rattle.resolution.specs.Resolve.{messageOnly, termOnly, asMessage, asTerm}
 
 pub message-held : (o : Option Holder) (e : Entry) → asMessage o ≡ some e → o ≡ some (Holder.entry e)

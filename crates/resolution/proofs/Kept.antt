@@ -10,7 +10,7 @@ use Rattle.numbers.specs.Value.{Value, textual, numeric, nothing, wrong}
 use Rattle.records.specs.Tree.{Pattern, pattern, Elements, no-more, more, Element, text, placeable, Expression, inline, select, Inline, variable, nested, Variants, no-variant, or, Variant, variant}
 use Rattle.records.specs.Images.{Entry}
 use Rattle.records.specs.Errors.{Error}
-use Rattle.bundle.specs.Lookup.{Holder, Find}
+use Rattle.entries.specs.Lookup.{Holder, Find}
 use Rattle.resolution.specs.Effect.{Bytes, Effect, report, expand, Locals, State, M, Done, ret, _>>=_, _>>_, emit, write, isDirty, getLocals, setLocals, maxPlaceables, enterIf, enter, onlyIf, entered, release}
 use Rattle.resolution.specs.Resolve.{Setting, Trail, mark, cutShort, writeRefError, lookFor, lookUp, asMessage, trackIf, track, onPart, messageFound, termFound, writeMessage, writeResult, foundOr, variableIn, getVariable, writeVariable, writePattern, writeElements, writeElement, writeExpression, writeNth, writeVariant, writeInline, resolve}
 

@@ -9,7 +9,7 @@ use Rattle.records.specs.Bytes.{be, toBe}
 use Rattle.records.specs.Encode.{encAll, encWhole}
 use Rattle.records.specs.Errors.{Error, encError, encErrors}
 use Rattle.layout.proofs.Numbers.{length-toBe, be-toBe}
-use Rattle.bundle.specs.Additions.{atFront}
+use Rattle.growth.specs.Items.{atFront}
 use Rattle.resolution.specs.Effect.{Bytes}
 use Rattle.resolution.specs.Finished.{listOf}
 

@@ -9,7 +9,7 @@ use lib.ListN.{length, length-append}
 use lib.Dec.{ltb}
 use Rattle.records.specs.Tree.{Pattern}
 use Rattle.records.specs.Errors.{Error}
-use Rattle.bundle.specs.Lookup.{Holder, Find}
+use Rattle.entries.specs.Lookup.{Holder, Find}
 use Rattle.resolution.specs.Effect.{Bytes, Effect, put, report, begin, expand, unfound, open-text, keep-text, free, merged, State, M, Done, ret, _>>=_, _>>_, emit, write, isDirty, getLocals, setLocals, maxPlaceables, enterIf, enter, onlyIf, entered, capture, release}
 use Rattle.resolution.specs.Resolve.{Setting, Trail, lookFor, lookUp, resolve}
 use Rattle.resolution.specs.Exec.{Machine, Limits, ran, putText, putWork, putAt, step, exec}

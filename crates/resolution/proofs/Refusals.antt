@@ -9,7 +9,7 @@ use lib.Dec.{leb}
 use Rattle.records.specs.Got.{Got, got, bad}
 use Rattle.records.specs.Tree.{Pattern}
 use Rattle.records.specs.Images.{Entry, Store, Argument, storeOf}
-use Rattle.bundle.specs.Lookup.{Find, findIn}
+use Rattle.entries.specs.Lookup.{Find, findIn}
 use Rattle.resolution.specs.Effect.{Bytes, Effect, put, report, begin, expand, unfound, open-text, keep-text, free, merged, Trace}
 use Rattle.resolution.specs.Resolve.{Setting}
 use Rattle.resolution.specs.Exec.{Machine, Limits, Ran, ran, refused, allowIf, allow, putText, putWork, putAt, step, andThen, exec, start}

@@ -12,11 +12,12 @@ use Rattle.records.specs.Images.{Item, Store, storeOf}
 use Rattle.records.specs.Encode.{encItem}
 use Rattle.records.specs.Errors.{encErrors, listHeader}
 use Rattle.layout.specs.Exact.{Octets}
-use Rattle.bundle.specs.Lookup.{Holder, findIn}
+use Rattle.entries.specs.Lookup.{Holder, findIn}
 use Rattle.bundle.specs.Additions as adding
-use Rattle.bundle.specs.Additions.{refuse, atFront, addResource, addFunction}
+use Rattle.growth.specs.Items.{atFront}
+use Rattle.bundle.specs.Additions.{refuse, addResource, addFunction}
 use Rattle.bundle.specs.Growth.{Accepted}
-use Rattle.bundle.proofs.Holders.{Extends, FirstWins, AllFirstWins, extends}
+use Rattle.entries.proofs.Holders.{Extends, FirstWins, AllFirstWins, extends}
 use Rattle.bundle.proofs.Accepted.{resource-accepted, resource-refused, function-accepted, function-refused}
 use Rattle.resolution.specs.Effect.{Bytes}
 use Rattle.resolution.specs.Resolve.{asMessage}

@@ -6,8 +6,8 @@ use mathlib.Core.Option.{Option, none, some}
 use Prim.Native.Nat.{ℕ}
 use native.Mathlib.Omega.{arith}
 use Rattle.records.specs.Tree.{Pattern}
-use Rattle.bundle.specs.Lookup.{Holder, Find}
-use Rattle.bundle.proofs.Holders.{Extends}
+use Rattle.entries.specs.Lookup.{Holder, Find}
+use Rattle.entries.proofs.Holders.{Extends}
 use Rattle.resolution.specs.Effect.{Bytes, keep-text, free, State, M, Done, _>>=_, _>>_, onlyIf, entered, capture, release}
 use Rattle.resolution.specs.Resolve.{Setting, Trail, lookFor, lookUp, resolve}
 use Rattle.resolution.proofs.Walk.{Rel, Closed, rResolve}

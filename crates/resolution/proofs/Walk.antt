@@ -7,11 +7,11 @@ use native.Mathlib.Nat.{le-refl}
 use native.Mathlib.Omega.{arith}
 use Rattle.numbers.specs.Number.{Number}
 use Rattle.numbers.specs.Value.{Value, textual, numeric, nothing, wrong}
-use Rattle.texts.specs.Unescape.{hasBackslash}
+use Rattle.unescape.specs.Unescape.{hasBackslash}
 use Rattle.records.specs.Tree.{Literal, Named, Pattern, pattern, Elements, no-more, more, Element, text, placeable, Expression, inline, select, Inline, variable, nested, Arguments, without, with-args, Inlines, no-inline, and, Variants, no-variant, or, Variant, variant}
 use Rattle.records.specs.Images.{Entry}
 use Rattle.records.specs.Errors.{Error, overriding, reference, noValue, missingDefault, cyclic, tooManyPlaceables}
-use Rattle.bundle.specs.Lookup.{Holder, Find}
+use Rattle.entries.specs.Lookup.{Holder, Find}
 use Rattle.resolution.specs.Effect.{Bytes, report, merged, Locals, M, Done, ret, _>>=_, _>>_, emit, write, isDirty, getLocals, setLocals, onlyIf, entered, capture, release}
 use Rattle.resolution.specs.Resolve.{Setting, Trail, Given, mark, cutShort, held, stringIf, stringValue, literalValue, namedValues, writeRefError, lookUp, asMessage, asTerm, trackIf, track, onPart, missingPart, messageFound, termFound, writeMessage, writeTerm, noteIf, noteOne, noteMerges, mergesOf, call, callFunction, writeResult, orWrong, foundOr, variableIn, getVariable, writeVariable, writePattern, writeElements, writeElement, writeExpression, writeNth, writeVariant, writeInline, resolveInline, termArguments, getArguments, resolve}
 

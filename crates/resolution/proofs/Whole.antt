@@ -5,8 +5,8 @@ use mathlib.Core.List.{[], _∷_}
 use Prim.Native.Nat.{ℕ, _≤_, _<_}
 use native.Mathlib.Omega.{arith}
 use Rattle.records.specs.Tree.{Pattern}
-use Rattle.bundle.specs.Lookup.{Find}
-use Rattle.bundle.proofs.Holders.{Extends}
+use Rattle.entries.specs.Lookup.{Find}
+use Rattle.entries.proofs.Holders.{Extends}
 use Rattle.resolution.specs.Effect.{put, report, begin, expand, unfound, open-text, keep-text, free, merged, Trace, Out, Done}
 use Rattle.resolution.specs.Resolve.{Setting, bytesOf, resolve}
 use Rattle.resolution.specs.Exec.{Machine, Limits, ran, refused, exec, start}

@@ -11,7 +11,7 @@ use Rattle.records.specs.Bytes.{toBe}
 use Rattle.records.specs.Tree.{Pattern}
 use Rattle.records.specs.Encode.{encAll, encWhole}
 use Rattle.records.specs.Errors.{encErrors, listHeader}
-use Rattle.bundle.specs.Lookup.{Find}
+use Rattle.entries.specs.Lookup.{Find}
 use Rattle.resolution.specs.Effect.{Bytes, Effect, put, report, begin, expand, unfound, open-text, keep-text, free, merged, Trace}
 use Rattle.resolution.specs.Resolve.{Setting}
 use Rattle.resolution.specs.Exec.{Machine, Limits, ran, allowIf, allow, listLimit, putText, putWork, putAt, step, exec, start}

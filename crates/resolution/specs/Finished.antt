@@ -8,12 +8,12 @@ use lib.ListN.{length, take}
 use lib.Dec.{leb}
 use Rattle.records.specs.Got.{got}
 use Rattle.records.specs.Bytes.{be}
-use Rattle.records.specs.Rules.{isId}
+use Rattle.rules.specs.Rules.{isId}
 use Rattle.records.specs.Tree.{Pattern}
 use Rattle.records.specs.Images.{Entry, Store, Argument, storeOf, argumentsOf}
 use Rattle.records.specs.Errors.{Error, overriding, reference, noValue, missingDefault, cyclic, tooManyPlaceables, encErrors, listHeader}
-use Rattle.bundle.specs.Lookup.{Find, findIn, partOf}
-use Rattle.bundle.specs.Additions.{atFront}
+use Rattle.entries.specs.Lookup.{Find, findIn, partOf}
+use Rattle.growth.specs.Items.{atFront}
 use Rattle.resolution.specs.Effect.{Bytes, Effect, put, report, begin, expand, unfound, open-text, keep-text, free, merged, Trace, Out, Done}
 use Rattle.resolution.specs.Resolve.{Setting, bytesOf, asMessage, resolve}
 use Rattle.resolution.specs.Exec.{Machine, ran}

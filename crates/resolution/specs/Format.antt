@@ -8,12 +8,12 @@ use lib.Dec.{leb}
 use Rattle.numbers.specs.Number.{defaultOptions}
 use Rattle.numbers.specs.Value.{Value, textual, numeric}
 use Rattle.records.specs.Got.{Got, got, bad}
-use Rattle.records.specs.Rules.{isId}
+use Rattle.rules.specs.Rules.{isId}
 use Rattle.records.specs.Tree.{Pattern}
 use Rattle.records.specs.Images.{Entry, Store, Argument, storeOf, argumentsOf}
 use Rattle.records.specs.Errors.{encErrors, listHeader}
-use Rattle.bundle.specs.Lookup.{Holder, Find, findIn, partOf}
-use Rattle.bundle.specs.Additions.{atFront}
+use Rattle.entries.specs.Lookup.{Holder, Find, findIn, partOf}
+use Rattle.growth.specs.Items.{atFront}
 use Rattle.resolution.specs.Effect.{Bytes, State}
 use Rattle.resolution.specs.Resolve.{Setting, bytesOf, asMessage, resolve}
 use Rattle.resolution.specs.Exec.{Machine, Limits, Ran, ran, refused, exec, start}

@@ -4,15 +4,16 @@ use mathlib.Core.List.{List, [], _∷_, _++_}
 use mathlib.Core.Bool.{Bool, true, false, _&&_, _||_, not}
 use mathlib.Core.Option.{Option, none, some}
 use Prim.Native.Nat.{ℕ, zero, suc}
+use Rattle.decimals.specs.Ascii.{ascii}
 use Rattle.numbers.specs.Number.{Number, literal, sameNumber}
 use Rattle.numbers.specs.Value.{Value, textual, numeric, nothing, wrong, valueText, numberFunction, minimumFractionDigitsName, toCount}
-use Rattle.numbers.specs.Plural.{category, keyword}
-use Rattle.texts.specs.Unescape.{unescape, hasBackslash}
-use Rattle.records.specs.Names.{sameBytes}
+use Rattle.plural.specs.Plural.{category, keyword}
+use Rattle.unescape.specs.Unescape.{unescape, hasBackslash}
+use Rattle.rules.specs.Same.{sameBytes}
 use Rattle.records.specs.Tree.{Literal, Key, Named, Pattern, pattern, Elements, no-more, more, Element, text, placeable, Expression, inline, select, Inline, variable, nested, Arguments, without, with-args, Inlines, no-inline, and, Variants, no-variant, or, Variant, variant}
 use Rattle.records.specs.Images.{Kind, Entry}
 use Rattle.records.specs.Errors.{Error, Referred, reference, noValue, missingDefault, cyclic}
-use Rattle.bundle.specs.Lookup.{Holder, Find, orElse, onlyNamed, partOf}
+use Rattle.entries.specs.Lookup.{Holder, Find, orElse, onlyNamed, partOf}
 use Rattle.resolution.specs.Effect.{Bytes, Effect, report, unfound, merged, Locals, State, M, Done, ret, _>>=_, _>>_, emit, write, isDirty, getLocals, setLocals, onlyIf, entered, capture, release}
 
 -- what does not change while a message is formatted: locale, isolating Flag, arguments
@@ -33,27 +34,28 @@ onTrail p (q ∷ qs) = sameBytes q p || onTrail p qs
 unfoldable pub bytesOf : Pattern → Bytes
 bytesOf (pattern b es) = b
 
--- `id.attribute` in an error's text
+-- `id.attribute` in an error's text; 46 is `.`
 unfoldable pub dotted : Bytes → Option Bytes → Bytes
 dotted i none = i
 dotted i (some a) = i ++ (46 ∷ a)
 
--- `write_error` of an inline expression; "Where the Rust panics in `write_error` (literal or inline placeable), `???` is written"
+-- `write_error` of an inline expression; "Where the Rust panics in `write_error` (literal or inline placeable), `???` is written"; 36 is `$`, 45 is
+-- `-`
 unfoldable pub errorText : Inline → Bytes
-errorText (Inline.string s) = 63 ∷ 63 ∷ 63 ∷ []
-errorText (Inline.number s) = 63 ∷ 63 ∷ 63 ∷ []
+errorText (Inline.string s) = ascii "???"
+errorText (Inline.number s) = ascii "???"
 errorText (variable i) = 36 ∷ i
-errorText (Inline.function i xs ns) = i ++ (40 ∷ 41 ∷ [])
+errorText (Inline.function i xs ns) = i ++ ascii "()"
 errorText (Inline.message i a) = dotted i a
 errorText (Inline.term i a r) = 45 ∷ dotted i a
-errorText (nested x) = 63 ∷ 63 ∷ 63 ∷ []
+errorText (nested x) = ascii "???"
 
 -- `write_error` of an expression: of a select, its selector's
 unfoldable pub errorOf : Expression → Bytes
 errorOf (inline x) = errorText x
 errorOf (select x vs) = errorText x
 
--- an error's text in braces
+-- an error's text in braces: 123 is `{`, 125 is `}`
 unfoldable pub braced : Bytes → Bytes
 braced b = 123 ∷ b ++ (125 ∷ [])
 
@@ -202,6 +204,7 @@ module _ (cross : Pattern → Trail → M Done) (trail : Trail) where
   messageFound i a none = writeRefError (reference Referred.message i a) (dotted i a)
   messageFound i a (some e) = onPart (missingPart i a) (dotted i a) (partOf a e)
 
+  -- 45 is `-`
   unfoldable pub termFound : Bytes → Option Bytes → Option Entry → M Done
   termFound i a none = writeRefError (reference Referred.term i a) (45 ∷ dotted i a)
   termFound i a (some e) = onPart (reference Referred.term i a) (45 ∷ dotted i a) (partOf a e)
@@ -259,11 +262,11 @@ callFunction find i g = lookUp find i >>= λ o. call g o
 
 -- a function's result as text: a missing function is a Reference, and where NUMBER gives Error its name stands without braces
 unfoldable pub writeResult : Bytes → Option Value → M Done
-writeResult i none = writeRefError (reference Referred.function i none) (i ++ (40 ∷ 41 ∷ []))
+writeResult i none = writeRefError (reference Referred.function i none) (i ++ ascii "()")
 writeResult i (some (textual s)) = write s
 writeResult i (some (numeric n)) = write (valueText (numeric n))
 writeResult i (some nothing) = write (valueText nothing)
-writeResult i (some wrong) = write (i ++ (40 ∷ 41 ∷ []))
+writeResult i (some wrong) = write (i ++ ascii "()")
 
 -- a value, or Error where there is none
 unfoldable pub orWrong : Option Value → M Value
@@ -287,6 +290,7 @@ variableIn args i none = foundOr (emit (report (reference Referred.variable i no
 unfoldable pub getVariable : List (Bytes × Value) → Bytes → M (Option Value)
 getVariable args i = getLocals >>= λ l. variableIn args i l
 
+-- 36 is `$`
 unfoldable pub writeVariable : Bytes → Option Value → M Done
 writeVariable i none = write (braced (36 ∷ i))
 writeVariable i (some v) = write (valueText v)

@@ -10,10 +10,10 @@ use Rattle.numbers.specs.Value.{Value, textual, numeric, nothing, wrong}
 use Rattle.records.specs.Tree.{Named, Pattern, pattern, Elements, no-more, more, Element, text, placeable, Expression, inline, select, Inline, variable, nested, Inlines, no-inline, and, Variants, no-variant, or, Variant, variant}
 use Rattle.records.specs.Images.{Entry}
 use Rattle.records.specs.Errors.{Error}
-use Rattle.bundle.specs.Lookup.{Holder, Find, partOf}
+use Rattle.entries.specs.Lookup.{Holder, Find, partOf}
 use Rattle.resolution.specs.Effect.{Bytes, Trace, unfound, Locals, State, Out, M, Done, ret, _>>=_, _>>_, emit, write, isDirty, getLocals, maxPlaceables, enterIf, enter, onlyIf, entered, release}
 use Rattle.resolution.specs.Resolve.{Setting, Trail, mark, cutShort, namedValues, writeRefError, lookFor, lookUp, asTerm, asMessage, trackIf, track, onPart, messageFound, termFound, writeMessage, Given, pushed, writeResult, lastNamed, foundOr, variableIn, getVariable, writeVariable, writePattern, writeElements, writeElement, writeExpression, writeNth, writeVariant, writeInline, resolveInline, getArguments, resolve}
-use Rattle.scope.specs.Meets.{positionalValues}
+use Rattle.scope.specs.Relations.Members.{positionalValues}
 use Rattle.scope.proofs.Laws.{append-nil}
 
 abbrev out : {A : Type 0} → Trace → Bytes → ℕ → State → A → Out A

@@ -7,7 +7,7 @@ use Prim.Native.Nat.{ℕ, zero, suc, _+_, _-_, _≤_, _<_}
 use native.Mathlib.Omega.{arith}
 use Rattle.numbers.specs.Number.{Number}
 use Rattle.numbers.specs.Value.{Value, textual, numeric, nothing, wrong, numberFunction}
-use Rattle.numbers.specs.declared.types.Number as code-number
+use Rattle.decimals.specs.declared.types.Number as code-number
 use Rattle.records.specs.declared.Next.{Next}
 use Rattle.records.specs.declared.Next.the-variants as next
 use Rattle.records.specs.Got.{Got, got, bad}
@@ -16,17 +16,20 @@ use Rattle.records.specs.Tree.{Named, Inline, Inlines, no-inline, and}
 use Rattle.records.specs.Decode.{many, idAt, namedAt, inlinesAt, argumentsAt, inline}
 use Rattle.records.specs.Images.{Entry, Store, storeOf}
 use Rattle.records.proofs.Views.{both, never, id-elim, many-cons, many-nil, arguments-elim, named-arguments-elim}
-use Rattle.bundle.specs.Lookup.{Holder, findIn}
-use Rattle.bundle.specs.Meets.{HolderAt}
-use Rattle.bundle.specs.declared.Found.{Found}
-use Rattle.bundle.specs.declared.Found.the-variants as found
+use Rattle.entries.specs.Lookup.{Holder, findIn}
+use Rattle.entries.specs.Relations.Meets.{HolderAt}
+use Rattle.entries.specs.declared.Found.{Found}
+use Rattle.entries.specs.declared.Found.the-variants as found
 use Rattle.resolution.specs.Effect.{Bytes, unfound, State, Out, M, Done, ret, _>>=_, _>>_, emit, release}
 use Rattle.resolution.specs.Exec.{Machine, Limits}
 use Rattle.resolution.specs.Resolve.{Trail, namedValues, Given, mergesOf, call, callFunction, lookUp, resolveInline, getArguments}
-use Rattle.scope.specs.declared.state.Scope.{Scope}
-use Rattle.scope.specs.declared.state.Value as code-value
-use Rattle.scope.specs.declared.state.Value.the-variants as val
-use Rattle.scope.specs.Meets.{World, world, Live, Ended, ended, stopped, Runs, Kept, Acts, NamedIn, namedTexts, Holds, in-store, in-args, in-work, is-number, is-nothing, is-wrong, Env, Setup, settingOf, findOf, crossOf, Here, ValueAt, positionalValues, FirstIs, first-none, first-number, first-other, PositionalAt, ResultIs, has-result, no-function, CalledAt, NamedAt, NumberAt, backS}
+use Rattle.state.specs.declared.Scope.{Scope}
+use Rattle.state.specs.declared.Value as code-value
+use Rattle.state.specs.declared.Value.the-variants as val
+use Rattle.scope.specs.Relations.Meets.{World, world, Live, Ended, ended, stopped, Runs, Kept, Acts, NamedIn, namedTexts, Holds, in-store, in-args, in-work, is-number, is-nothing, is-wrong, Env, Setup, settingOf, findOf, crossOf}
+use Rattle.scope.specs.Relations.Leaves.{FirstIs, first-none, first-number, first-other, ResultIs, has-result, no-function, NamedAt, NumberAt}
+use Rattle.scope.specs.Relations.Members.{Here, ValueAt, positionalValues, PositionalAt, CalledAt}
+use Rattle.state.specs.Setters.{backS}
 use Rattle.scope.proofs.Laws.{Stays, stays, here-stays, kept-same, kept-then, runs-ret, runs-then, ended-then}
 use Rattle.scope.proofs.Steps.{runs-as}
 use Rattle.scope.proofs.Release.{release-back, release-over, runs-stopped}

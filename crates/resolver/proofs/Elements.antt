@@ -20,8 +20,11 @@ use Rattle.records.proofs.Views.{both, never, many-cons, many-nil, element-elim
 use Rattle.resolution.specs.Effect.{Bytes, Effect, report, begin, expand, State, Out, M, Done, ret, _>>=_, _>>_, emit, write, isDirty, maxPlaceables, enterIf, enter, onlyIf, entered}
 use Rattle.resolution.specs.Exec.{Machine, Limits, Ran, ran, refused, exec, andThen, step}
 use Rattle.resolution.specs.Resolve.{Trail, braced, bare, fsi, pdi, mark, cutShort, errorOf, severalOf, writePattern, writeElements, writeElement, writeExpression}
-use Rattle.scope.specs.declared.state.Scope.{Scope}
-use Rattle.scope.specs.Meets.{World, world, Live, LocalsStay, locals-same, locals-cleared, Moved, Ended, ended, stopped, Runs, Kept, Acts, trailOf, begunS, Env, Setup, settingOf, findOf, crossOf, Here, TooMany, CutAt, PatternAt, ElementsAt, ElementAt, ExpressionAt}
+use Rattle.state.specs.declared.Scope.{Scope}
+use Rattle.scope.specs.Relations.Meets.{World, world, Live, LocalsStay, locals-same, locals-cleared, Moved, Ended, ended, stopped, Runs, Kept, Acts, trailOf, Env, Setup, settingOf, findOf, crossOf}
+use Rattle.scope.specs.Relations.Leaves.{TooMany, CutAt}
+use Rattle.scope.specs.Relations.Members.{Here, PatternAt, ElementsAt, ElementAt, ExpressionAt}
+use Rattle.state.specs.Setters.{begunS}
 use Rattle.scope.proofs.Laws.{Stays, stays, here-stays, kept-same, kept-then, exec-append, runs-ret, runs-then, runs-dirty, ended-then, ended-none, moved-none, stay-same}
 use Rattle.scope.proofs.Locals.{locals-alike}
 use Rattle.scope.proofs.Steps.{runs-as, runs-over}

@@ -13,19 +13,21 @@ use Rattle.records.specs.Tree.{Pattern}
 use Rattle.records.specs.Decode.{entryPatternAt}
 use Rattle.records.specs.Images.{Store, Argument, storeOf, argumentsOf}
 use Rattle.records.specs.Errors.{encErrors, listHeader}
-use Rattle.bundle.specs.Additions.{atFront}
+use Rattle.growth.specs.Items.{atFront}
 use Rattle.resolution.specs.Effect.{Bytes}
 use Rattle.resolution.specs.Exec.{Machine, Ran, ran, refused}
 use Rattle.resolution.specs.Format.{Answer, finished, refusedBefore, refusedRunning, Buffers, Formatted, zeros, refuse, orRefuse, ended, formatWith, formatArguments, format, limitsOf, runPattern, valuesOf}
 use Rattle.layout.specs.Exact.{Octets}
 use Rattle.resolution.proofs.Formattings.{few-unfound}
-use Rattle.scope.specs.declared.state.Scope.{Scope}
-use Rattle.scope.specs.Meets.{Env, env, Setup, settingOf, findOf, maxUnfound}
+use Rattle.state.specs.declared.Scope.{Scope}
+use Rattle.scope.specs.Relations.Meets.{Env, env, Setup, settingOf, findOf}
+use Rattle.state.specs.Setters.{maxUnfound}
 use Rattle.resolver.specs.declared.format.Answer as code-answer
 use Rattle.resolver.specs.declared.format.Answer.the-variants as ans
 use Rattle.resolver.specs.declared.format.Part as code-part
 use Rattle.resolver.specs.declared.format.Part.the-variants as part-answer
-use Rattle.resolver.specs.Formats.{answerOf, stoppedOf, Formats, PatternFound, refuses, finds, RanAs, ran-as, refused-as, RunAt, FinishAt}
+use Rattle.resolver.specs.Formats.{answerOf, Formats}
+use Rattle.resolver.specs.Relations.Runs.{stoppedOf, PatternFound, refuses, finds, RanAs, ran-as, refused-as, RunAt, FinishAt}
 use Rattle.resolver.proofs.Whole.{buffers}
 
 -- the count of lookups unfound is never so high that it stops

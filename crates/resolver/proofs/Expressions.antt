@@ -9,7 +9,8 @@ use Rattle.records.specs.Tree.{Expression, Inline}
 use Rattle.records.specs.Decode.{selectAt, expression, inline}
 use Rattle.records.proofs.Views.{both, never, expression-elim}
 use Rattle.resolution.specs.Resolve.{writeExpression}
-use Rattle.scope.specs.Meets.{World, Env, settingOf, findOf, crossOf, ExpressionAt, SelectAt, InlineAt}
+use Rattle.scope.specs.Relations.Meets.{World, Env, settingOf, findOf, crossOf}
+use Rattle.scope.specs.Relations.Members.{ExpressionAt, SelectAt, InlineAt}
 use Rattle.scope.proofs.Laws.{kept-same}
 use Rattle.scope.proofs.Steps.{runs-as, runs-over}
 

@@ -8,20 +8,20 @@ use lib.Seq.{drop-drop}
 use Rattle.records.specs.Bytes.{part, toBe}
 use Rattle.records.specs.Encode.{encAll}
 use Rattle.records.specs.Errors.{Error, encError, encErrors}
-use Rattle.texts.specs.Append.{over}
-use Rattle.texts.specs.Report.{header, headed}
-use Rattle.texts.proofs.Place.{drop-over}
+use Rattle.buffers.specs.Relations.Append.{over}
+use Rattle.texts.specs.Relations.Report.{header, headed}
+use Rattle.buffers.proofs.Place.{drop-over}
 use Rattle.texts.proofs.Recording.{headed-done, headed-errors}
-use Rattle.bundle.specs.Additions.{atFront}
+use Rattle.growth.specs.Items.{atFront}
 use Rattle.resolution.specs.Effect.{Bytes}
 use Rattle.resolution.specs.Exec.{Machine, Ran, ran, refused}
 use Rattle.resolution.specs.Format.{Answer, finished, refusedRunning, Buffers, zeros, ended}
-use Rattle.scope.specs.declared.state.Scope.{Scope}
-use Rattle.scope.specs.Meets.{maxUnfound}
+use Rattle.state.specs.declared.Scope.{Scope}
+use Rattle.state.specs.Setters.{maxUnfound}
 use Rattle.scope.proofs.Puts.{errors-length}
 use Rattle.resolver.specs.declared.format.Answer as code-answer
 use Rattle.resolver.specs.declared.format.Answer.the-variants as ans
-use Rattle.resolver.specs.Formats.{stoppedOf, RanAs, ran-as, refused-as, FinishAt}
+use Rattle.resolver.specs.Relations.Runs.{stoppedOf, RanAs, ran-as, refused-as, FinishAt}
 use Rattle.resolver.proofs.Whole.{buffers, front-is}
 
 header-size : (n : ℕ) → length (header n) ≡ 5

@@ -9,13 +9,14 @@ use lib.ListN.{length, take, drop, length-drop}
 use lib.Seq.{length-take-le}
 use Rattle.numbers.specs.Number.{Number, isNumber, literal, inRange}
 use Rattle.numbers.specs.Value.{Value, numeric, valueText}
-use Rattle.numbers.specs.Shown.{shown}
-use Rattle.texts.specs.Unescape.{unescape}
+use Rattle.decimals.specs.Relations.Shown.{shown}
+use Rattle.unescape.specs.Unescape.{unescape}
 use Rattle.records.specs.declared.Num.{Num}
 use Rattle.records.specs.declared.Num.the-variants as num
-use Rattle.records.specs.Got.{Got, got, bad, numOf}
+use Rattle.records.specs.Got.{Got, got, bad}
+use Rattle.records.specs.Relations.Answer.{numOf}
 use Rattle.records.specs.Bytes.{part, byteAt, spanAt, strAt}
-use Rattle.records.specs.Rules as rules
+use Rattle.rules.specs.Rules as rules
 use Rattle.records.specs.Tree.{Expression, Inline, Inlines, Named, variable, function, message, term, nested}
 use Rattle.records.specs.Decode.{idAt, literalNumberAt, argumentsAt, expression, inline}
 use Rattle.records.proofs.Laws.{str-in}
@@ -23,9 +24,11 @@ use Rattle.records.proofs.Views.{both, never, str-is, ruled-elim, id-str, strin
 use Rattle.resolution.specs.Effect.{Bytes, State, M, Done, ret, _>>=_, write, release}
 use Rattle.resolution.specs.Exec.{Limits, Machine}
 use Rattle.resolution.specs.Resolve.{Trail, getVariable, writeVariable, callFunction, writeResult, writeInline, getArguments}
-use Rattle.scope.specs.declared.state.Value as code-value
-use Rattle.scope.specs.declared.state.Value.the-variants as val
-use Rattle.scope.specs.Meets.{World, Live, Runs, Kept, Acts, Holds, is-number, Env, Setup, settingOf, findOf, crossOf, Here, ExpressionAt, InlineAt, MessageAt, TermAt, CalledAt, ResultAt, VariableAt}
+use Rattle.state.specs.declared.Value as code-value
+use Rattle.state.specs.declared.Value.the-variants as val
+use Rattle.scope.specs.Relations.Meets.{World, Live, Runs, Kept, Acts, Holds, is-number, Env, Setup, settingOf, findOf, crossOf}
+use Rattle.scope.specs.Relations.Leaves.{ResultAt, VariableAt}
+use Rattle.scope.specs.Relations.Members.{Here, ExpressionAt, InlineAt, MessageAt, TermAt, CalledAt}
 use Rattle.scope.proofs.Laws.{kept-same, kept-then, ended-then}
 use Rattle.scope.proofs.Steps.{runs-as, runs-over}
 use Rattle.scope.proofs.Literals.{number-is, literal-ranged, id-short}

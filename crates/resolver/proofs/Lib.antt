@@ -3,7 +3,6 @@ pub mod Bodies
 pub mod Elements
 pub mod Expressions
 pub mod Inlines
-pub mod Cells
 pub mod Selects
 pub mod Binds
 pub mod Tracks
@@ -15,3 +14,5 @@ pub mod Whole
 pub mod Ends
 pub mod Patterns
 pub mod Finish
+pub mod Targets
+pub mod Answers

@@ -8,21 +8,21 @@ use native.Mathlib.Omega.{arith}
 use Rattle.records.specs.declared.Next.{Next}
 use Rattle.records.specs.declared.Next.the-variants as next
 use Rattle.records.specs.Got.{Got, got, bad}
-use Rattle.records.specs.Rules.{isId}
+use Rattle.rules.specs.Rules.{isId}
 use Rattle.records.specs.Tree.{Pattern}
 use Rattle.records.specs.Decode.{entryPatternAt}
 use Rattle.records.specs.Images.{Kind, Entry, Store, storeOf, entryAt}
-use Rattle.bundle.specs.Lookup.{Holder, findIn, partOf}
-use Rattle.texts.specs.Report.{optionOf}
-use Rattle.bundle.specs.Meets.{asked, HolderAt, message-at, term-at, function-at, nothing-at, PartAt, part-at, no-part}
-use Rattle.bundle.specs.declared.Found.{Found}
-use Rattle.bundle.specs.declared.Found.the-variants as found
+use Rattle.entries.specs.Lookup.{Holder, findIn, partOf}
+use Rattle.texts.specs.Optional.{optionOf}
+use Rattle.entries.specs.Relations.Meets.{asked, HolderAt, message-at, term-at, function-at, nothing-at, PartAt, part-at, no-part}
+use Rattle.entries.specs.declared.Found.{Found}
+use Rattle.entries.specs.declared.Found.the-variants as found
 use Rattle.resolution.specs.Effect.{Bytes}
 use Rattle.resolution.specs.Resolve.{asMessage, messageOnly}
 use Rattle.resolution.specs.Format.{Buffers, refuse, orRefuse, isIdOrNone, formatPart, formatEntry, formatStore, format}
 use Rattle.resolver.specs.declared.format.Part as code-part
 use Rattle.resolver.specs.declared.format.Part.the-variants as part-answer
-use Rattle.resolver.specs.Formats.{PatternFound, refuses, finds}
+use Rattle.resolver.specs.Relations.Runs.{PatternFound, refuses, finds}
 
 -- the attribute that is asked for, named twice
 pub part-asked : (s : Bytes) (t : Bool) (b : Bytes) (x : Entry) {n : Next} → PartAt s (partOf (asked t b) x) n → PartAt s (partOf (optionOf t b) x) n

@@ -14,22 +14,24 @@ use Rattle.records.specs.Tree.{Pattern, Inline, Arguments}
 use Rattle.records.specs.Decode.{idAt, optionalAt, termAt, termArgumentsAt, entryPatternAt, expression, inline}
 use Rattle.records.specs.Images.{Kind, Entry, Store, storeOf, entryAt}
 use Rattle.records.specs.Errors.{Error, Referred, reference, noValue}
-use Rattle.records.proofs.Laws.{after-elim, number-inv}
+use Rattle.records.proofs.Laws.{after-elim, number-inv, byte-inv}
 use Rattle.records.proofs.Views.{both, never, id-elim, term-elim, Body, is-string, is-number, is-function, is-message, is-term, is-variable, is-nested, inline-elim}
-use Rattle.texts.specs.Report.{referredOf, optionOf}
-use Rattle.texts.specs.declared.Referred.the-variants as referred
-use Rattle.bundle.specs.Lookup.{Holder, Find, findIn, partOf}
-use Rattle.bundle.specs.Meets.{HolderAt, message-at, term-at, function-at, nothing-at, PartAt, part-at, no-part, asked}
-use Rattle.bundle.specs.declared.Found.{Found}
-use Rattle.bundle.specs.declared.Found.the-variants as found
-use Rattle.images.proofs.Views.{byte-inv}
+use Rattle.texts.specs.Optional.{optionOf}
+use Rattle.texts.specs.Relations.Report.{referredOf}
+use Rattle.texts.specs.declared.errors.Referred.the-variants as referred
+use Rattle.entries.specs.Lookup.{Holder, Find, findIn, partOf}
+use Rattle.entries.specs.Relations.Meets.{HolderAt, message-at, term-at, function-at, nothing-at, PartAt, part-at, no-part, asked}
+use Rattle.entries.specs.declared.Found.{Found}
+use Rattle.entries.specs.declared.Found.the-variants as found
 use Rattle.resolution.specs.Effect.{Bytes, report, unfound, M, Done, emit, write, _>>=_, _>>_}
 use Rattle.resolution.specs.Resolve.{Trail, dotted, errorText, braced, writeRefError, lookUp, messageOnly, termOnly, asMessage, asTerm, track, onPart, missingPart, messageFound, termFound, writeMessage}
-use Rattle.scope.specs.declared.state.Scope.{Scope}
-use Rattle.scope.specs.declared.state.Reference.{Reference}
-use Rattle.scope.specs.declared.state.Referring.{Referring}
-use Rattle.scope.specs.declared.state.Reference.the-variants as ref
-use Rattle.scope.specs.Meets.{World, world, Runs, Kept, Acts, Env, Setup, settingOf, findOf, crossOf, Here, ErrorAt, RefErrorAt, ReferenceIs, reads, unread, TrackAt, MessageAt, FoundTermAt}
+use Rattle.state.specs.declared.Scope.{Scope}
+use Rattle.state.specs.declared.Reference.{Reference}
+use Rattle.state.specs.declared.Referring.{Referring}
+use Rattle.state.specs.declared.Reference.the-variants as ref
+use Rattle.scope.specs.Relations.Meets.{World, world, Runs, Kept, Acts, Env, Setup, settingOf, findOf, crossOf}
+use Rattle.scope.specs.Relations.Leaves.{ErrorAt, RefErrorAt, ReferenceIs, reads, unread}
+use Rattle.scope.specs.Relations.Members.{Here, TrackAt, MessageAt, FoundTermAt}
 use Rattle.scope.proofs.Laws.{kept-same, kept-then, runs-then}
 use Rattle.scope.proofs.Steps.{runs-as, runs-over}
 use Rattle.resolver.proofs.Binds.{look-found, look-lost}

@@ -14,12 +14,15 @@ use Rattle.records.specs.Decode.{many, variantAt, patternAt, selectAt, expressi
 use Rattle.records.specs.Images.{Store, storeOf}
 use Rattle.records.specs.Errors.{missingDefault}
 use Rattle.records.proofs.Views.{both, never, select-elim}
-use Rattle.bundle.specs.Lookup.{Find}
+use Rattle.entries.specs.Lookup.{Find}
 use Rattle.resolution.specs.Effect.{report, M, Done, ret, _>>=_, emit, release}
 use Rattle.resolution.specs.Resolve.{Setting, Trail, chosen, writePattern, writeExpression, writeNth, writeVariant, resolveInline}
-use Rattle.scope.specs.declared.state.Scope.{Scope}
-use Rattle.scope.specs.declared.state.Value as code-value
-use Rattle.scope.specs.Meets.{World, world, Runs, Kept, Acts, Holds, Env, Setup, settingOf, findOf, crossOf, patternOf, nthOf, Pick, picked, no-pick, PickAt, Here, PatternAt, SelectAt, ValueAt, backS}
+use Rattle.state.specs.declared.Scope.{Scope}
+use Rattle.state.specs.declared.Value as code-value
+use Rattle.scope.specs.Relations.Meets.{World, world, Runs, Kept, Acts, Holds, Env, Setup, settingOf, findOf, crossOf}
+use Rattle.scope.specs.Relations.Leaves.{patternOf, nthOf, Pick, picked, no-pick, PickAt}
+use Rattle.scope.specs.Relations.Members.{Here, PatternAt, SelectAt, ValueAt}
+use Rattle.state.specs.Setters.{backS}
 use Rattle.scope.proofs.Laws.{stays, here-stays, kept-same, kept-then, ended-then}
 use Rattle.scope.proofs.Steps.{runs-as, runs-over}
 use Rattle.scope.proofs.Release.{freed, kept-freed, ended-release, release-over, runs-stopped}

@@ -12,16 +12,19 @@ use Rattle.records.specs.Bytes.{part, byteAt, numberAt}
 use Rattle.records.specs.Tree.{Named, Inline, Inlines, Pattern, Arguments, without, with-args}
 use Rattle.records.specs.Decode.{many, idAt, optionalAt, namedAt, argumentsAt, termArgumentsAt, inline}
 use Rattle.records.proofs.Views.{both, never, term-arguments-elim}
-use Rattle.bundle.specs.Lookup.{Find}
+use Rattle.entries.specs.Lookup.{Find}
 use Rattle.resolution.specs.Effect.{Bytes, Trace, Locals, State, Out, M, Done, ret, _>>=_, _>>_, setLocals, release}
 use Rattle.resolution.specs.Exec.{Machine, Limits}
 use Rattle.resolution.specs.Resolve.{Setting, Trail, lookUp, asTerm, termFound, writeTerm, Given, termArguments, getArguments, resolve}
-use Rattle.scope.specs.declared.state.Scope.{Scope}
-use Rattle.scope.specs.declared.state.Value as code-value
-use Rattle.scope.specs.declared.state.Reference.{Reference}
-use Rattle.scope.specs.declared.state.Referring.{Referring}
-use Rattle.scope.specs.declared.state.Reference.the-variants as ref
-use Rattle.scope.specs.Meets.{World, world, Live, LocalsAt, no-locals, some-locals, NamedIn, named-none, namedTexts, locals-cleared, Moved, Ended, ended, stopped, Runs, Kept, Env, Setup, settingOf, findOf, crossOf, Here, PositionalAt, NamedAt, ReferenceIs, FoundTermAt, TermAt, localsS, clearS, backS}
+use Rattle.state.specs.declared.Scope.{Scope}
+use Rattle.state.specs.declared.Value as code-value
+use Rattle.state.specs.declared.Reference.{Reference}
+use Rattle.state.specs.declared.Referring.{Referring}
+use Rattle.state.specs.declared.Reference.the-variants as ref
+use Rattle.scope.specs.Relations.Meets.{World, world, Live, LocalsAt, no-locals, some-locals, NamedIn, named-none, namedTexts, locals-cleared, Moved, Ended, ended, stopped, Runs, Kept, Env, Setup, settingOf, findOf, crossOf}
+use Rattle.scope.specs.Relations.Leaves.{NamedAt, ReferenceIs}
+use Rattle.scope.specs.Relations.Members.{Here, PositionalAt, FoundTermAt, TermAt}
+use Rattle.state.specs.Setters.{localsS, clearS, backS}
 use Rattle.scope.proofs.Laws.{kept-same, kept-then, append-nil}
 use Rattle.scope.proofs.Steps.{runs-as, runs-over}
 use Rattle.scope.proofs.Release.{freed, ended-release, stopped-release, release-back, release-over}

@@ -14,15 +14,18 @@ use Rattle.records.specs.Decode.{patternAt, entryPatternAt, maxDepth, expressio
 use Rattle.records.specs.Errors.{cyclic}
 use Rattle.records.proofs.Laws.{number-inv}
 use Rattle.records.proofs.Views.{pattern-elim}
-use Rattle.texts.specs.Report.{plainOf}
-use Rattle.texts.specs.declared.Plain.the-variants as plain
-use Rattle.bundle.specs.Lookup.{Find}
+use Rattle.texts.specs.Relations.Report.{plainOf}
+use Rattle.texts.specs.declared.errors.Plain.the-variants as plain
+use Rattle.entries.specs.Lookup.{Find}
 use Rattle.walks.proofs.Trail.{bytes-at}
 use Rattle.resolution.specs.Effect.{Bytes, report, State, Out, M, Done, emit, write, _>>_}
 use Rattle.resolution.specs.Exec.{Machine, Limits}
 use Rattle.resolution.specs.Resolve.{Setting, Trail, onTrail, bytesOf, braced, errorText, writeRefError, trackIf, track, writePattern, resolve}
-use Rattle.scope.specs.declared.state.Scope.{Scope}
-use Rattle.scope.specs.Meets.{World, world, Live, LocalsStay, locals-same, locals-cleared, Moved, Ended, ended, stopped, Runs, Kept, Acts, trailOf, patternBytes, depthS, Env, Setup, settingOf, findOf, crossOf, Here, ErrorAt, PatternAt, TrackAt}
+use Rattle.state.specs.declared.Scope.{Scope}
+use Rattle.scope.specs.Relations.Meets.{World, world, Live, LocalsStay, locals-same, locals-cleared, Moved, Ended, ended, stopped, Runs, Kept, Acts, trailOf, patternBytes, Env, Setup, settingOf, findOf, crossOf}
+use Rattle.scope.specs.Relations.Leaves.{ErrorAt}
+use Rattle.scope.specs.Relations.Members.{Here, PatternAt, TrackAt}
+use Rattle.state.specs.Setters.{depthS}
 use Rattle.scope.proofs.Laws.{kept-same, kept-then, runs-then}
 use Rattle.scope.proofs.Locals.{locals-alike}
 use Rattle.scope.proofs.Steps.{runs-as, runs-over}

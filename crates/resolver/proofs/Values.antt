@@ -9,28 +9,33 @@ use lib.ListN.{length, take, drop, length-take, length-drop}
 use lib.Seq.{length-take-le}
 use Rattle.numbers.specs.Number.{Number, isNumber, literal, inRange}
 use Rattle.numbers.specs.Value.{Value, textual, numeric, nothing, wrong}
-use Rattle.numbers.specs.Shown.{shown}
+use Rattle.decimals.specs.Relations.Shown.{shown}
 use Rattle.records.specs.Got.{Got, got, bad}
 use Rattle.records.specs.Bytes.{part, byteAt, strAt}
 use Rattle.records.specs.Tree.{Inline, variable}
 use Rattle.records.specs.Decode.{idAt, literalNumberAt, inline}
 use Rattle.records.proofs.Views.{both, never, id-str, string-str, number-str, ruled-elim, inline-elim}
-use Rattle.texts.specs.Append.{movedBack, Keeps}
-use Rattle.texts.specs.Unescape.{unescape}
-use Rattle.texts.proofs.Place.{moved-keeps}
+use Rattle.buffers.specs.Relations.Append.{movedBack, Keeps}
+use Rattle.unescape.specs.Unescape.{unescape}
+use Rattle.buffers.proofs.Place.{moved-keeps}
 use Rattle.resolution.specs.Effect.{Bytes, State, Out, M, Done, ret, _>>=_, _>>_, capture, release}
 use Rattle.resolution.specs.Exec.{Machine, Limits}
 use Rattle.resolution.specs.Resolve.{Trail, held, stringValue, getVariable, orWrong, callFunction, getArguments, writeInline, resolveInline, writeExpression, writeMessage}
-use Rattle.scope.specs.declared.state.Scope.{Scope}
-use Rattle.scope.specs.declared.state.Value as code-value
-use Rattle.scope.specs.declared.state.Value.the-variants as val
-use Rattle.scope.specs.Meets.{World, world, Live, Ended, Runs, Kept, Holds, in-store, in-args, in-work, is-number as holds-number, is-nothing, is-wrong, Env, Setup, settingOf, findOf, crossOf, Here, InlineAt, ValueAt, TextValueAt, ResultIs, has-result, no-function, CalledAt, StringAt, VariableValueAt, asideS, keptS}
+use Rattle.state.specs.declared.Scope.{Scope}
+use Rattle.state.specs.declared.Value as code-value
+use Rattle.state.specs.declared.Value.the-variants as val
+use Rattle.scope.specs.Relations.Meets.{World, world, Live, Ended, Runs, Kept, Holds, in-store, in-args, in-work, is-number as holds-number, is-nothing, is-wrong, Env, Setup, settingOf, findOf, crossOf}
+use Rattle.scope.specs.Relations.Leaves.{ResultIs, has-result, no-function, StringAt, VariableValueAt}
+use Rattle.scope.specs.Relations.Members.{Here, InlineAt, ValueAt, TextValueAt, CalledAt}
+use Rattle.state.specs.Setters.{asideS, keptS}
 use Rattle.scope.proofs.Laws.{kept-same, runs-ret, ended-then}
 use Rattle.scope.proofs.Steps.{runs-as, runs-over}
 use Rattle.scope.proofs.Capture.{opened, live-opened, ended-capture, holds-capture, capture-stopped, capture-lies, ended-held}
 use Rattle.scope.proofs.Literals.{number-is, literal-ranged, id-short}
 use Rattle.resolver.proofs.Bodies.{string-body, number-body, message-body, term-body, variable-body, nested-body, str-body, function-body}
 use Rattle.scope.proofs.Values.{string-value}
+use Rattle.heads.specs.Tags.{textTag}
+use Rattle.heads.proofs.Heads.{text-tag}
 
 -- a value, or Error where there is none: nothing more is done
 runs-or : (o : Option Value) (w : World) → Runs (orWrong o) w w
@@ -68,17 +73,20 @@ module _ (e : Env) (left at : ℕ) where
             subst (λ (q : M Value). Holds (e .store) (e .args) (v .work) (v .st .back) c (q s .value)) (sym (is u n t y f k)) (g .holds u y f k n t here L s m lv z);
       }
 
-      pub value-message : tag ≡ 4 → ValueAt e left at w v c
+      value-message : tag ≡ 4 → ValueAt e left at w v c
       unfolding resolveInline
       value-message h = value-text (λ u n t y f k. message-body (e .store) at tag p hb left k h (λ i q a hn ha ey. rw ey))
 
-      pub value-term : tag ≡ 5 → ValueAt e left at w v c
+      value-term : tag ≡ 5 → ValueAt e left at w v c
       unfolding resolveInline
       value-term h = value-text (λ u n t y f k. term-body (e .store) at tag p hb left k h (λ i q a j r z hn ha hr ey. rw ey))
 
-      pub value-nested : tag ≡ 7 → ValueAt e left at w v c
+      value-nested : tag ≡ 7 → ValueAt e left at w v c
       unfolding resolveInline
       value-nested h = value-text (λ u n t y f k. nested-body (e .store) at tag p hb left k h (λ x hx ey. rw ey))
+
+      pub value-of-text : textTag tag ≡ true → ValueAt e left at w v c
+      value-of-text h = text-tag tag h value-message value-term value-nested
 
     -- no Str stands past the tag: never
     pub value-worse : (w : World) (c : code-value.Value) → (tag ≡ 4 → ⊥) → (tag ≡ 5 → ⊥) → (tag ≡ 7 → ⊥) → strAt (e .store) p ≡ bad → ValueAt e left at w w c

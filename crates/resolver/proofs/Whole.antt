@@ -15,16 +15,18 @@ use Rattle.records.specs.Encode.{encAll}
 use Rattle.records.specs.Errors.{encError, encErrors}
 use Rattle.records.proofs.Views.{pattern-elim}
 use Rattle.records.proofs.Laws.{number-inv}
-use Rattle.bundle.specs.Additions.{atFront}
+use Rattle.growth.specs.Items.{atFront}
 use Rattle.resolution.specs.Effect.{Bytes, State, Out, Done}
 use Rattle.resolution.specs.Resolve.{Trail, bytesOf, resolve}
 use Rattle.resolution.specs.Exec.{Machine, Limits, Ran, ran, refused, exec, start}
 use Rattle.resolution.specs.Format.{Buffers, limitsOf, maxPatterns, fresh, runPattern}
-use Rattle.walks.specs.Trail.{prefixed, patternBytes, trailOf}
-use Rattle.scope.specs.declared.state.Scope.{Scope}
-use Rattle.scope.specs.Meets.{World, world, Live, LocalsAt, no-locals, Moved, Ended, ended, stopped, Env, env, Setup, settingOf, findOf, crossOf, Here, PatternAt, depthS, maxUnfound}
+use Rattle.walks.specs.Relations.Trail.{prefixed, patternBytes, trailOf}
+use Rattle.state.specs.declared.Scope.{Scope}
+use Rattle.scope.specs.Relations.Meets.{World, world, Live, LocalsAt, no-locals, Moved, Ended, ended, stopped, Env, env, Setup, settingOf, findOf, crossOf}
+use Rattle.scope.specs.Relations.Members.{Here, PatternAt}
+use Rattle.state.specs.Setters.{depthS, maxUnfound, newS}
 use Rattle.scope.proofs.Puts.{errors-length}
-use Rattle.resolver.specs.Formats.{newS, RanAs, ran-as, refused-as}
+use Rattle.resolver.specs.Relations.Runs.{RanAs, ran-as, refused-as}
 
 -- the state in which a run begins
 abbrev pub scope0 : List ℕ → Scope

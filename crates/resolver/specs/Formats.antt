@@ -1,27 +1,10 @@
 -- What a formatting answers, and what it leaves of the three buffers: document 01's numbers and values for each case of the code's answer.
 use mathlib.Core.Path.{_≡_}
-use mathlib.Core.List.{List}
-use mathlib.Core.Bool.{false}
 use mathlib.Core.Option.{Option}
-use Prim.Native.Nat.{ℕ, _-_, _≤_, min}
-use lib.ListN.{length, drop}
-use Rattle.records.specs.Got.{got}
-use Rattle.records.specs.Bytes.{part}
-use Rattle.records.specs.Tree.{Pattern}
-use Rattle.records.specs.Decode.{entryPatternAt}
-use Rattle.records.specs.Images.{Store, storeOf, argumentsOf}
-use Rattle.records.specs.Encode.{encAll}
-use Rattle.records.specs.Errors.{encError, encErrors}
-use Rattle.bundle.specs.Additions.{atFront}
 use Rattle.resolution.specs.Effect.{Bytes}
-use Rattle.resolution.specs.Exec.{Machine, Ran, ran, refused}
-use Rattle.resolution.specs.Format.{Answer, finished, refusedBefore, refusedRunning, Buffers, limitsOf, refuse, ended, runPattern, formatArguments, format}
-use Rattle.scope.specs.declared.state.Scope.{Scope}
-use Rattle.scope.specs.Meets.{maxUnfound, Env, Setup, settingOf, findOf}
+use Rattle.resolution.specs.Format.{Answer, finished, refusedBefore, refusedRunning, format}
 use Rattle.resolver.specs.declared.format.Answer as code-answer
 use Rattle.resolver.specs.declared.format.Answer.the-variants as ans
-use Rattle.resolver.specs.declared.format.Part as code-part
-use Rattle.resolver.specs.declared.format.Part.the-variants as part-answer
 
 -- the code's answer for the definition's
 unfoldable pub answerOf : Answer → code-answer.Answer
@@ -29,49 +12,9 @@ answerOf (finished t e b u w) = ans.Finished (record { text = t; errors = e; beg
 answerOf (refusedBefore n) = ans.Refused n
 answerOf (refusedRunning n) = ans.Cleared n
 
--- the same with a count of lookups unfound that stops at 2^64 - 1, as the code counts; no store reaches that
-unfoldable pub stoppedOf : Answer → code-answer.Answer
-stoppedOf (finished t e b u w) = ans.Finished (record { text = t; errors = e; begun = b; unfound = min u maxUnfound; work = w })
-stoppedOf (refusedBefore n) = ans.Refused n
-stoppedOf (refusedRunning n) = ans.Cleared n
-
 -- a formatting: the answer and every byte of the three buffers are what the definition gives
 pub record Formats (s id : Bytes) (a : Option Bytes) (image x l w x′ l′ w′ : Bytes) (r : code-answer.Answer) : Type 0 where
   pub answer : r ≡ answerOf (format s id a image (record { text = x; list = l; work = w }) .answer)
   pub text : x′ ≡ format s id a image (record { text = x; list = l; work = w }) .buffers .text
   pub list : l′ ≡ format s id a image (record { text = x; list = l; work = w }) .buffers .list
   pub work : w′ ≡ format s id a image (record { text = x; list = l; work = w }) .buffers .work
-
--- the pattern that is asked for, by its position, or the refusal before the run: 4, 8, 11, 12
-pub data PatternFound (s id : Bytes) (a : Option Bytes) (r : code-part.Part) : Type 0 where
-  refuses : (n : ℕ) → r ≡ part-answer.Refused n → ((image : Bytes) (b : Buffers) → format s id a image b ≡ refuse n b) → PatternFound s id a r
-  finds : (q : ℕ) (st : Store) (used : ℕ) (p : Pattern) (f : ℕ) → r ≡ part-answer.At q → storeOf s ≡ got st used → entryPatternAt s q ≡ got p f
-      → ((image : Bytes) (b : Buffers) → format s id a image b ≡ formatArguments st p (argumentsOf image) b) → PatternFound s id a r
-
--- what the code's state and buffers say of a run's outcome
-pub data RanAs (o : Ran) (x l x′ l′ : Bytes) (r : Scope) : Type 0 where
-  ran-as : (m : Machine) → o ≡ ran m → r .refused ≡ 0 → r .«text_at» ≡ length (m .written) → x′ ≡ atFront (m .written) x
-      → r .«list_at» ≡ length (encErrors (m .errors)) → r .«list_at» ≤ 4294967295 → 5 ≤ r .«list_at» → r .«list_at» ≤ length l
-      → part l′ 5 (r .«list_at» - 5) ≡ encAll encError (m .errors) → drop (r .«list_at») l′ ≡ drop (r .«list_at») l
-      → r .errors ≡ length (m .errors) → r .begun ≡ m .begun → r .unfound ≡ min (m .unfounds) maxUnfound → r .high ≡ m .high → RanAs o x l x′ l′ r
-  refused-as : (n : ℕ) → o ≡ refused n → (n ≡ 0 → ⊥) → r .refused ≡ n → RanAs o x l x′ l′ r
-
--- the state that a run is made with; the depth is 1 once the pattern that is asked for is on the trail
-abbrev pub newS : ℕ → Scope
-newS n = record { «text_at» = 0; «list_at» = 5; errors = 0; front = 0; back = n; high = 0; depth = 0; begun = 0; unfound = 0; aside = false; dirty = false; local = false; «local_at» = 0; «local_count» = 0; «local_base» = 0; refused = 0 }
-
--- the run of the pattern at q
-pub record RunAt (e : Env) (q : ℕ) (x l w x′ l′ w′ : Bytes) (r : Scope) : Type 0 where
-  pub text-size : length x′ ≡ length x
-  pub list-size : length l′ ≡ length l
-  pub work-size : length w′ ≡ length w
-  pub runs : (u : Setup e) (p : Pattern) (f : ℕ) → entryPatternAt (e .store) q ≡ got p f → 5 ≤ length l
-      → RanAs (runPattern (settingOf e u) (findOf e u) (limitsOf (record { text = x; list = l; work = w })) p) x l x′ l′ r
-
--- what the buffers hold in the end, whatever the run's outcome was
-pub record FinishAt (st : Scope) (x₁ l₁ w₁ x₂ l₂ w₂ : Bytes) (r : code-answer.Answer) : Type 0 where
-  pub finishes : (o : Ran) (x l w : Bytes) → RanAs o x l x₁ l₁ st → length x₁ ≡ length x → length l₁ ≡ length l → length w₁ ≡ length w
-      → (r ≡ stoppedOf (ended o (record { text = x; list = l; work = w }) .answer))
-      × (x₂ ≡ ended o (record { text = x; list = l; work = w }) .buffers .text)
-      × (l₂ ≡ ended o (record { text = x; list = l; work = w }) .buffers .list)
-      × (w₂ ≡ ended o (record { text = x; list = l; work = w }) .buffers .work)

@@ -1,20 +1,21 @@
 // Formatting: a message's value or attribute, from a stored bundle.
 use crate::lent::resolve;
-use bundle::Found;
-use bundle::find_holder;
-use bundle::find_part;
-use images::check_arguments;
+use arguments::check_arguments;
+use buffers::fill_zero;
+use entries::Found;
+use entries::entry::find_holder;
+use entries::message::find_part;
 use images::check_store;
 use records::Next;
-use records::is_id;
-use scope::state::Scope;
-use texts::fill_zero;
+use rules::is_id;
+use state::Scope;
 use texts::put_header;
 ghost use mathlib.Core.Path.{_≡_};
 ghost use Rattle.resolution.specs.Format.{isIdOrNone};
-ghost use Rattle.resolver.specs.Formats.{PatternFound, RunAt, FinishAt, Formats};
-ghost use Rattle.texts.specs.Report.{optionOf};
-ghost use Rattle.scope.specs.Meets.{env};
+ghost use Rattle.resolver.specs.Formats.{Formats};
+ghost use Rattle.resolver.specs.Relations.Runs.{PatternFound, RunAt, FinishAt};
+ghost use Rattle.texts.specs.Optional.{optionOf};
+ghost use Rattle.scope.specs.Relations.Meets.{env};
 
 // What a formatting carries.
 pub struct Figures {

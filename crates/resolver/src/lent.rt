@@ -2,50 +2,13 @@
 // The functions that are lent the scope, or lend it, are proved by hand.
 ghost use mathlib.Core.Path.{_≡_};
 ghost use lib.ListN.{length, set};
-ghost use Rattle.resolver.specs.Formats.{newS};
-ghost use Rattle.scope.specs.Meets.{world, env, PatternAt, depthS};
-use crate::write::write_pattern;
-use scope::state::Scope;
-use scope::state::set_depth;
-
-// `Scope::new`: nothing is written, listed, begun or travelled, and the workspace has `room` bytes.
-pub fn new(room: usize) -> Scope
-    ensures { λ r. ⌜ r ≡ newS room ⌝ }
-{
-    Scope {
-        text_at: 0,
-        list_at: 5,
-        errors: 0,
-        front: 0,
-        back: room,
-        high: 0,
-        depth: 0,
-        begun: 0,
-        unfound: 0,
-        aside: false,
-        dirty: false,
-        local: false,
-        local_at: 0,
-        local_count: 0,
-        local_base: 0,
-        refused: 0,
-    }
-}
-
-// The first pattern of a trail, and the depth after it.
-pub fn first_on(trail: &mut [usize; 102], st: Scope, q: usize) -> Scope
-    ensures { λ r. ⌜ (r ≡ depthS 1 st) × (now (trail .exit) ≡ set (now (trail .entry)) 0 q) ⌝ }
-{
-    trail[0] = q;
-    set_depth(st, 1)
-}
-
-// `Scope::maybe_track`, where no pattern is travelled yet.
-pub fn enter(trail: &mut [usize; 102], scope: &mut Scope, q: usize)
-    ensures { λ _. ⌜ (now (scope .exit) ≡ depthS 1 (now (scope .entry))) × (now (trail .exit) ≡ set (now (trail .entry)) 0 q) ⌝ }
-{
-    *scope = first_on(trail, *scope, q);
-}
+ghost use Rattle.state.specs.Setters.{newS, depthS};
+ghost use Rattle.scope.specs.Relations.Meets.{world, env};
+ghost use Rattle.scope.specs.Relations.Members.{PatternAt};
+use crate::pattern;
+use state::Scope;
+use state::enter;
+use state::new;
 
 // `Pattern::write`
 pub fn write(
@@ -61,7 +24,7 @@ pub fn write(
 )
     ensures { λ _. ⌜ PatternAt (env (now (store .entry)) (now (args .entry))) left at (world (now (store .entry)) (now (text .entry)) (now (list .entry)) (now (work .entry)) (now (trail .entry)) (now (scope .entry))) (world (now (store .entry)) (now (text .exit)) (now (list .exit)) (now (work .exit)) (now (trail .exit)) (now (scope .exit))) ⌝ }
 {
-    *scope = write_pattern(store, args, text, list, work, trail, *scope, left, at);
+    *scope = pattern::write(store, args, text, list, work, trail, *scope, left, at);
 }
 
 // `Pattern::resolve`, at a scope of its own: it is made here, lent down the whole formatting of the pattern at q, and handed on as it is then.

@@ -1,35 +1,43 @@
 -- What the writers of lent buffers leave, as the steps of writing and listing want it.
 use mathlib.Core.Path.{_≡_, refl, ap, sym, subst, _∙_}
-use mathlib.Core.List.{List, [], _++_}
+use mathlib.Core.List.{List, [], _∷_, _++_}
 use mathlib.Core.Bool.{Bool, true, false}
 use mathlib.Core.Logic.{⊎-elim, _⊎_, inl, inr}
 use Prim.Native.Nat.{ℕ, _+_, _-_, _≤_, _<_, min, max}
 use native.Mathlib.Omega.{arith}
 use native.Mathlib.Numerals.{add-one}
 use lib.ListN.{length, take, drop, getD, set}
+use lib.Dec.{leb}
+use types.Run.{OneOf, miss}
+use denote.Enum.Declared.{tagOf}
 use lib.Seq.{paste, paste-suc, drop-paste, getD-take, getD-drop}
-use borrow.Author.Tests.{leb-false}
+use borrow.Author.Tests.{leb-true, leb-false}
 use Rattle.numbers.specs.Number.{Number, inRange, numberText, rangedText}
 use Rattle.numbers.specs.Value.{Value, numeric, valueText}
-use Rattle.numbers.specs.Shown.{shown, told}
-use Rattle.numbers.specs.declared.types.Number as code-number
-use Rattle.numbers.proofs.Shown.{count-there}
-use Rattle.numbers.proofs.Writing.{ranged-in}
+use Rattle.decimals.specs.Relations.Shown.{shown, told}
+use Rattle.decimals.specs.declared.types.Number as code-number
+use Rattle.decimals.proofs.Shown.{count-there}
+use Rattle.decimals.proofs.Writing.{ranged-in}
 use Rattle.records.specs.Bytes.{part}
 use Rattle.records.specs.Errors.{Error, Referred, noValue, reference, encError}
 use Rattle.records.proofs.Local.{length-part}
-use Rattle.texts.specs.Append.{appended}
-use Rattle.texts.specs.Report.{optionOf, plainOf, roomFor, recorded}
-use Rattle.texts.specs.declared.Plain.{Plain}
-use Rattle.texts.specs.declared.Wrote.{Wrote}
-use Rattle.texts.specs.declared.Wrote.the-variants as wrote
-use Rattle.texts.proofs.Place.{paste-over, appended-at, appended-no, length-over, take-over, drop-over}
+use Rattle.buffers.specs.Relations.Append.{appended}
+use Rattle.texts.specs.Optional.{optionOf}
+use Rattle.texts.specs.Relations.Report.{plainOf, roomFor, recorded}
+use Rattle.texts.specs.declared.errors.Plain.{Plain}
+use Rattle.buffers.specs.declared.Wrote.{Wrote}
+use Rattle.buffers.specs.declared.Wrote.the-variants as wrote
+use Rattle.buffers.proofs.Place.{paste-over, appended-at, appended-no, length-over, take-over, drop-over}
 use Rattle.texts.proofs.Recording.{room-by-size, recorded-at, recorded-no, plain-length, no-value-length, bare-length, attribute-length}
 use Rattle.resolution.specs.Effect.{Bytes, report, emit, write}
-use Rattle.scope.specs.declared.state.Scope.{Scope}
-use Rattle.scope.specs.declared.state.Value as code-value
-use Rattle.scope.specs.declared.state.Value.the-variants as val
-use Rattle.scope.specs.Meets.{world, Kept, Acts, Holds, in-store, in-args, in-work, is-number, is-nothing, is-wrong, refuseS, textS, frontS, listS, listedS, upTo, maxUnfound}
+use Rattle.state.specs.declared.Scope.{Scope}
+use Rattle.state.specs.declared.Value as code-value
+use Rattle.state.specs.declared.Value.the-variants as val
+use Rattle.state.proofs.Value.{the-type}
+use Rattle.arguments.specs.Relations.Given.{between}
+use Rattle.arguments.proofs.Laws.{between-in}
+use Rattle.scope.specs.Relations.Meets.{world, Kept, Acts, Holds, in-store, in-args, in-work, is-number, is-nothing, is-wrong, listedS, storedText}
+use Rattle.state.specs.Setters.{refuseS, textS, frontS, listS, upTo, maxUnfound}
 use Rattle.scope.proofs.Puts.{le-or-lt, put-text, put-text-full, put-work, list-full, list-in, error-some}
 
 -- bytes at the workspace's front, and the state that `grown` leaves
@@ -205,3 +213,36 @@ module _ (i a w : List ℕ) (low : ℕ) {c : code-value.Value} {v : Value} where
   holds-wrong q (is-number n p f u) = let y : _≡_ {A = ℕ} 0 1 = cc in absurd (omega arith)
   holds-wrong q (is-nothing p u) = let y : _≡_ {A = ℕ} 0 1 = cc in absurd (omega arith)
   holds-wrong q (is-wrong p u) = sym (ap valueText u)
+
+-- whether there is room in the workspace
+clash : true ≡ false → ⊥
+clash h = let z : _≡_ {A = ℕ} 0 1 = cc in omega arith
+
+pub room-none : (f b len n : ℕ) → (f ≤ b → b ≤ len → b < f + n) → (false ≡ true → (f ≤ b) × (b ≤ len) × (f + n ≤ b)) × (false ≡ false → f ≤ b → b ≤ len → b < f + n)
+room-none f b len n h = ((λ e. absurd (clash (sym e))), λ _. h)
+
+pub room-test : (f b len n : ℕ) → f ≤ b → b ≤ len → (leb n (b - f) ≡ true → (f ≤ b) × (b ≤ len) × (f + n ≤ b)) × (leb n (b - f) ≡ false → f ≤ b → b ≤ len → b < f + n)
+room-test f b len n p q = ((λ e. let h = leb-true n (b - f) e in (p, q, omega arith)), λ e _ _. let h = leb-false n (b - f) e in omega arith)
+
+-- a value's text in the store, and where it has none there
+pub stored-at : (i : List ℕ) {b e : ℕ} {c : code-value.Value} → c ≡ val.Store b e → between i b e ≡ storedText i c
+unfolding storedText
+stored-at i h = rw h
+
+pub stored-none : (i : List ℕ) (c : code-value.Value) → OneOf (1 ∷ 2 ∷ 3 ∷ 4 ∷ 5 ∷ []) (tagOf the-type c) → [] ≡ storedText i c
+unfolding storedText
+stored-none i (val.Store b e) k = absurd (miss (1 ∷ 2 ∷ 3 ∷ 4 ∷ 5 ∷ []) 0 tt k)
+stored-none i (val.Args b e) k = refl
+stored-none i (val.Work b e) k = refl
+stored-none i (val.Number n) k = refl
+stored-none i val.Nothing k = refl
+stored-none i val.Wrong k = refl
+
+pub stored-is : (i a w : List ℕ) (low : ℕ) {c : code-value.Value} {v : Value} → OneOf (0 ∷ 4 ∷ 5 ∷ []) (tagOf the-type c) → Holds i a w low c v → storedText i c ≡ valueText v
+unfolding storedText valueText
+stored-is i a w low k (in-store b e p lo hi r) = ap (storedText i) p ∙ between-in i b e lo hi ∙ sym (ap valueText r)
+stored-is i a w low k (in-args b e p lo hi r) = absurd (miss (0 ∷ 4 ∷ 5 ∷ []) 1 tt (subst (λ (y : code-value.Value). OneOf (0 ∷ 4 ∷ 5 ∷ []) (tagOf the-type y)) p k))
+stored-is i a w low k (in-work b e p l lo hi r) = absurd (miss (0 ∷ 4 ∷ 5 ∷ []) 2 tt (subst (λ (y : code-value.Value). OneOf (0 ∷ 4 ∷ 5 ∷ []) (tagOf the-type y)) p k))
+stored-is i a w low k (is-number n p q r) = absurd (miss (0 ∷ 4 ∷ 5 ∷ []) 3 tt (subst (λ (y : code-value.Value). OneOf (0 ∷ 4 ∷ 5 ∷ []) (tagOf the-type y)) p k))
+stored-is i a w low k (is-nothing p q) = ap (storedText i) p ∙ sym (ap valueText q)
+stored-is i a w low k (is-wrong p q) = ap (storedText i) p ∙ sym (ap valueText q)

@@ -1,8 +1,8 @@
 -- A text of its own in the workspace: made aside at the front, then moved to the back.
-use mathlib.Core.Path.{_≡_, refl, ap, sym, subst, _∙_}
+use mathlib.Core.Path.{_≡_, refl, ap, sym, _∙_}
 use mathlib.Core.List.{List, [], _∷_, _++_}
-use mathlib.Core.Bool.{Bool, true, false}
-use Prim.Native.Nat.{ℕ, zero, suc, _+_, _-_, _≤_, _<_}
+use mathlib.Core.Bool.{true}
+use Prim.Native.Nat.{ℕ, suc, _+_, _-_, _≤_}
 use native.Mathlib.Omega.{arith}
 use lib.ListN.{length, take, drop, length-append}
 use lib.Seq.{take-take, length-take-le, take-add, take-at, drop-at}
@@ -10,13 +10,14 @@ use lib.Dec.{ltb}
 use borrow.Author.Tests.{lt-ltb}
 use Rattle.numbers.specs.Value.{textual}
 use Rattle.records.specs.Bytes.{part}
-use Rattle.texts.specs.Append.{Keeps}
-use Rattle.resolution.specs.Effect.{Bytes, open-text, keep-text, State, Out, M, Done, ret, _>>=_, capture}
+use Rattle.buffers.specs.Relations.Append.{Keeps}
+use Rattle.resolution.specs.Effect.{Bytes, keep-text, State, Out, M, Done, ret, capture}
 use Rattle.resolution.specs.Resolve.{held}
-use Rattle.resolution.specs.Exec.{Machine, Limits, Ran, ran, refused, exec, andThen, step}
-use Rattle.scope.specs.declared.state.Scope.{Scope}
-use Rattle.scope.specs.declared.state.Value.the-variants as val
-use Rattle.scope.specs.Meets.{World, world, Live, LocalsStay, locals-same, locals-cleared, Moved, Ended, ended, stopped, Runs, Kept, ifAside, Holds, in-work, asideS, keptS}
+use Rattle.resolution.specs.Exec.{Machine, Limits, refused, exec, andThen, step}
+use Rattle.state.specs.declared.Scope.{Scope}
+use Rattle.state.specs.declared.Value.the-variants as val
+use Rattle.scope.specs.Relations.Meets.{World, world, Live, LocalsStay, locals-same, locals-cleared, Moved, Ended, ended, stopped, ifAside, Holds, in-work}
+use Rattle.state.specs.Setters.{asideS, keptS}
 use Rattle.scope.proofs.Laws.{kept-same, runs-ret, ended-then, exec-append, drop-more, append-nil, aside-nil}
 use Rattle.scope.proofs.Locals.{locals-stay, locals-alike}
 

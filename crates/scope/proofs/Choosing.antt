@@ -7,36 +7,38 @@ use Prim.Native.Nat.{ℕ, suc, _-_, _≤_, _<_}
 use native.Mathlib.Omega.{arith}
 use lib.ListN.{length}
 use lib.Dec.{eqb}
-use Rattle.numbers.specs.Bytes.{sameBytes as same-n}
+use Rattle.decimals.specs.Bytes.{sameBytes as same-n}
 use Rattle.numbers.specs.Number.{Number, defaultOptions, literal, sameNumber}
-use Rattle.numbers.specs.Literal.{readNumber, withFraction}
-use Rattle.numbers.specs.Plural.{category, keyword}
+use Rattle.literals.specs.Literal.{readNumber, withFraction}
+use Rattle.plural.specs.Plural.{category, keyword}
 use Rattle.numbers.specs.Value.{Value, textual, numeric, nothing, wrong}
-use Rattle.numbers.specs.Shown.{shown, told, literalOf}
-use Rattle.numbers.specs.declared.types.Number as code-number
-use Rattle.numbers.specs.declared.types.Literal as code-literal
-use Rattle.numbers.specs.declared.types.Literal.the-variants as literals
+use Rattle.decimals.specs.Relations.Shown.{shown, told}
+use Rattle.literals.specs.Relations.Shown.{literalOf}
+use Rattle.decimals.specs.declared.types.Number as code-number
+use Rattle.literals.specs.declared.literal.Literal as code-literal
+use Rattle.literals.specs.declared.literal.Literal.the-variants as literals
 use Rattle.numbers.proofs.Equality.{flag-enough}
-use Rattle.numbers.proofs.Shown.{category-shown}
+use Rattle.plural.proofs.Categories.{category-shown}
 use Rattle.records.specs.declared.Next.{Next}
 use Rattle.records.specs.declared.Next.the-variants as next
 use Rattle.records.specs.Got.{got, bad, Parser}
-use Rattle.images.specs.Arguments.{between}
-use Rattle.images.proofs.Laws.{between-in}
+use Rattle.arguments.specs.Relations.Given.{between}
+use Rattle.arguments.proofs.Laws.{between-in}
 use Rattle.records.specs.Bytes.{part, byteAt, numberAt, spanAt}
-use Rattle.records.specs.Names.{sameBytes}
-use Rattle.records.specs.Rules.{isNumber}
+use Rattle.rules.specs.Same.{sameBytes}
+use Rattle.rules.specs.Rules.{isNumber}
 use Rattle.records.specs.Tree.{Key, Pattern, Expression, Variants, no-variant, or, Variant, variant}
 use Rattle.records.specs.Decode.{many, literalNumberAt, keyAt, patternAt, variantAt, expression}
 use Rattle.records.specs.Images.{Store, storeOf}
 use Rattle.records.proofs.Named.{clash, meet}
 use Rattle.records.proofs.Views.{both, never, many-cons, many-nil, id-elim, ruled-elim, key-elim, flag-elim, variant-elim}
-use Rattle.bundle.specs.Lookup.{orElse}
-use Rattle.bundle.specs.Meets.{Passes}
+use Rattle.entries.specs.Lookup.{orElse}
+use Rattle.entries.specs.Relations.Meets.{Passes}
 use Rattle.resolution.specs.Resolve.{matches, next as after-next, thisOr, firstBy, hasKey, isDefault, chosen}
-use Rattle.scope.specs.declared.state.Value as code-value
-use Rattle.scope.specs.declared.state.Value.the-variants as val
-use Rattle.scope.specs.Meets.{Pick, picked, no-pick, PickAt, nthOf, patternOf, Holds, in-store, in-args, in-work, is-number, is-nothing, is-wrong}
+use Rattle.state.specs.declared.Value as code-value
+use Rattle.state.specs.declared.Value.the-variants as val
+use Rattle.scope.specs.Relations.Meets.{Holds, in-store, in-args, in-work, is-number, is-nothing, is-wrong}
+use Rattle.scope.specs.Relations.Leaves.{Pick, picked, no-pick, PickAt, nthOf, patternOf}
 use Rattle.scope.proofs.Literals.{number-is}
 
 -- the key that a kind and a Str from a to e are

@@ -1,18 +1,17 @@
 -- Laws of running actions: one after the other, and what each leaves.
 use mathlib.Core.Path.{_≡_, refl, ap, sym, subst, _∙_, fun-ext}
 use mathlib.Core.List.{List, [], _∷_, _++_, append-assoc}
-use mathlib.Core.Bool.{Bool, true, false, not}
-use Prim.Native.Nat.{ℕ, zero, suc, _+_, _-_, _≤_, _<_, min, max}
+use mathlib.Core.Bool.{Bool, true, false}
+use Prim.Native.Nat.{ℕ, _+_, _-_, _≤_}
 use native.Mathlib.Omega.{arith}
 use native.Mathlib.Nat.{le-trans}
-use lib.ListN.{length, take, drop, getD}
+use lib.ListN.{take, drop}
 use lib.Seq.{drop-drop}
-use lib.Dec.{ltb, leb}
-use borrow.Author.Tests.{le-leb, lt-leb, lt-ltb, le-ltb}
-use Rattle.scope.specs.declared.state.Scope.{Scope}
-use Rattle.resolution.specs.Effect.{Bytes, Effect, put, Trace, State, Out, M, Done, ret, _>>=_, _>>_, emit, write, isDirty, onlyIf}
-use Rattle.resolution.specs.Exec.{Machine, Limits, Ran, ran, refused, exec, andThen, step, allow, allowIf, putText, putWork, putAt}
-use Rattle.scope.specs.Meets.{World, Live, LocalsStay, locals-same, locals-cleared, Outs, Moved, Ended, ended, stopped, Runs, Kept, Acts, trailOf, ifAside, Env, Here}
+use Rattle.state.specs.declared.Scope.{Scope}
+use Rattle.resolution.specs.Effect.{Bytes, Trace, State, Out, M, ret, _>>=_, _>>_, isDirty}
+use Rattle.resolution.specs.Exec.{Machine, Limits, Ran, ran, refused, exec, andThen, step}
+use Rattle.scope.specs.Relations.Meets.{World, Live, LocalsStay, locals-same, locals-cleared, Outs, Moved, Ended, ended, stopped, Runs, Kept, Acts, trailOf, ifAside, Env}
+use Rattle.scope.specs.Relations.Members.{Here}
 
 andThen-andThen : (o : Ran) (f g : Machine → Ran) → andThen (andThen o f) g ≡ andThen o (λ k. andThen (f k) g)
 unfolding andThen

@@ -16,3 +16,5 @@ pub mod Named
 pub mod Calls
 pub mod Results
 pub mod Written
+pub mod Pieces
+pub mod Wrong

@@ -9,16 +9,16 @@ use lib.ListN.{length}
 use lib.Dec.{eqb, ltb, leb}
 use borrow.Author.Tests.{eqb-true, leb-true, ltb-true, ltb-false, le-leb, lt-ltb}
 use Rattle.records.specs.Got.{got}
-use Rattle.records.specs.Bytes.{run as run-r}
-use Rattle.records.specs.Names.{sameBytes as same-r}
-use Rattle.records.specs.Rules.{choose as choose-r, digit as digit-r, idStep, isId, numberStep as step-r, digitStep, isNumber as isNumber-r}
+use Rattle.rules.specs.Run.{run as run-r}
+use Rattle.rules.specs.Same.{sameBytes as same-r}
+use Rattle.rules.specs.Rules.{choose as choose-r, digit as digit-r, idStep, isId, numberStep as step-r, digitStep, isNumber as isNumber-r}
 use Rattle.records.specs.Decode.{idAt}
 use Rattle.records.proofs.Views.{id-elim}
-use Rattle.numbers.specs.Bytes.{run, choose, digit, sameBytes}
-use Rattle.numbers.specs.Decimal.{orZero, digitsLimit, scaleLimit, fractionLimit}
-use Rattle.numbers.specs.Literal.{numberStep, digitCount, isNumber, Read, oneMore, readSign, readDot, readDigit, readStep, readFrom, readStart, readNumber, withFraction, literal}
-use Rattle.numbers.specs.Text.{inRange}
-use Rattle.numbers.proofs.Reading.{number-shape, literal-digits}
+use Rattle.decimals.specs.Bytes.{run, choose, digit, sameBytes}
+use Rattle.decimals.specs.Decimal.{orZero, digitsLimit, scaleLimit, fractionLimit}
+use Rattle.literals.specs.Literal.{numberStep, digitCount, isNumber, Read, oneMore, readSign, readDot, readDigit, readStep, readFrom, readStart, readNumber, withFraction, literal}
+use Rattle.decimals.specs.Text.{inRange}
+use Rattle.literals.proofs.Reading.{number-shape, literal-digits}
 
 -- equal bytes, by either definition
 pub same-same : (a b : List ℕ) → same-r a b ≡ sameBytes a b

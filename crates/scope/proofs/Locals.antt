@@ -1,19 +1,12 @@
 -- A term's arguments stay readable: what lies at the workspace's back is not written over.
-use mathlib.Core.Path.{_≡_, refl, ap, sym, subst, _∙_}
-use mathlib.Core.List.{List, [], _∷_, _++_}
-use mathlib.Core.Bool.{Bool, true, false, true≢false, false≢true}
-use mathlib.Core.Option.{Option, none, some}
-use Prim.Native.Nat.{ℕ, _+_, _-_, _≤_, _<_}
+use mathlib.Core.Path.{_≡_, ap, _∙_}
+use mathlib.Core.List.{List}
+use Prim.Native.Nat.{ℕ, _-_, _≤_}
 use native.Mathlib.Omega.{arith}
 use lib.ListN.{length, take, drop}
-use Rattle.texts.specs.Unescape.{unescape, hasBackslash}
-use Rattle.records.specs.Got.{Got, got}
-use Rattle.records.specs.Bytes.{part}
 use Rattle.records.specs.Tree.{Literal, Named}
-use Rattle.records.specs.Decode.{many, namedAt}
 use Rattle.resolution.specs.Effect.{Locals}
-use Rattle.scope.specs.declared.state.Scope.{Scope}
-use Rattle.scope.specs.Meets.{World, takes, TextIn, NamedIn, named-none, named-more, namedTexts, LocalsAt, no-locals, some-locals, LocalsStay, locals-same, locals-cleared}
+use Rattle.scope.specs.Relations.Meets.{World, takes, TextIn, NamedIn, named-none, named-more, LocalsAt, no-locals, some-locals}
 use Rattle.scope.proofs.Laws.{drop-more}
 
 -- the texts lie between `low` and `base`

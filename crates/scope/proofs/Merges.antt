@@ -7,27 +7,30 @@ use Prim.Native.Nat.{ℕ, _≤_, _<_}
 use native.Mathlib.Omega.{arith}
 use lib.Dec.{ltb}
 use borrow.Author.Tests.{ltb-true, ltb-false, le-leb, lt-leb}
-use Rattle.numbers.specs.Bytes.{sameBytes}
-use Rattle.numbers.specs.Decimal.{Options, Number, fractionLimit}
-use Rattle.numbers.specs.Literal.{isNumber, literal}
+use Rattle.decimals.specs.Bytes.{sameBytes}
+use Rattle.decimals.specs.Decimal.{Options, Number, fractionLimit}
+use Rattle.literals.specs.Literal.{isNumber, literal}
 use Rattle.numbers.specs.Value.{Value, textual, numeric, nothing, wrong, typeName, styleName, currencyName, currencyDisplayName, useGroupingName, minimumIntegerDigitsName, minimumFractionDigitsName, maximumFractionDigitsName, minimumSignificantDigitsName, maximumSignificantDigitsName, falseWord, withKind, withStyle, withCurrency, withCurrencyDisplay, withUseGrouping, withMinimumIntegerDigits, withMinimumFractionDigits, withMaximumFractionDigits, withMinimumSignificantDigits, withMaximumSignificantDigits, kindOf, styleOf, displayOf, toCount, pickOptions, mergeText, mergeCount, mergeOne, merge, tooLong}
-use Rattle.numbers.specs.Shown.{shownText, toldText, shownOptions, toldOptions, shown, told, literalOf, mergedOf}
-use Rattle.numbers.specs.declared.types.Kind.{Kind}
-use Rattle.numbers.specs.declared.types.Style.{Style}
-use Rattle.numbers.specs.declared.types.Display.{Display}
-use Rattle.numbers.specs.declared.types.Number as code-number
-use Rattle.numbers.specs.declared.types.Options as code-options
-use Rattle.numbers.specs.declared.types.Literal as code-literal
-use Rattle.numbers.specs.declared.types.Literal.the-variants as literals
-use Rattle.numbers.specs.declared.types.Merged as code-merged
-use Rattle.numbers.specs.declared.types.Merged.the-variants as merges
-use Rattle.numbers.proofs.Shown.{count-there, text-back}
+use Rattle.decimals.specs.Relations.Shown.{shownText, toldText, shownOptions, toldOptions, shown, told}
+use Rattle.literals.specs.Relations.Shown.{literalOf}
+use Rattle.numbers.specs.Relations.Shown.{mergedOf}
+use Rattle.decimals.specs.declared.types.Kind.{Kind}
+use Rattle.decimals.specs.declared.types.Style.{Style}
+use Rattle.decimals.specs.declared.types.Display.{Display}
+use Rattle.decimals.specs.declared.types.Number as code-number
+use Rattle.decimals.specs.declared.types.Options as code-options
+use Rattle.literals.specs.declared.literal.Literal as code-literal
+use Rattle.literals.specs.declared.literal.Literal.the-variants as literals
+use Rattle.numbers.specs.declared.merge.Merged as code-merged
+use Rattle.numbers.specs.declared.merge.Merged.the-variants as merges
+use Rattle.decimals.proofs.Shown.{count-there, text-back}
 use Rattle.resolution.specs.Effect.{merged, _>>_, emit}
 use Rattle.resolution.specs.Resolve.{noteIf, noteOne, noteMerges}
 use Rattle.resolution.specs.Exec.{Machine, Limits, ran, refused, exec, andThen, step, allow, allowIf}
-use Rattle.scope.specs.declared.state.Scope.{Scope}
-use Rattle.scope.specs.Meets.{World, world, ended, Runs, refuseS}
-use Rattle.scope.specs.Values.{mergedAll}
+use Rattle.state.specs.declared.Scope.{Scope}
+use Rattle.scope.specs.Relations.Meets.{World, world, ended, Runs}
+use Rattle.state.specs.Setters.{refuseS}
+use Rattle.scope.specs.Relations.Values.{mergedAll}
 use Rattle.scope.proofs.Laws.{kept-same, moved-none, runs-ret, runs-then}
 use Rattle.scope.proofs.Puts.{acts-refuse}
 use Rattle.scope.proofs.Steps.{runs-over, runs-as}

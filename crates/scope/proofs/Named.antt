@@ -8,29 +8,30 @@ use native.Mathlib.Omega.{arith}
 use lib.ListN.{length}
 use Rattle.numbers.specs.Number.{literal, isNumber}
 use Rattle.numbers.specs.Value.{Value, textual, numeric}
-use Rattle.numbers.specs.Shown.{shown}
-use Rattle.texts.specs.Unescape.{unescape, hasBackslash}
-use Rattle.texts.proofs.Reading.{unescape-plain}
+use Rattle.decimals.specs.Relations.Shown.{shown}
+use Rattle.unescape.specs.Unescape.{unescape, hasBackslash}
+use Rattle.unescape.proofs.Reading.{unescape-plain}
 use Rattle.records.specs.Got.{got, bad}
 use Rattle.records.specs.Bytes.{part, byteAt, spanAt}
-use Rattle.records.specs.Rules.{isString, isNumber as isNumber-r}
-use Rattle.records.specs.Names.{sameBytes}
+use Rattle.rules.specs.Rules.{isString, isNumber as isNumber-r}
+use Rattle.rules.specs.Same.{sameBytes}
 use Rattle.records.specs.Tree.{Literal, Named}
 use Rattle.records.specs.Decode.{many, namedAt, literalAt, stringAt, literalNumberAt}
 use Rattle.records.proofs.Laws.{span-in}
 use Rattle.records.proofs.Views.{both, never, ruled-elim, id-elim, literal-elim, named-elim, many-nil}
-use Rattle.bundle.specs.Lookup.{orElse, onlyNamed}
+use Rattle.entries.specs.Lookup.{orElse, onlyNamed}
 use Rattle.resolution.specs.Effect.{Bytes}
 use Rattle.resolution.specs.Resolve.{lastNamed}
-use Rattle.scope.specs.declared.state.Value as code-value
-use Rattle.scope.specs.declared.state.Value.the-variants as val
-use Rattle.scope.specs.declared.state.Local as code-local
-use Rattle.scope.specs.declared.state.Local.the-variants as loc
+use Rattle.state.specs.declared.Value as code-value
+use Rattle.state.specs.declared.Value.the-variants as val
+use Rattle.state.specs.declared.Local as code-local
+use Rattle.state.specs.declared.Local.the-variants as loc
 use Rattle.scope.specs.declared.value.NamedSpan.{NamedSpan}
 use Rattle.scope.specs.declared.value.NamedRead as code-named
 use Rattle.scope.specs.declared.value.NamedRead.the-variants as named
-use Rattle.scope.specs.Meets.{takes, literalText, namedTexts, TextIn, NamedIn, named-more, in-store, in-work, is-number, LocalIs, is-there, is-missing}
-use Rattle.scope.specs.Values.{LiteralIs, is-string, is-digits, NamedReads, TakenAt, LiteralAt}
+use Rattle.scope.specs.Relations.Meets.{takes, literalText, namedTexts, TextIn, NamedIn, named-more, in-store, in-work, is-number}
+use Rattle.scope.specs.Relations.Leaves.{LocalIs, is-there, is-missing}
+use Rattle.scope.specs.Relations.Values.{LiteralIs, is-string, is-digits, NamedReads, TakenAt, LiteralAt}
 use Rattle.scope.proofs.Locals.{named-low}
 use Rattle.scope.proofs.Variables.{or-none}
 use Rattle.scope.proofs.Literals.{number-rule, literal-ranged}

@@ -4,20 +4,20 @@ use mathlib.Core.List.{List, [], _∷_, _++_, append-assoc}
 use mathlib.Core.Bool.{Bool, true, false, not}
 use Prim.Native.Nat.{ℕ, zero, suc, _+_, _-_, _≤_, _<_, min, max}
 use native.Mathlib.Omega.{arith}
-use lib.ListN.{length, take, drop, getD, set, length-append, length-take, length-drop, length-set}
-use lib.Seq.{paste, take-paste, drop-paste, length-paste, take-length, take-take, length-take-le, take-append-le, take-suc-set, take-set-le, drop-append-le, take-add, drop-at}
-use lib.Dec.{ltb, leb}
+use lib.ListN.{length, take, drop, length-append, length-drop}
+use lib.Seq.{paste, take-paste, drop-paste, length-paste, take-length, length-take-le, drop-append-le, take-add, drop-at}
+use lib.Dec.{leb}
 use mathlib.Core.Logic.{⊎-elim, _⊎_, inl, inr}
-use borrow.Author.Tests.{le-leb, lt-leb, lt-ltb, le-ltb, ltb-true, ltb-false, leb-true, leb-false}
-use native.Mathlib.Numerals.{add-one}
-use Rattle.scope.specs.declared.state.Scope.{Scope}
+use borrow.Author.Tests.{le-leb, lt-leb, ltb-true, ltb-false, leb-true, leb-false}
+use Rattle.state.specs.declared.Scope.{Scope}
 use Rattle.records.specs.Bytes.{part, toBe}
 use Rattle.records.specs.Errors.{Error, encRecord, encError, encErrors}
 use Rattle.records.specs.Encode.{encAll, encWhole}
-use Rattle.resolution.specs.Effect.{Bytes, Effect, put, report, unfound, Trace, State, Out, M, Done, ret, _>>=_, _>>_, emit, write, isDirty, onlyIf}
-use Rattle.resolution.specs.Exec.{Machine, Limits, Ran, ran, refused, exec, andThen, step, allow, allowIf, listLimit, listed, putText, putWork, putAt}
-use Rattle.scope.specs.Meets.{World, world, Live, Moved, Ended, ended, stopped, Runs, Kept, Acts, trailOf, ifAside, Env, Here, refuseS, textS, frontS, listS, unfoundS, maxUnfound, LocalsAt, locals-same}
-use Rattle.scope.proofs.Laws.{kept-same, append-nil, aside-nil, drop-more, exec-append, acts-then, stay-same}
+use Rattle.resolution.specs.Effect.{Bytes, put, report, unfound, State, M, _>>=_, _>>_, emit, write}
+use Rattle.resolution.specs.Exec.{Machine, Limits, ran, refused, exec, andThen, step, allow, allowIf, listLimit, listed, putText, putWork, putAt}
+use Rattle.scope.specs.Relations.Meets.{World, world, Live, Ended, ended, stopped, Runs, Acts, ifAside, locals-same}
+use Rattle.state.specs.Setters.{refuseS, textS, frontS, listS, unfoundS, maxUnfound, upTo, countedS}
+use Rattle.scope.proofs.Laws.{kept-same, append-nil, aside-nil, drop-more, exec-append, acts-then}
 use Rattle.scope.proofs.Locals.{locals-stay, locals-alike}
 
 pub le-or-lt : (a b : ℕ) → (a ≤ b) ⊎ (b < a)
@@ -432,10 +432,7 @@ module _ (i x l w t : List ℕ) (st : Scope) where
         });
   }
 
--- a byte, and a list after it
-pub set-paste : (l : List ℕ) (at c : ℕ) (b : List ℕ) → at + suc (length b) ≤ length l → take (at + suc (length b)) (paste (set l at c) (at + 1) b (length b)) ≡ take at l ++ (c ∷ b)
-set-paste l at c b h =
-    let n : length (set l at c) ≡ length l = length-set l at c in
-    let e : at + suc (length b) ≡ at + 1 + length b = omega arith in
-    rw e (take-paste (set l at c) (at + 1) b (length b) (omega arith) (omega arith)
-    ∙ rw (add-one, take-suc-set l at c (omega arith), take-length b, append-assoc))
+-- so much does the count of the state
+pub counts : {st r : Scope} → r ≡ countedS st → (i x l w t : List ℕ) → Acts (emit unfound) (world i x l w t st) (world i x l w t r)
+unfolding countedS upTo
+counts {st} e i x l w t = subst (λ (q : Scope). Acts (emit unfound) (world i x l w t st) (world i x l w t q)) (sym e) (count-one i x l w t st (λ _. refl))

@@ -1,6 +1,6 @@
 -- References as they are read, and what stands in the place of one that is missing.
 use mathlib.Core.Path.{_≡_, ap, sym, subst, _∙_}
-use mathlib.Core.List.{List, [], _∷_, _++_, append-assoc}
+use mathlib.Core.List.{List, _∷_}
 use mathlib.Core.Bool.{Bool, true, false, _&&_}
 use mathlib.Core.Option.{Option, none, some}
 use Prim.Native.Nat.{ℕ, _-_, _≤_}
@@ -9,24 +9,25 @@ use lib.ListN.{length}
 use lib.Dec.{eqb}
 use borrow.Author.Tests.{leb-true}
 use Rattle.records.specs.Got.{got, bad}
-use Rattle.records.specs.Bytes.{part, byteAt, strAt, run}
-use Rattle.records.specs.Rules.{idStep, isId}
+use Rattle.records.specs.Bytes.{part, byteAt, strAt}
+use Rattle.rules.specs.Run.{run}
+use Rattle.rules.specs.Rules.{idStep, isId}
 use Rattle.records.specs.Tree.{Inline, Arguments}
 use Rattle.records.specs.Decode.{idAt, optionalAt, expression, inline}
 use Rattle.records.specs.Errors.{Referred, reference, Error}
 use Rattle.records.proofs.Local.{length-part, local-byte}
 use Rattle.records.proofs.Views.{both, never, id-elim, id-str, optional-elim, term-elim, Body, is-string, is-number, is-function, is-message, is-term, is-variable, is-nested, inline-elim}
-use Rattle.texts.specs.Report.{optionOf}
+use Rattle.texts.specs.Optional.{optionOf}
 use Rattle.resolution.specs.Effect.{Bytes, report, emit, write, _>>_}
 use Rattle.resolution.specs.Resolve.{dotted, braced, errorText, writeRefError}
-use Rattle.scope.specs.declared.state.Scope.{Scope}
-use Rattle.scope.specs.declared.state.Referring.{Referring}
-use Rattle.scope.specs.declared.state.Reference as code-reference
-use Rattle.scope.specs.declared.state.Reference.the-variants as ref
-use Rattle.scope.specs.Meets.{World, world, Runs, Kept, Acts, ErrorAt, RefErrorAt, ReferenceIs, reads, unread}
+use Rattle.state.specs.declared.Scope.{Scope}
+use Rattle.state.specs.declared.Referring.{Referring}
+use Rattle.state.specs.declared.Reference as code-reference
+use Rattle.state.specs.declared.Reference.the-variants as ref
+use Rattle.scope.specs.Relations.Meets.{world, Runs, Kept, Acts}
+use Rattle.scope.specs.Relations.Leaves.{ErrorAt, RefErrorAt, ReferenceIs, reads, unread}
 use Rattle.scope.proofs.Laws.{kept-same, kept-then, runs-then}
-use Rattle.scope.proofs.Puts.{acts-join}
-use Rattle.scope.proofs.Steps.{runs-as, acts-as}
+use Rattle.scope.proofs.Steps.{runs-as}
 
 -- an Id has at most 255 bytes
 and-right : (x : Bool) {y : Bool} → x && y ≡ true → y ≡ true
@@ -67,20 +68,6 @@ module _ (s : List ℕ) (at : ℕ) {b : List ℕ} {e : ℕ} (h : strAt s at ≡ 
           (λ hb on. both k′ hb (λ ef _. absurd (nz ef)))
           (λ i x hb hx ow. both k′ hb (λ _ eq. both (subst (λ (j : ℕ). strAt s j ≡ got m g) eq u) (id-str s i hx) (λ em eg.
           let sm = id-short s i hx in (sym eb, rw eb short, ow ∙ ap some (sym em), rw em sm, sym eg)))))
-
-    -- the name in braces
-    module _ {w v : World} (head : List ℕ) where
-      pub bare-text : flag ≡ 0 → Acts (write (head ++ (b ++ (125 ∷ [])))) w v → Acts (write (head ++ (dotted n a ++ (125 ∷ [])))) w v
-      unfolding dotted
-      bare-text z act = let y = bare-name z in acts-as (rw (y .2, y .0)) act
-
-      pub attribute-text : {u : World} {m : List ℕ} {g : ℕ} → (flag ≡ 0 → ⊥) → strAt s q ≡ got m g → Acts (write (head ++ (b ++ (46 ∷ [])))) w u → Acts (write (m ++ (125 ∷ []))) u v
-          → Acts (write (head ++ (dotted n a ++ (125 ∷ [])))) w v
-      unfolding dotted
-      attribute-text {m = m} nz hs one two =
-          let y = attribute-name nz hs in
-          let t : (head ++ (b ++ (46 ∷ []))) ++ (m ++ (125 ∷ [])) ≡ head ++ ((b ++ (46 ∷ m)) ++ (125 ∷ [])) = simp append-assoc in
-          acts-as (rw (y .2, y .0) (ap write (sym t))) (acts-join _ _ one two)
 
 -- what `read_reference` answers
 module _ (s : List ℕ) (at : ℕ) {r : code-reference.Reference} where

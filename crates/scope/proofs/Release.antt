@@ -1,19 +1,20 @@
 -- What an action left at the workspace's back is freed: the back goes where it was before.
-use mathlib.Core.Path.{_≡_, refl, ap, sym, subst, _∙_}
-use mathlib.Core.List.{List, [], _∷_, _++_}
-use mathlib.Core.Bool.{Bool, true, false, true≢false, false≢true}
-use mathlib.Core.Option.{Option, none, some}
-use Prim.Native.Nat.{ℕ, _+_, _-_, _≤_, _<_}
+use mathlib.Core.Path.{_≡_, ap, sym, subst, _∙_}
+use mathlib.Core.List.{[], _∷_}
+use mathlib.Core.Bool.{true≢false}
+use mathlib.Core.Option.{some}
+use Prim.Native.Nat.{ℕ, _-_}
 use native.Mathlib.Omega.{arith}
-use lib.ListN.{length, take, drop}
-use Rattle.records.specs.Got.{Got, got}
+use lib.ListN.{length, drop}
+use Rattle.records.specs.Got.{got}
 use Rattle.records.specs.Tree.{Named}
 use Rattle.records.specs.Decode.{many, namedAt}
 use Rattle.records.proofs.Views.{both}
-use Rattle.resolution.specs.Effect.{Effect, free, Locals, State, Out, M, ret, _>>=_, release}
-use Rattle.resolution.specs.Exec.{Machine, Limits, Ran, ran, refused, exec, andThen, step}
-use Rattle.scope.specs.declared.state.Scope.{Scope}
-use Rattle.scope.specs.Meets.{World, world, Live, Moved, Ended, ended, stopped, Runs, Kept, LocalsAt, no-locals, some-locals, LocalsStay, locals-same, locals-cleared, NamedIn, namedTexts, backS}
+use Rattle.resolution.specs.Effect.{free, Locals, State, Out, M, _>>=_, release}
+use Rattle.resolution.specs.Exec.{Machine, Limits, refused, exec, andThen, step}
+use Rattle.state.specs.declared.Scope.{Scope}
+use Rattle.scope.specs.Relations.Meets.{World, world, Live, Ended, ended, stopped, Runs, Kept, LocalsAt, no-locals, some-locals, LocalsStay, locals-same, locals-cleared, namedTexts}
+use Rattle.state.specs.Setters.{backS}
 use Rattle.scope.proofs.Laws.{exec-append, drop-more, kept-same, ended-then}
 use Rattle.scope.proofs.Locals.{named-stays}
 

@@ -7,27 +7,29 @@ use Prim.Native.Nat.{ℕ, _≤_}
 use native.Mathlib.Omega.{arith}
 use lib.Dec.{ltb, leb}
 use borrow.Author.Tests.{ltb-false, leb-true, le-leb}
-use Rattle.numbers.specs.Bytes.{sameBytes}
-use Rattle.numbers.specs.Decimal.{Options, Number, orZero, digitsLimit, scaleLimit, fractionLimit}
-use Rattle.numbers.specs.Text.{inRange}
+use Rattle.decimals.specs.Bytes.{sameBytes}
+use Rattle.decimals.specs.Decimal.{Options, Number, orZero, digitsLimit, scaleLimit, fractionLimit}
+use Rattle.decimals.specs.Text.{inRange}
 use Rattle.numbers.specs.Value.{Value, textual, numeric, nothing, wrong, typeName, styleName, currencyName, currencyDisplayName, useGroupingName, minimumIntegerDigitsName, minimumFractionDigitsName, maximumFractionDigitsName, minimumSignificantDigitsName, maximumSignificantDigitsName, falseWord, withKind, withStyle, withCurrency, withCurrencyDisplay, withUseGrouping, withMinimumIntegerDigits, withMinimumFractionDigits, withMaximumFractionDigits, withMinimumSignificantDigits, withMaximumSignificantDigits, kindOf, styleOf, displayOf, toCount, pickOptions, mergeText, mergeCount, mergeOne, merge, tooLong, withOptions, numberFunction}
-use Rattle.numbers.specs.Shown.{shownOptions, shown}
-use Rattle.numbers.specs.declared.types.Kind.{Kind}
-use Rattle.numbers.specs.declared.types.Style.{Style}
-use Rattle.numbers.specs.declared.types.Display.{Display}
-use Rattle.numbers.specs.declared.types.Number as code-number
-use Rattle.numbers.specs.declared.types.Options as code-options
-use Rattle.numbers.specs.declared.types.Merged.the-variants as merges
+use Rattle.decimals.specs.Relations.Shown.{shownOptions, shown}
+use Rattle.decimals.specs.declared.types.Kind.{Kind}
+use Rattle.decimals.specs.declared.types.Style.{Style}
+use Rattle.decimals.specs.declared.types.Display.{Display}
+use Rattle.decimals.specs.declared.types.Number as code-number
+use Rattle.decimals.specs.declared.types.Options as code-options
+use Rattle.numbers.specs.declared.merge.Merged.the-variants as merges
 use Rattle.records.specs.Got.{got}
 use Rattle.records.specs.Tree.{Named}
 use Rattle.records.specs.Decode.{many, namedAt}
 use Rattle.resolution.specs.Effect.{M, Done, ret, _>>_}
 use Rattle.resolution.specs.Resolve.{noteMerges, mergesOf}
-use Rattle.scope.specs.declared.state.Scope.{Scope}
-use Rattle.scope.specs.declared.state.Value as code-value
-use Rattle.scope.specs.declared.state.Value.the-variants as val
-use Rattle.scope.specs.Meets.{World, world, namedTexts, NamedIn, Runs, refuseS, is-number, is-wrong, FirstIs, first-none, first-number, first-other, NumberAt}
-use Rattle.scope.specs.Values.{mergedAll}
+use Rattle.state.specs.declared.Scope.{Scope}
+use Rattle.state.specs.declared.Value as code-value
+use Rattle.state.specs.declared.Value.the-variants as val
+use Rattle.scope.specs.Relations.Meets.{World, world, namedTexts, NamedIn, Runs, is-number, is-wrong}
+use Rattle.scope.specs.Relations.Leaves.{FirstIs, first-none, first-number, first-other, NumberAt}
+use Rattle.state.specs.Setters.{refuseS}
+use Rattle.scope.specs.Relations.Values.{mergedAll}
 use Rattle.scope.proofs.Laws.{kept-same, runs-ret, runs-then}
 use Rattle.scope.proofs.Steps.{runs-over, runs-as}
 use Rattle.scope.proofs.Merges.{notes-fine, notes-long}

@@ -2,6 +2,7 @@
 use mathlib.Core.Path.{_≡_, refl, ap, sym, subst, _∙_}
 use mathlib.Core.List.{List, [], _∷_, _++_}
 use mathlib.Core.Bool.{Bool, true, false, not}
+use mathlib.Core.Logic.{⊎-elim}
 use Prim.Native.Nat.{ℕ, suc, _+_, _-_, _≤_, _<_, max}
 use native.Mathlib.Omega.{arith}
 use lib.ListN.{length, take, drop}
@@ -9,11 +10,13 @@ use lib.Seq.{take-take}
 use borrow.Author.Tests.{le-leb, lt-leb}
 use Rattle.numbers.specs.Number.{literal}
 use Rattle.numbers.specs.Value.{Value, textual, numeric}
-use Rattle.texts.specs.Append.{over, appended}
-use Rattle.texts.specs.declared.Wrote.{Wrote}
-use Rattle.texts.specs.Unescape.{unescape, hasBackslash}
-use Rattle.texts.proofs.Reading.{unescape-plain}
-use Rattle.texts.proofs.Place.{appended-fits, length-over, drop-over, front-over, part-over}
+use Rattle.buffers.specs.Relations.Append.{over, appended}
+use Rattle.buffers.specs.declared.Wrote.{Wrote}
+use Rattle.unescape.specs.Unescape.{unescape, hasBackslash}
+use Rattle.unescape.proofs.Reading.{unescape-plain}
+use Rattle.buffers.proofs.Place.{appended-fits, length-over, drop-over, front-over, part-over}
+use Rattle.arguments.specs.Relations.Given.{between}
+use Rattle.arguments.proofs.Laws.{between-in, between-after, between-past}
 use Rattle.records.specs.Got.{got}
 use Rattle.records.specs.Bytes.{part}
 use Rattle.records.specs.Tree.{Literal, Named}
@@ -22,17 +25,19 @@ use Rattle.records.proofs.Views.{many-cons, many-nil}
 use Rattle.resolution.specs.Effect.{Bytes, put, open-text, keep-text, State, Out, M, ret, _>>=_, write, capture}
 use Rattle.resolution.specs.Resolve.{held, stringIf, stringValue, literalValue, namedValues}
 use Rattle.resolution.specs.Exec.{Machine, Limits, ran, refused, exec, andThen, step, allow, allowIf, putAt, putWork}
-use Rattle.scope.specs.declared.state.Scope.{Scope}
-use Rattle.scope.specs.declared.state.Value as code-value
-use Rattle.scope.specs.declared.state.Value.the-variants as val
+use Rattle.state.specs.declared.Scope.{Scope}
+use Rattle.state.specs.declared.Value as code-value
+use Rattle.state.specs.declared.Value.the-variants as val
 use Rattle.scope.specs.declared.value.NamedSpan.{NamedSpan}
 use Rattle.scope.specs.declared.value.NamedRead as code-named
 use Rattle.scope.specs.declared.value.NamedRead.the-variants as named
-use Rattle.scope.specs.Meets.{World, world, takesIf, takes, literalText, namedTexts, TextIn, NamedIn, named-none, named-more, Live, Moved, Ended, ended, stopped, Runs, Kept, locals-same, refuseS, in-store, in-work, StringAt, NamedAt}
-use Rattle.scope.specs.Values.{LiteralIs, is-string, is-digits, NamedReads, heldS}
+use Rattle.scope.specs.Relations.Meets.{World, world, takesIf, takes, literalText, namedTexts, TextIn, NamedIn, named-none, named-more, Live, Moved, Ended, ended, stopped, Runs, Kept, locals-same, in-store, in-work}
+use Rattle.scope.specs.Relations.Leaves.{StringAt, NamedAt}
+use Rattle.state.specs.Setters.{refuseS, heldS}
+use Rattle.scope.specs.Relations.Values.{LiteralIs, is-string, is-digits, NamedReads}
 use Rattle.scope.proofs.Laws.{kept-same, kept-then, append-nil, aside-nil, ended-then, runs-ret}
 use Rattle.scope.proofs.Locals.{locals-stay, named-high, text-stays}
-use Rattle.scope.proofs.Puts.{workM}
+use Rattle.scope.proofs.Puts.{le-or-lt, workM}
 use Rattle.scope.proofs.Steps.{runs-over, runs-as}
 
 -- an action, and one that its value decides
@@ -101,9 +106,6 @@ text-of w base t h x = sym (ap (λ (n : ℕ). part w (base - n) n) (takes-marked
 module _ (i : List ℕ) (a e : ℕ) (w : List ℕ) (st : Scope) where
   pub string-over : {c : code-value.Value} → (st .refused ≡ 0 → ⊥) → StringAt i a e w st w st c
   string-over h = record { kept = λ x l t. kept-same _; runs = λ _ _ x l t. runs-over _ _ h; size = refl; holds = λ _ _ args x l t L s k lv. absurd (h (lv .go)); text = λ _ _ x l t L s k lv. absurd (h (lv .go)) }
-
-  pub string-out : {c : code-value.Value} → (a ≤ e → e ≤ length i → ⊥) → StringAt i a e w st w st c
-  string-out h = record { kept = λ x l t. kept-same _; runs = λ p q. absurd (h p q); size = refl; holds = λ p q. absurd (h p q); text = λ p q. absurd (h p q) }
 
   pub string-here : hasBackslash (part i a (e - a)) ≡ false → StringAt i a e w st w st (val.Store a e)
   string-here h = record {
@@ -205,6 +207,42 @@ module _ (i : List ℕ) (a e : ℕ) (w : List ℕ) (st : Scope) where
             in-work (st .back - n) (st .back) refl (omega arith) (omega arith) (let o = len in omega arith) (ap textual (sym (ap (part w′ (st .back - n)) m ∙ there)));
         text = λ p q x l t L s k lv y. marked-text w′ (st .back) (part i a (e - a)) h (subst (λ (m : ℕ). part w′ (st .back - m) (length (unescape (part i a (e - a)))) ≡ unescape (part i a (e - a))) en there);
       })
+
+-- the same of a part of the store, if it is one: a text with a backslash is
+marked-part : (i : Bytes) {t : Bytes} (a e : ℕ) → t ≡ between i a e → hasBackslash t ≡ true → t ≡ part i a (e - a)
+unfolding hasBackslash
+marked-part i {t} a e h m = ⊎-elim
+    (λ (p : a ≤ e). ⊎-elim (λ (q : e ≤ length i). h ∙ between-in i a e p q) (λ (q : length i < e). none (h ∙ between-past i a e q)) (le-or-lt e (length i)))
+    (λ (p : e < a). none (h ∙ between-after i a e p))
+    (le-or-lt a e)
+  where
+    none : t ≡ [] → t ≡ part i a (e - a)
+    none z = let c : _≡_ {A = ℕ} 0 1 = (let y : false ≡ true = sym (ap hasBackslash z) ∙ m in cc) in absurd (omega arith)
+
+module _ (i : Bytes) {t : Bytes} (a e : ℕ) {w : List ℕ} {st : Scope} (et : t ≡ between i a e) where
+  pub string-stored : hasBackslash t ≡ false → StringAt i a e w st w st (val.Store a e)
+  string-stored h = record {
+    kept = λ x l y. kept-same _;
+    runs = λ p q. at p q .runs p q;
+    size = refl;
+    holds = λ p q. at p q .holds p q;
+    text = λ p q. at p q .text p q;
+  }
+    where
+      at : a ≤ e → e ≤ length i → StringAt i a e w st w st (val.Store a e)
+      at p q = string-here i a e w st (subst (λ (m : Bytes). hasBackslash m ≡ false) (et ∙ between-in i a e p q) h)
+
+  module _ (h : hasBackslash t ≡ true) (z : st .refused ≡ 0) where
+    pub string-refused : {c : code-value.Value} {r : Scope} → (st .front ≤ st .back → st .back ≤ length w → st .back < st .front + length (unescape t)) → r ≡ refuseS 16 st → StringAt i a e w st w r c
+    string-refused f g =
+        let q = marked-part i a e et h in
+        string-full i a e w st (subst (λ (m : Bytes). hasBackslash m ≡ true) q h) z (subst (λ (m : Bytes). st .front ≤ st .back → st .back ≤ length w → st .back < st .front + length (unescape m)) q f) g
+
+    pub string-held : {n hi : ℕ} {w′ : List ℕ} {r : Scope} → n ≡ length (unescape t) → st .front + n ≤ st .back → st .back ≤ length w → w′ ≡ over w (st .back - n) (unescape t)
+        → hi ≡ max (st .high) (st .front + (length w′ - (st .back - n))) → r ≡ heldS (st .back - n) hi st → StringAt i a e w st w′ r (val.Work (st .back - n) (st .back))
+    string-held {n} {w′ = w′} en f g ew eh er =
+        let q = marked-part i a e et h in
+        string-kept i a e w st (subst (λ (m : Bytes). hasBackslash m ≡ true) q h) z (subst (λ (m : Bytes). n ≡ length (unescape m)) q en) f g (subst (λ (m : Bytes). w′ ≡ over w (st .back - n) (unescape m)) q ew) eh er
 
 -- the first of named arguments that were read, and the rest
 module _ (s : List ℕ) (at : ℕ) {r : code-named.NamedRead} (read : NamedReads s at r) (n : ℕ) {ns : Named} {f : ℕ} (z : 0 < n) (all : many [] _∷_ n namedAt s at ≡ got ns f) where

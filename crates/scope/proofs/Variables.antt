@@ -9,33 +9,35 @@ use lib.ListN.{length, drop, length-take}
 use borrow.Author.Tests.{lt-ltb, le-leb}
 use Rattle.numbers.specs.Number.{Number, defaultOptions, inRange, orZero, digitsLimit, scaleLimit}
 use Rattle.numbers.specs.Value.{Value, textual, wrong, valueText}
-use Rattle.numbers.specs.Shown.{shownOptions}
-use Rattle.numbers.specs.declared.types.Options as code-options
+use Rattle.decimals.specs.Relations.Shown.{shownOptions}
+use Rattle.decimals.specs.declared.types.Options as code-options
 use Rattle.records.specs.Got.{got}
 use Rattle.records.specs.Bytes.{part}
-use Rattle.records.specs.Names.{sameBytes}
+use Rattle.rules.specs.Same.{sameBytes}
 use Rattle.records.specs.Tree.{Named}
 use Rattle.records.specs.Decode.{many, namedAt}
 use Rattle.records.specs.Images.{Argument, argumentAt, argumentsOf, argumentValueAt}
 use Rattle.records.specs.Errors.{Referred, reference}
 use Rattle.records.proofs.Views.{many-cons, many-nil}
-use Rattle.images.specs.Arguments.{instead, lastFrom, lastNamed as lastArgument, meant, Within}
-use Rattle.images.specs.declared.Given.{Given}
-use Rattle.images.specs.declared.Given.the-variants as given
-use Rattle.images.proofs.Laws.{between-in}
-use Rattle.images.proofs.Views.{argument-elim, argument-value-elim, argument-number-elim, arguments-image-elim}
-use Rattle.bundle.specs.Lookup.{orElse, onlyNamed}
+use Rattle.arguments.specs.Arguments.{instead, lastFrom, lastNamed as lastArgument}
+use Rattle.arguments.specs.Relations.Given.{meant, Within, between}
+use Rattle.arguments.specs.declared.Given.{Given}
+use Rattle.arguments.specs.declared.Given.the-variants as given
+use Rattle.arguments.proofs.Laws.{between-in}
+use Rattle.arguments.proofs.Views.{argument-elim, argument-value-elim, argument-number-elim, arguments-image-elim}
+use Rattle.entries.specs.Lookup.{orElse, onlyNamed}
 use Rattle.resolution.specs.Effect.{Bytes, report, Locals, State, Out, M, ret, _>>=_, _>>_, emit, write, getLocals}
 use Rattle.resolution.specs.Resolve.{lastNamed, foundOr, variableIn, getVariable, writeVariable, orWrong, braced}
 use Rattle.resolution.specs.Format.{valueOf, valuesOf}
 use Rattle.resolution.specs.Exec.{Machine, Limits}
-use Rattle.scope.specs.declared.state.Scope.{Scope}
-use Rattle.scope.specs.declared.state.Value as code-value
-use Rattle.scope.specs.declared.state.Value.the-variants as val
-use Rattle.scope.specs.declared.state.Local as code-local
-use Rattle.scope.specs.declared.state.Local.the-variants as loc
-use Rattle.scope.specs.Meets.{World, world, Live, namedTexts, NamedIn, LocalsAt, no-locals, some-locals, Ended, Runs, Kept, Acts, Holds, in-store, in-args, in-work, is-number, is-nothing, is-wrong, LocalIs, is-there, is-missing, variableOf, env, Setup, MissingAt, VariableAt, VariableValueAt}
-use Rattle.scope.specs.Values.{valueOfSome, Ranged}
+use Rattle.state.specs.declared.Scope.{Scope}
+use Rattle.state.specs.declared.Value as code-value
+use Rattle.state.specs.declared.Value.the-variants as val
+use Rattle.state.specs.declared.Local as code-local
+use Rattle.state.specs.declared.Local.the-variants as loc
+use Rattle.scope.specs.Relations.Meets.{World, world, Live, namedTexts, NamedIn, LocalsAt, no-locals, some-locals, Ended, Runs, Kept, Acts, Holds, in-store, in-args, in-work, is-number, is-nothing, is-wrong, env, Setup}
+use Rattle.scope.specs.Relations.Leaves.{LocalIs, is-there, is-missing, variableOf, MissingAt, VariableAt, VariableValueAt}
+use Rattle.scope.specs.Relations.Values.{valueOfSome, Ranged}
 use Rattle.scope.proofs.Laws.{kept-same, kept-then, ended-none, ended-then, runs-ret, runs-then}
 
 -- of equal names the last: by either definition
@@ -221,12 +223,6 @@ part-small s a n h = let q = length-take n (drop a s) in omega arith
 
 -- a variable written
 module _ (s args : List ℕ) (a b : ℕ) (x l w t : List ℕ) (st : Scope) where
-  pub write-out : (a ≤ b → b ≤ length s → ⊥) → VariableAt (env s args) a b (world s x l w t st) (world s x l w t st)
-  write-out h = record { kept = kept-same _; runs = λ u p q. absurd (h p q) }
-
-  pub resolve-out : {c : code-value.Value} → (a ≤ b → b ≤ length s → ⊥) → VariableValueAt (env s args) a b (world s x l w t st) (world s x l w t st) c
-  resolve-out h = record { kept = kept-same _; runs = λ u p q. absurd (h p q); holds = λ u p q. absurd (h p q) }
-
   module _ {r : code-local.Local} (fd : (u : Setup (env s args)) (L : Limits) (q : State) (k : Machine) → Live L (world s x l w t st) q k → LocalIs s args w (st .back) r (variableOf (valuesOf (u .given)) (part s a (b - a)) (q .locals))) where
     found-there : {C : Type 0} {c : code-value.Value} → r ≡ loc.Is c → {o : Option Value} → LocalIs s args w (st .back) r o → ((v : Value) → o ≡ some v → Holds s args w (st .back) c v → C) → C
     found-there {c = c} e (is-there c′ v p q h) k = let y : c′ ≡ c = same (sym p ∙ e) in k v q (subst (λ (z : code-value.Value). Holds s args w (st .back) z v) y h)
@@ -239,33 +235,61 @@ module _ (s args : List ℕ) (a b : ℕ) (x l w t : List ℕ) (st : Scope) where
     found-none e (is-there c′ v p q h) = let z : _≡_ {A = ℕ} 0 1 = cc in absurd (omega arith)
     found-none e (is-missing p q) = q
 
-    pub write-found : {c : code-value.Value} {v : World} → r ≡ loc.Is c → Kept (world s x l w t st) v → ((y : Value) → Holds s args w (st .back) c y → Acts (write (valueText y)) (world s x l w t st) v) → VariableAt (env s args) a b (world s x l w t st) v
+    write-found-part : {c : code-value.Value} {v : World} → r ≡ loc.Is c → Kept (world s x l w t st) v → ((y : Value) → Holds s args w (st .back) c y → Acts (write (valueText y)) (world s x l w t st) v) → VariableAt (env s args) a b (world s x l w t st) v
     unfolding writeVariable
-    write-found e kp h = record {
+    write-found-part e kp h = record {
       kept = kp;
       runs = λ u p q n z L m k lv. found-there e (fd u L m k lv) (λ y ey hy. run-found (valuesOf (u .given)) (part s a (b - a)) (λ o. writeVariable (part s a (b - a)) o) kp (h y hy .runs) L m k lv ey);
     }
 
-    pub resolve-found : {c : code-value.Value} → r ≡ loc.Is c → VariableValueAt (env s args) a b (world s x l w t st) (world s x l w t st) c
+    resolve-found-part : {c : code-value.Value} → r ≡ loc.Is c → VariableValueAt (env s args) a b (world s x l w t st) (world s x l w t st) c
     unfolding orWrong ret
-    resolve-found {c} e = record {
+    resolve-found-part {c} e = record {
       kept = kept-same _;
       runs = λ u p q n z L m k lv. found-there e (fd u L m k lv) (λ y ey hy. run-found (valuesOf (u .given)) (part s a (b - a)) (λ o. orWrong o) (kept-same _) (runs-ret y _) L m k lv ey);
       holds = λ u p q n z L m k lv _. found-there e (fd u L m k lv) (λ y ey hy. subst (λ (o : Value). Holds s args w (st .back) c o) (sym (value-found (valuesOf (u .given)) (part s a (b - a)) (λ o. orWrong o) m ey)) hy);
     }
 
     module _ {l′ : List ℕ} {s₁ : Scope} (e : r ≡ loc.Missing) (ms : MissingAt l st (part s a (b - a)) l′ s₁) where
-      pub write-missing : {v : World} → Acts (write (123 ∷ 36 ∷ part s a (b - a) ++ (125 ∷ []))) (world s x l′ w t s₁) v → VariableAt (env s args) a b (world s x l w t st) v
+      write-missing-part : {v : World} → Acts (write (123 ∷ 36 ∷ part s a (b - a) ++ (125 ∷ []))) (world s x l′ w t s₁) v → VariableAt (env s args) a b (world s x l w t st) v
       unfolding writeVariable braced
-      write-missing h = record {
+      write-missing-part h = record {
         kept = kept-then (ms .kept s x w t) (h .kept);
         runs = λ u p q n z L m k lv. run-missing (valuesOf (u .given)) (part s a (b - a)) (λ o. writeVariable (part s a (b - a)) o) s x l w t st ms (h .kept) (part-small s a (b - a) n) (h .runs) L m k lv (found-none e (fd u L m k lv));
       }
 
-      pub resolve-missing : VariableValueAt (env s args) a b (world s x l w t st) (world s x l′ w t s₁) val.Wrong
+      resolve-missing-part : VariableValueAt (env s args) a b (world s x l w t st) (world s x l′ w t s₁) val.Wrong
       unfolding orWrong ret
-      resolve-missing = record {
+      resolve-missing-part = record {
         kept = ms .kept s x w t;
         runs = λ u p q n z L m k lv. run-missing (valuesOf (u .given)) (part s a (b - a)) (λ o. orWrong o) s x l w t st ms (kept-same _) (part-small s a (b - a) n) (runs-ret wrong _) L m k lv (found-none e (fd u L m k lv));
         holds = λ u p q n z L m k lv _. is-wrong refl (value-missing (valuesOf (u .given)) (part s a (b - a)) (λ o. orWrong o) m (found-none e (fd u L m k lv)));
+      }
+
+  -- a variable whose name is a part of the store, if it is one
+  module _ {n : Bytes} (en : n ≡ between s a b) {r : code-local.Local} (fd : (u : Setup (env s args)) (L : Limits) (q : State) (k : Machine) → Live L (world s x l w t st) q k → LocalIs s args w (st .back) r (variableOf (valuesOf (u .given)) n (q .locals))) where
+    fd-at : a ≤ b → b ≤ length s → (u : Setup (env s args)) (L : Limits) (q : State) (k : Machine) → Live L (world s x l w t st) q k → LocalIs s args w (st .back) r (variableOf (valuesOf (u .given)) (part s a (b - a)) (q .locals))
+    fd-at p q u L j k lv = subst (λ (m : Bytes). LocalIs s args w (st .back) r (variableOf (valuesOf (u .given)) m (j .locals))) (en ∙ between-in s a b p q) (fd u L j k lv)
+
+    pub write-found : {c : code-value.Value} {v : World} → r ≡ loc.Is c → Kept (world s x l w t st) v → ((y : Value) → Holds s args w (st .back) c y → Acts (write (valueText y)) (world s x l w t st) v) → VariableAt (env s args) a b (world s x l w t st) v
+    write-found e kp h = record { kept = kp; runs = λ u p q. write-found-part (fd-at p q) e kp h .runs u p q }
+
+    pub resolve-found : {c : code-value.Value} → r ≡ loc.Is c → VariableValueAt (env s args) a b (world s x l w t st) (world s x l w t st) c
+    resolve-found e = record { kept = kept-same _; runs = λ u p q. resolve-found-part (fd-at p q) e .runs u p q; holds = λ u p q. resolve-found-part (fd-at p q) e .holds u p q }
+
+    module _ {l′ : List ℕ} {s₁ : Scope} (e : r ≡ loc.Missing) (ms : MissingAt l st n l′ s₁) where
+      ms-at : a ≤ b → b ≤ length s → MissingAt l st (part s a (b - a)) l′ s₁
+      ms-at p q = subst (λ (m : Bytes). MissingAt l st m l′ s₁) (en ∙ between-in s a b p q) ms
+
+      pub write-missing : {v : World} → Acts (write (123 ∷ 36 ∷ n ++ (125 ∷ []))) (world s x l′ w t s₁) v → VariableAt (env s args) a b (world s x l w t st) v
+      write-missing {v} h = record {
+        kept = kept-then (ms .kept s x w t) (h .kept);
+        runs = λ u p q. write-missing-part (fd-at p q) e (ms-at p q) (subst (λ (m : Bytes). Acts (write (123 ∷ 36 ∷ m ++ (125 ∷ []))) (world s x l′ w t s₁) v) (en ∙ between-in s a b p q) h) .runs u p q;
+      }
+
+      pub resolve-missing : VariableValueAt (env s args) a b (world s x l w t st) (world s x l′ w t s₁) val.Wrong
+      resolve-missing = record {
+        kept = ms .kept s x w t;
+        runs = λ u p q. resolve-missing-part (fd-at p q) e (ms-at p q) .runs u p q;
+        holds = λ u p q. resolve-missing-part (fd-at p q) e (ms-at p q) .holds u p q;
       }

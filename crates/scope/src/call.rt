@@ -5,29 +5,31 @@ ghost use mathlib.Core.Bool.{true, false};
 ghost use mathlib.Core.Option.{Option, some, none};
 ghost use Prim.Native.Nat.{ℕ, _+_, _-_, _≤_};
 ghost use lib.ListN.{length};
-ghost use Rattle.numbers.specs.Decimal as numbers-options;
-ghost use Rattle.numbers.specs.Shown.{shownOptions};
+ghost use Rattle.decimals.specs.Decimal as numbers-options;
+ghost use Rattle.decimals.specs.Relations.Shown.{shownOptions};
 ghost use Rattle.records.specs.Got.{got};
 ghost use Rattle.records.specs.Tree.{Named};
 ghost use Rattle.records.specs.Decode.{many, namedAt};
-ghost use Rattle.scope.specs.Meets.{NamedIn, namedTexts, NumberAt};
-ghost use Rattle.scope.specs.Values.{MergedAt, mergedAll};
-use crate::state::Resolved;
-use crate::state::Scope;
-use crate::state::Value;
-use crate::state::refuse;
+ghost use Rattle.scope.specs.Relations.Meets.{NamedIn, namedTexts};
+ghost use Rattle.scope.specs.Relations.Leaves.{NumberAt};
+ghost use Rattle.scope.specs.Relations.Values.{MergedAt, mergedAll};
 use crate::value::NamedRead;
 use crate::value::read_named;
 use crate::value::taken;
-use numbers::literal::read_literal;
+use arguments::text_of;
+use decimals::types::Number;
+use decimals::types::Options;
+use literals::literal::Literal;
+use literals::literal::read_literal;
+use numbers::merge::Merged;
 use numbers::merge::merge_number;
 use numbers::merge::merge_text;
-use numbers::types::Literal;
-use numbers::types::Merged;
-use numbers::types::Number;
-use numbers::types::Options;
-use texts::has_backslash;
-use texts::unescaped_len;
+use state::Resolved;
+use state::Scope;
+use state::Value;
+use state::refuse;
+use unescape::has_backslash;
+use unescape::unescaped_len;
 
 // Merges one option, whose text, if it is in the workspace, ends at `base`.
 pub fn merge_one(
@@ -43,35 +45,22 @@ pub fn merge_one(
 ) -> Merged
     ensures { λ r. ⌜ MergedAt (now (s .entry)) (now (work .entry)) from to tag a e base o r ⌝ }
 {
-    if to < from {
-        return Merged::Is(o);
-    }
-    if s.len() < to {
-        return Merged::Is(o);
-    }
-    if e < a {
-        return Merged::Is(o);
-    }
-    if s.len() < e {
-        return Merged::Is(o);
-    }
+    let name = text_of(s, from, to);
+    let src = text_of(s, a, e);
     if tag == 2 {
-        let Literal::Is(n) = read_literal(&s[a..e]) else {
+        let Literal::Is(n) = read_literal(src) else {
             return Merged::Is(o);
         };
-        return merge_number(&s[from..to], n, o);
+        return merge_number(name, n, o);
     }
-    if !has_backslash(&s[a..e]) {
-        return Merged::Is(merge_text(&s[from..to], &s[a..e], o));
+    if !has_backslash(src) {
+        return Merged::Is(merge_text(name, src, o));
     }
-    let n = unescaped_len(&s[a..e]);
+    let n = unescaped_len(src);
     if base < n {
         return Merged::Is(o);
     }
-    if work.len() < base {
-        return Merged::Is(o);
-    }
-    Merged::Is(merge_text(&s[from..to], &work[base - n..base], o))
+    Merged::Is(merge_text(name, text_of(work, base - n, base), o))
 }
 
 // Merges the named arguments at `at`, whose texts end at `base` in the workspace.
@@ -146,23 +135,7 @@ pub fn number_function(
                 },
             }
         }
-        Value::Store(_, _) => Resolved {
-            st: st,
-            value: Value::Wrong,
-        },
-        Value::Args(_, _) => Resolved {
-            st: st,
-            value: Value::Wrong,
-        },
-        Value::Work(_, _) => Resolved {
-            st: st,
-            value: Value::Wrong,
-        },
-        Value::Nothing => Resolved {
-            st: st,
-            value: Value::Wrong,
-        },
-        Value::Wrong => Resolved {
+        _ => Resolved {
             st: st,
             value: Value::Wrong,
         },

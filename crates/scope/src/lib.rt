@@ -1,8 +1,8 @@
-// The state of a formatting, and what the writers do with it one step at a time: put text, list an error, find a value, choose a variant, call NUMBER.
+// What the writers of a formatting do one step at a time: put text, list an error, find a value, choose a variant, call NUMBER.
 pub mod call;
+pub mod error;
 pub mod put;
 pub mod reference;
 pub mod select;
-pub mod state;
 pub mod value;
 pub mod variable;

@@ -2,41 +2,42 @@
 ghost use mathlib.Core.Path.{_≡_};
 ghost use mathlib.Core.List.{List, [], _∷_, _++_};
 ghost use mathlib.Core.Bool.{true, false};
-ghost use mathlib.Core.Option.{Option};
-ghost use Prim.Native.Nat.{ℕ, _+_, _-_, _≤_, max};
+ghost use Prim.Native.Nat.{ℕ, _+_, _-_, _≤_, _<_, max};
 ghost use lib.ListN.{length};
 ghost use lib.Seq.{paste};
 ghost use Rattle.numbers.specs.Number as num;
 ghost use Rattle.numbers.specs.Number.{inRange};
 ghost use Rattle.numbers.specs.Value.{numeric, valueText};
-ghost use Rattle.numbers.specs.Shown.{shown};
-ghost use Rattle.records.specs.Got.{got};
+ghost use Rattle.decimals.specs.Relations.Shown.{shown};
 ghost use Rattle.records.specs.Bytes.{part};
-ghost use Rattle.records.specs.Decode.{idAt, optionalAt};
 ghost use Rattle.records.specs.Errors.{noValue, reference};
-ghost use Rattle.texts.specs.Unescape.{unescape};
-ghost use Rattle.texts.specs.Report.{plainOf, referredOf, optionOf};
+ghost use Rattle.unescape.specs.Unescape.{unescape};
+ghost use Rattle.texts.specs.Optional.{optionOf};
+ghost use Rattle.texts.specs.Relations.Report.{plainOf, referredOf};
 ghost use Rattle.resolution.specs.Effect.{report, emit, write};
-ghost use Rattle.resolution.specs.Resolve.{dotted, mark, fsi, pdi};
-ghost use Rattle.scope.specs.Meets.{world, Acts, Kept, Holds, ErrorAt, CutAt, frontS, listedS};
-use crate::state::Scope;
-use crate::state::Value;
-use crate::state::refuse;
-use images::text_of;
-use numbers::text::number_text;
-use numbers::types::Number;
+ghost use Rattle.resolution.specs.Resolve.{mark, fsi, pdi};
+ghost use Rattle.scope.specs.Relations.Meets.{world, Acts, Kept, Holds, listedS, storedText};
+ghost use Rattle.scope.specs.Relations.Leaves.{ErrorAt, CutAt, piecesText};
+ghost use Rattle.state.specs.Setters.{frontS};
+use crate::error::Pieces;
+use crate::error::error_pieces;
+use arguments::text_of;
+use buffers::Wrote;
+use decimals::text::number_text;
+use decimals::types::Number;
 use records::Num;
 use records::read_byte;
-use records::read_str;
 use records::write_bytes;
+use state::Scope;
+use state::Value;
+use state::refuse;
 use texts::Plain;
 use texts::Referred;
-use texts::Wrote;
 use texts::put_no_value;
 use texts::put_plain;
 use texts::put_reference;
-use texts::unescape_into;
-use texts::unescaped_len;
+use unescape::unescape_into;
+use unescape::unescaped_len;
 
 // Writes src: to the workspace's front while a text is made aside, else to the text buffer.
 pub fn put(text: &mut [u8], work: &mut [u8], st: Scope, src: &[u8]) -> Scope
@@ -46,21 +47,26 @@ pub fn put(text: &mut [u8], work: &mut [u8], st: Scope, src: &[u8]) -> Scope
         return st;
     }
     if st.aside {
-        let at = st.front;
-        let end = st.back;
-        if end < at {
+        if !has_room(st, src.len(), work.len()) {
             return refuse(st, 16);
         }
-        if work.len() < end {
-            return refuse(st, 16);
-        }
-        if end - at < src.len() {
-            return refuse(st, 16);
-        }
-        write_bytes(work, at, src);
+        write_bytes(work, st.front, src);
         return grown(st, src.len(), work.len());
     }
     put_text(text, st, src)
+}
+
+// Whether n bytes more have room in the workspace, of `len` in all, between its front and its back.
+pub fn has_room(st: Scope, n: usize, len: usize) -> bool
+    ensures { λ r. ⌜ (r ≡ true → (st .front ≤ st .back) × (st .back ≤ len) × (st .front + n ≤ st .back)) × (r ≡ false → st .front ≤ st .back → st .back ≤ len → st .back < st .front + n) ⌝ }
+{
+    if st.back < st.front {
+        return false;
+    }
+    if len < st.back {
+        return false;
+    }
+    n <= st.back - st.front
 }
 
 // The workspace's front has n bytes more, of `len` in all.
@@ -85,18 +91,10 @@ pub fn put_literal(text: &mut [u8], work: &mut [u8], mut st: Scope, src: &[u8]) 
     }
     let n = unescaped_len(src);
     if st.aside {
-        let at = st.front;
-        let end = st.back;
-        if end < at {
+        if !has_room(st, n, work.len()) {
             return refuse(st, 16);
         }
-        if work.len() < end {
-            return refuse(st, 16);
-        }
-        if end - at < n {
-            return refuse(st, 16);
-        }
-        unescape_into(src, work, at);
+        unescape_into(src, work, st.front);
         return grown(st, n, work.len());
     }
     let Wrote::At(e) = unescape_into(src, text, st.text_at) else {
@@ -186,14 +184,22 @@ pub fn put_value(
     ensures { λ r. ⌜ ((l t : List ℕ) → Kept (world (now (store .entry)) (now (text .entry)) l (now (work .entry)) t st) (world (now (store .entry)) (now (text .exit)) l (now (work .exit)) t r)) × ((v : Rattle.numbers.specs.Value.Value) → Holds (now (store .entry)) (now (args .entry)) (now (work .entry)) (st .back) value v → (l t : List ℕ) → Acts (write (valueText v)) (world (now (store .entry)) (now (text .entry)) l (now (work .entry)) t st) (world (now (store .entry)) (now (text .exit)) l (now (work .exit)) t r)) ⌝ }
 {
     match value {
-        Value::Store(a, e) => put(text, work, st, text_of(store, a, e)),
         Value::Args(a, e) => put(text, work, st, text_of(args, a, e)),
         Value::Work(a, e) => put_work(text, work, st, a, e),
         Value::Number(n) => put_number(text, work, st, n),
-        // an empty write, which the definition counts to the highest use of the workspace as any other
-        Value::Nothing => put(text, work, st, b""),
-        Value::Wrong => put(text, work, st, b""),
+        // of a value without a text an empty write, which the definition counts to the highest use of the workspace as any other
+        _ => put(text, work, st, stored_text(store, value)),
     }
+}
+
+// A value's text in the store; empty where it has none there.
+fn stored_text<'a>(store: &'a [u8], value: Value) -> &'a [u8]
+    ensures { λ r. ⌜ now r ≡ storedText (now (store .entry)) value ⌝ }
+{
+    if let Value::Store(a, e) = value {
+        return text_of(store, a, e);
+    }
+    &store[0..0]
 }
 
 // One record more on the list, or refused.
@@ -265,56 +271,31 @@ pub fn put_braced(
     put(text, work, s2, tail)
 }
 
-// A message's or a term's name in braces: its Id, and its attribute if it has one.
-pub fn put_dotted(
+// The words and the parts of the store that stand in the place of an expression, and what closes.
+fn put_pieces(
     store: &[u8],
+    words: &[u8],
     text: &mut [u8],
     work: &mut [u8],
     st: Scope,
-    head: &[u8],
-    at: usize,
+    p: Pieces,
 ) -> Scope
-    ensures { λ r. ⌜ ((l t : List ℕ) → Kept (world (now (store .entry)) (now (text .entry)) l (now (work .entry)) t st) (world (now (store .entry)) (now (text .exit)) l (now (work .exit)) t r)) × ((n : List ℕ) (p : ℕ) (a : Option (List ℕ)) (f : ℕ) → idAt (now (store .entry)) at ≡ got n p → optionalAt idAt (now (store .entry)) p ≡ got a f → (l t : List ℕ) → Acts (write (now (head .entry) ++ (dotted n a ++ (125 ∷ [])))) (world (now (store .entry)) (now (text .entry)) l (now (work .entry)) t st) (world (now (store .entry)) (now (text .exit)) l (now (work .exit)) t r)) ⌝ }
+    ensures { λ r. ⌜ ((i l t : List ℕ) → Acts (write (piecesText (now (words .entry)) (now (store .entry)) p)) (world i (now (text .entry)) l (now (work .entry)) t st) (world i (now (text .exit)) l (now (work .exit)) t r)) ⌝ }
 {
-    let Num::At(a, e) = read_str(store, at) else {
-        return st;
-    };
-    let Num::At(flag, p) = read_byte(store, e) else {
-        return st;
-    };
-    if flag == 0 {
-        return put_braced(text, work, st, head, &store[a..e], b"}");
-    }
-    let Num::At(b, f) = read_str(store, p) else {
-        return st;
-    };
-    let s1 = put_braced(text, work, st, head, &store[a..e], b".");
-    put_braced(text, work, s1, &store[b..f], b"}", b"")
+    let head = text_of(words, p.head, p.head_end);
+    let id = text_of(store, p.from, p.to);
+    let joint = text_of(words, p.joint, p.joint_end);
+    let attribute = text_of(store, p.start, p.end);
+    let s1 = put_braced(text, work, st, head, id, joint);
+    put_braced(text, work, s1, attribute, b"}", b"")
 }
 
 // `write_error` in braces: what stands in the place of an inline expression that has an error.
 pub fn put_error(store: &[u8], text: &mut [u8], work: &mut [u8], st: Scope, at: usize) -> Scope
     ensures { λ r. ⌜ ErrorAt (now (store .entry)) at (now (text .entry)) (now (work .entry)) st (now (text .exit)) (now (work .exit)) r ⌝ }
 {
-    let Num::At(tag, p) = read_byte(store, at) else {
-        return st;
-    };
-    if tag == 4 {
-        return put_dotted(store, text, work, st, b"{", p);
-    }
-    if tag == 5 {
-        return put_dotted(store, text, work, st, b"{-", p);
-    }
-    let Num::At(a, e) = read_str(store, p) else {
-        return put_braced(text, work, st, b"{", b"???", b"}");
-    };
-    if tag == 3 {
-        return put_braced(text, work, st, b"{", &store[a..e], b"()}");
-    }
-    if tag == 6 {
-        return put_braced(text, work, st, b"{$", &store[a..e], b"}");
-    }
-    put_braced(text, work, st, b"{", b"???", b"}")
+    let p = error_pieces(store, at);
+    put_pieces(store, b"{???{-{$.()", text, work, st, p)
 }
 
 // The end of `maybe_track`: where the expression was cut short, its error.

@@ -5,17 +5,18 @@ ghost use mathlib.Core.Bool.{true, false};
 ghost use mathlib.Core.Option.{Option, some, none};
 ghost use Prim.Native.Nat.{ℕ, _+_, _-_, _≤_, _<_};
 ghost use lib.ListN.{length};
-ghost use Rattle.texts.specs.Report.{referredOf};
-ghost use Rattle.scope.specs.Meets.{ReferenceIs, RefErrorAt, TooMany, begunS};
+ghost use Rattle.texts.specs.Relations.Report.{referredOf};
+ghost use Rattle.scope.specs.Relations.Leaves.{ReferenceIs, RefErrorAt, TooMany};
+ghost use Rattle.state.specs.Setters.{begunS};
 use crate::put::list_plain;
 use crate::put::list_reference;
 use crate::put::put_error;
-use crate::state::Reference;
-use crate::state::Referring;
-use crate::state::Scope;
 use reader::read_marked;
 use records::Num;
 use records::read_byte;
+use state::Reference;
+use state::Referring;
+use state::Scope;
 use texts::Plain;
 use texts::Referred;
 
@@ -78,15 +79,6 @@ pub fn ref_error(
     let end = r.end;
     let s1 = list_reference(list, st, kind, &store[from..to], r.has, &store[start..end]);
     put_error(store, text, work, s1, at)
-}
-
-// A placeable more is begun.
-pub fn begin(mut st: Scope) -> Scope
-    requires { ⌜ st .begun < 100 ⌝ }
-    ensures { λ r. ⌜ r ≡ begunS (st .begun + 1) (st .dirty) st ⌝ }
-{
-    st.begun = st.begun + 1;
-    st
 }
 
 // The 101st is not expanded: nothing more is written.

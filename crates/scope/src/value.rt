@@ -6,7 +6,7 @@ ghost use mathlib.Core.Option.{Option, some, none};
 ghost use Prim.Native.Nat.{ℕ, _+_, _-_, _≤_, max};
 ghost use lib.ListN.{length};
 ghost use Rattle.numbers.specs.Number.{isNumber, literal};
-ghost use Rattle.numbers.specs.Shown.{shown};
+ghost use Rattle.decimals.specs.Relations.Shown.{shown};
 ghost use Rattle.records.specs.Got.{got};
 ghost use Rattle.records.specs.Bytes.{part};
 ghost use Rattle.records.specs.Tree.{Named};
@@ -15,29 +15,33 @@ ghost use Rattle.resolution.specs.Effect.{State};
 ghost use Rattle.resolution.specs.Resolve.{lastNamed};
 ghost use Rattle.resolution.specs.Exec.{Limits, Machine};
 ghost use Rattle.resolution.specs.Format.{valuesOf};
-ghost use Rattle.scope.specs.declared.state.Value.the-variants as val;
-ghost use Rattle.scope.specs.Meets.{world, env, Setup, Live, NamedIn, namedTexts, LocalIs, variableOf, StringAt, NamedAt, MissingAt};
-ghost use Rattle.images.specs.Arguments.{Within, meant};
-ghost use Rattle.scope.specs.Values.{TakenAt, LiteralAt, NamedReads, Ranged, valueOfSome, heldS};
+ghost use Rattle.state.specs.declared.Value.the-variants as val;
+ghost use Rattle.scope.specs.Relations.Meets.{world, env, Setup, Live, NamedIn, namedTexts};
+ghost use Rattle.scope.specs.Relations.Leaves.{LocalIs, variableOf, StringAt, NamedAt, MissingAt};
+ghost use Rattle.arguments.specs.Relations.Given.{Within, meant};
+ghost use Rattle.scope.specs.Relations.Values.{TakenAt, LiteralAt, NamedReads, Ranged, valueOfSome};
+ghost use Rattle.state.specs.Setters.{heldS};
+use crate::put::has_room;
 use crate::put::list_reference;
-use crate::state::Local;
-use crate::state::Resolved;
-use crate::state::Scope;
-use crate::state::Value;
-use crate::state::refuse;
-use images::Given;
-use images::find_argument;
-use numbers::literal::read_literal;
-use numbers::types::Literal;
-use numbers::types::Number;
-use numbers::types::default_options;
+use arguments::Given;
+use arguments::find_argument;
+use arguments::text_of;
+use decimals::types::Number;
+use decimals::types::default_options;
+use literals::literal::Literal;
+use literals::literal::read_literal;
 use reader::read_marked;
 use records::Num;
-use records::same_bytes;
+use rules::same_bytes;
+use state::Local;
+use state::Resolved;
+use state::Scope;
+use state::Value;
+use state::refuse;
 use texts::Referred;
-use texts::has_backslash;
-use texts::unescape_into;
-use texts::unescaped_len;
+use unescape::has_backslash;
+use unescape::unescape_into;
+use unescape::unescaped_len;
 
 // A named argument, by positions in the store: its name, and its literal's tag and bytes.
 pub struct NamedSpan {
@@ -105,46 +109,22 @@ pub fn literal_string(s: &[u8], work: &mut [u8], st: Scope, a: usize, e: usize) 
             value: Value::Wrong,
         };
     }
-    if e < a {
-        return Resolved {
-            st: st,
-            value: Value::Wrong,
-        };
-    }
-    if s.len() < e {
-        return Resolved {
-            st: st,
-            value: Value::Wrong,
-        };
-    }
-    if !has_backslash(&s[a..e]) {
+    let src = text_of(s, a, e);
+    if !has_backslash(src) {
         return Resolved {
             st: st,
             value: Value::Store(a, e),
         };
     }
-    let n = unescaped_len(&s[a..e]);
-    let front = st.front;
+    let n = unescaped_len(src);
+    if !has_room(st, n, work.len()) {
+        return Resolved {
+            st: refuse(st, 16),
+            value: Value::Wrong,
+        };
+    }
     let back = st.back;
-    if back < front {
-        return Resolved {
-            st: refuse(st, 16),
-            value: Value::Wrong,
-        };
-    }
-    if work.len() < back {
-        return Resolved {
-            st: refuse(st, 16),
-            value: Value::Wrong,
-        };
-    }
-    if back - front < n {
-        return Resolved {
-            st: refuse(st, 16),
-            value: Value::Wrong,
-        };
-    }
-    unescape_into(&s[a..e], work, back - n);
+    unescape_into(src, work, back - n);
     let s1 = kept(st, n, work.len());
     Resolved {
         st: s1,

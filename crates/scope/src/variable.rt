@@ -5,18 +5,20 @@ ghost use mathlib.Core.Bool.{true, false};
 ghost use mathlib.Core.Option.{Option, some, none};
 ghost use Prim.Native.Nat.{ℕ, _+_, _-_, _≤_};
 ghost use lib.ListN.{length};
-ghost use Rattle.scope.specs.declared.state.Value.the-variants as val;
-ghost use Rattle.scope.specs.Meets.{world, env, VariableAt, VariableValueAt, ResultAt};
+ghost use Rattle.state.specs.declared.Value.the-variants as val;
+ghost use Rattle.scope.specs.Relations.Meets.{world, env};
+ghost use Rattle.scope.specs.Relations.Leaves.{VariableAt, VariableValueAt, ResultAt};
 use crate::put::list_reference;
 use crate::put::put_braced;
 use crate::put::put_value;
-use crate::state::Called;
-use crate::state::Local;
-use crate::state::Resolved;
-use crate::state::Scope;
-use crate::state::Value;
 use crate::value::find_variable;
 use crate::value::list_variable;
+use arguments::text_of;
+use state::Called;
+use state::Local;
+use state::Resolved;
+use state::Scope;
+use state::Value;
 use texts::Referred;
 
 // A variable's text, or `{$n}`.
@@ -32,15 +34,10 @@ pub fn write_variable(
 ) -> Scope
     ensures { λ r. ⌜ ((t : List ℕ) → VariableAt (env (now (store .entry)) (now (args .entry))) a e (world (now (store .entry)) (now (text .entry)) (now (list .entry)) (now (work .entry)) t st) (world (now (store .entry)) (now (text .exit)) (now (list .exit)) (now (work .exit)) t r)) ⌝ }
 {
-    if e < a {
-        return st;
-    }
-    if store.len() < e {
-        return st;
-    }
-    let Local::Is(v) = find_variable(store, args, st, &store[a..e]) else {
-        let s1 = list_variable(list, st, &store[a..e]);
-        return put_braced(text, work, s1, b"{$", &store[a..e], b"}");
+    let name = text_of(store, a, e);
+    let Local::Is(v) = find_variable(store, args, st, name) else {
+        let s1 = list_variable(list, st, name);
+        return put_braced(text, work, s1, b"{$", name, b"}");
     };
     put_value(store, args, text, work, st, v)
 }
@@ -56,20 +53,9 @@ pub fn resolve_variable(
 ) -> Resolved
     ensures { λ r. ⌜ ((x w t : List ℕ) → VariableValueAt (env (now (store .entry)) (now (args .entry))) a e (world (now (store .entry)) x (now (list .entry)) w t st) (world (now (store .entry)) x (now (list .exit)) w t (r .st)) (r .value)) ⌝ }
 {
-    if e < a {
-        return Resolved {
-            st: st,
-            value: Value::Wrong,
-        };
-    }
-    if store.len() < e {
-        return Resolved {
-            st: st,
-            value: Value::Wrong,
-        };
-    }
-    let Local::Is(v) = find_variable(store, args, st, &store[a..e]) else {
-        let s1 = list_variable(list, st, &store[a..e]);
+    let name = text_of(store, a, e);
+    let Local::Is(v) = find_variable(store, args, st, name) else {
+        let s1 = list_variable(list, st, name);
         return Resolved {
             st: s1,
             value: Value::Wrong,
@@ -83,11 +69,7 @@ fn is_wrong(value: Value) -> bool
 {
     match value {
         Value::Wrong => true,
-        Value::Store(_, _) => false,
-        Value::Args(_, _) => false,
-        Value::Work(_, _) => false,
-        Value::Number(_) => false,
-        Value::Nothing => false,
+        _ => false,
     }
 }
 
@@ -106,18 +88,13 @@ pub fn write_result(
 {
     let st = c.st;
     let value = c.value;
-    if e < a {
-        return st;
-    }
-    if store.len() < e {
-        return st;
-    }
+    let name = text_of(store, a, e);
     if c.found {
         if is_wrong(value) {
-            return put_braced(text, work, st, &store[a..e], b"()", b"");
+            return put_braced(text, work, st, name, b"()", b"");
         }
         return put_value(store, args, text, work, st, value);
     }
-    let s1 = list_reference(list, st, Referred::Function, &store[a..e], false, b"");
-    put_braced(text, work, s1, b"{", &store[a..e], b"()}")
+    let s1 = list_reference(list, st, Referred::Function, name, false, b"");
+    put_braced(text, work, s1, b"{", name, b"()}")
 }

@@ -1,46 +1,20 @@
--- Worked examples of the definitions.
-use mathlib.Core.Path.{_≡_, refl}
-use mathlib.Core.List.{List, [], _∷_, _++_, map}
-use mathlib.Core.Option.{none}
-use Prim.Native.Nat.{ℕ}
+-- Worked examples of the error list.
+use mathlib.Core.Path.{_≡_, refl, ap, sym, _∙_}
+use mathlib.Core.List.{List, [], _∷_}
+use mathlib.Core.Option.{some, none}
+use native.Mathlib.Omega.{arith}
 use Rattle.records.specs.Bytes.{toBe}
-use Rattle.records.specs.Rules.{digit, hex}
 use Rattle.records.specs.Encode.{encStr, encOptional, encAll, encWhole}
 use Rattle.records.specs.Errors.{Referred, reference, encReferred, encRecord, encError, encErrors}
-use Rattle.texts.specs.Unescape.{hexValue, digitsOf, scalarPiece, scalarOf, escapeOf, pieceOf, moreOf, isScalar, scalarOr, encScalar, readsAs, unescapeFrom, unescape}
-
--- the 22 digits
-pub digit-values : map hexValue (48 ∷ 49 ∷ 50 ∷ 51 ∷ 52 ∷ 53 ∷ 54 ∷ 55 ∷ 56 ∷ 57 ∷ 65 ∷ 66 ∷ 67 ∷ 68 ∷ 69 ∷ 70 ∷ 97 ∷ 98 ∷ 99 ∷ 100 ∷ 101 ∷ 102 ∷ [])
-    ≡ 0 ∷ 1 ∷ 2 ∷ 3 ∷ 4 ∷ 5 ∷ 6 ∷ 7 ∷ 8 ∷ 9 ∷ 10 ∷ 11 ∷ 12 ∷ 13 ∷ 14 ∷ 15 ∷ 10 ∷ 11 ∷ 12 ∷ 13 ∷ 14 ∷ 15 ∷ []
-unfolding hexValue digit
-digit-values = refl
-
--- `\u0041` is A
-pub letter-read : unescape (92 ∷ 117 ∷ 48 ∷ 48 ∷ 52 ∷ 49 ∷ []) ≡ 65 ∷ []
-unfolding unescape unescapeFrom pieceOf escapeOf scalarOf scalarPiece digitsOf hex digit hexValue moreOf readsAs scalarOr isScalar encScalar
-letter-read = refl
-
--- `\\` and `\"`
-pub quotes-read : unescape (92 ∷ 92 ∷ 92 ∷ 34 ∷ []) ≡ 92 ∷ 34 ∷ []
-unfolding unescape unescapeFrom pieceOf escapeOf moreOf readsAs
-quotes-read = refl
-
--- `\U01F600`
-pub face-read : unescape (92 ∷ 85 ∷ 48 ∷ 49 ∷ 70 ∷ 54 ∷ 48 ∷ 48 ∷ []) ≡ 0xF0 ∷ 0x9F ∷ 0x98 ∷ 0x80 ∷ []
-unfolding unescape unescapeFrom pieceOf escapeOf scalarOf scalarPiece digitsOf hex digit hexValue moreOf readsAs scalarOr isScalar encScalar
-face-read = refl
-
--- `\uD800`, a surrogate, is U+FFFD
-pub surrogate-read : unescape (92 ∷ 117 ∷ 68 ∷ 56 ∷ 48 ∷ 48 ∷ []) ≡ 0xEF ∷ 0xBF ∷ 0xBD ∷ []
-unfolding unescape unescapeFrom pieceOf escapeOf scalarOf scalarPiece digitsOf hex digit hexValue moreOf readsAs scalarOr isScalar encScalar
-surrogate-read = refl
-
--- so is `\U110000`, past the last scalar
-pub past-read : unescape (92 ∷ 85 ∷ 49 ∷ 49 ∷ 48 ∷ 48 ∷ 48 ∷ 48 ∷ []) ≡ 0xEF ∷ 0xBF ∷ 0xBD ∷ []
-unfolding unescape unescapeFrom pieceOf escapeOf scalarOf scalarPiece digitsOf hex digit hexValue moreOf readsAs scalarOr isScalar encScalar
-past-read = refl
+use Rattle.texts.specs.ErrorList.{errorsOf, Brief}
+use Rattle.texts.proofs.ErrorList.{errors-read, recordable}
 
 -- document 01's list of a missing variable `n`
 pub list-of-one : encErrors (reference Referred.variable (0x6E ∷ []) none ∷ []) ≡ 0 ∷ 0 ∷ 0 ∷ 0x0D ∷ 1 ∷ 0 ∷ 6 ∷ 2 ∷ 4 ∷ 0 ∷ 1 ∷ 0x6E ∷ 0 ∷ []
 unfolding encErrors encWhole encAll encError encRecord encReferred encStr encOptional toBe
 list-of-one = refl
+
+-- and that list read back
+pub list-of-one-read : errorsOf (0 ∷ 0 ∷ 0 ∷ 0x0D ∷ 1 ∷ 0 ∷ 6 ∷ 2 ∷ 4 ∷ 0 ∷ 1 ∷ 0x6E ∷ 0 ∷ []) ≡ some (reference Referred.variable (0x6E ∷ []) none ∷ [])
+unfolding Brief
+list-of-one-read = ap errorsOf (sym list-of-one) ∙ errors-read _ ((recordable _ (omega arith), tt), rw list-of-one (omega arith))

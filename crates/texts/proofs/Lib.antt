@@ -1,7 +1,4 @@
--- Laws that the proofs of several functions cite.
-pub mod Place
-pub mod Reading
+-- Laws that the proofs of several functions cite, and the error list read back.
 pub mod Recording
+pub mod ErrorList
 pub mod Examples
-pub mod Joining
-pub mod WellFormed

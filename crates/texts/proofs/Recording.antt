@@ -2,24 +2,26 @@
 use mathlib.Core.Path.{_≡_, refl, ap, sym, subst, _∙_}
 use mathlib.Core.List.{List, [], _∷_, _++_, append-assoc, append-nil}
 use mathlib.Core.Bool.{Bool, true, false, _&&_}
-use mathlib.Core.Option.{some, none}
+use mathlib.Core.Option.{Option, some, none}
 use Prim.Native.Nat.{ℕ, zero, suc, _+_, _-_, _≤_, _<_}
 use native.Mathlib.Omega.{arith}
 use lib.ListN.{length, take, drop, set, length-append}
 use lib.Seq.{sets, paste, take-append-add, drop-at, length-take-le, take-add}
 use lib.Dec.{leb, ltb}
-use borrow.Author.Tests.{le-leb, lt-leb, lt-ltb, le-ltb, leb-true}
+use borrow.Author.Tests.{le-leb, lt-leb, lt-ltb, le-ltb, leb-true, leb-false, ltb-true, ltb-false}
 use Rattle.records.specs.Bytes.{toBe, part}
 use Rattle.records.specs.Images as images
 use Rattle.records.specs.Encode.{encStr, encOptional, encKind, encAll, encWhole}
 use Rattle.records.specs.Errors.{Referred, Error, overriding, reference, noValue, encReferred, encRecord, encError, encErrors, listHeader}
-use Rattle.texts.specs.Append.{over, attempt}
-use Rattle.texts.specs.Report.{plainOf, roomFor, recorded, header, headed}
-use Rattle.texts.specs.declared.Plain.{Plain}
-use Rattle.texts.specs.declared.Plain.the-variants as plain
-use Rattle.texts.specs.declared.Wrote.{Wrote}
-use Rattle.texts.specs.declared.Wrote.the-variants.{At, Full}
-use Rattle.texts.proofs.Place.{sets-over, paste-over, then-over, then-set, length-over, take-over, attempt-at, attempt-no}
+use Rattle.buffers.specs.Given.{given}
+use Rattle.buffers.specs.Relations.Append.{over, attempt}
+use Rattle.texts.specs.Optional.{optionOf}
+use Rattle.texts.specs.Relations.Report.{plainOf, roomFor, attributeLen, recorded, header, headed}
+use Rattle.texts.specs.declared.errors.Plain.{Plain}
+use Rattle.texts.specs.declared.errors.Plain.the-variants as plain
+use Rattle.buffers.specs.declared.Wrote.{Wrote}
+use Rattle.buffers.specs.declared.Wrote.the-variants.{At, Full}
+use Rattle.buffers.proofs.Place.{sets-over, set-over, paste-over, then-over, then-set, length-over, take-over, attempt-at, attempt-no}
 
 pub length-u16 : (n : ℕ) → length (toBe 2 n) ≡ 2
 unfolding toBe
@@ -125,18 +127,6 @@ name-written d at n tag t h p q =
 pub length-named : (n tag kind : ℕ) (t : List ℕ) → length (toBe 2 n ++ (tag ∷ kind ∷ encStr t)) ≡ 6 + length t
 length-named n tag kind t = let a = length-append (toBe 2 n) (tag ∷ kind ∷ encStr t) in let b = length-u16 n in let c = length-str t in omega arith
 
--- a Flag past a kind and a name, and what it announces
-module _ (d : List ℕ) (at n tag kind : ℕ) (t : List ℕ) {e : List ℕ} (p : e ≡ over d at (toBe 2 n ++ (tag ∷ kind ∷ encStr t))) where
-  pub flag-written : (x : ℕ) → at + (7 + length t) ≤ length d → set e (at + (6 + length t)) x ≡ over d at (toBe 2 n ++ (tag ∷ kind ∷ encStr t) ++ (x ∷ []))
-  flag-written x h = let l = length-named n tag kind t in then-set d at (toBe 2 n ++ (tag ∷ kind ∷ encStr t)) x p (omega arith) (omega arith)
-
-  pub announced-written : (x : ℕ) (a : List ℕ) {f : List ℕ} → at + (9 + length t + length a) ≤ length d → f ≡ over (set e (at + (6 + length t)) x) (at + (7 + length t)) (encStr a) → f ≡ over d at (toBe 2 n ++ (tag ∷ kind ∷ encStr t) ++ (x ∷ []) ++ encStr a)
-  announced-written x a h q =
-      let l = length-named n tag kind t in
-      let m = length-append (toBe 2 n ++ (tag ∷ kind ∷ encStr t)) (x ∷ []) in
-      let s = length-str a in
-      q ∙ then-over d at (toBe 2 n ++ (tag ∷ kind ∷ encStr t) ++ (x ∷ [])) (encStr a) (flag-written x (omega arith)) (omega arith) (omega arith)
-
 -- the bytes of each record, and their number
 pub plain-length : (k : Plain) → 3 ≡ length (encError (plainOf k))
 unfolding encError encRecord toBe plainOf
@@ -178,10 +168,6 @@ module _ (i : List ℕ) where
     unfolding encError
     bare-length = let a = record-length (2 ∷ encReferred k ∷ encStr i ++ encOptional encStr none) in let b = bare-size in omega arith
 
-    pub bare-is : {x : ℕ} → x ≡ encReferred k → toBe 2 (5 + length i) ++ (2 ∷ x ∷ encStr i) ++ (0 ∷ []) ≡ encError (reference k i none)
-    unfolding encError encOptional
-    bare-is {x} e = rw (e, append-assoc (toBe 2 (5 + length i)) (2 ∷ encReferred k ∷ encStr i) (0 ∷ [])) (record-is (2 ∷ encReferred k ∷ encStr i ++ (0 ∷ [])) (5 + length i) (sym bare-size))
-
     module _ (a : List ℕ) where
       attribute-size : length (2 ∷ encReferred k ∷ encStr i ++ encOptional encStr (some a)) ≡ 7 + length i + length a
       unfolding encOptional
@@ -191,9 +177,122 @@ module _ (i : List ℕ) where
       unfolding encError
       attribute-length = let x = record-length (2 ∷ encReferred k ∷ encStr i ++ encOptional encStr (some a)) in let b = attribute-size in omega arith
 
-      pub attribute-is : {x : ℕ} → x ≡ encReferred k → toBe 2 (7 + length i + length a) ++ (2 ∷ x ∷ encStr i) ++ (1 ∷ []) ++ encStr a ≡ encError (reference k i (some a))
-      unfolding encError encOptional
-      attribute-is {x} e = rw e (simp append-assoc (record-is (2 ∷ encReferred k ∷ encStr i ++ (1 ∷ encStr a)) (7 + length i + length a) (sym attribute-size)))
+-- an attribute with its Flag, and how many bytes it takes
+pub attribute-most : (has : Bool) (n : ℕ) → attributeLen has n ≤ 65538
+unfolding attributeLen
+attribute-most true n = go (ltb 65535 n) refl where
+  go : (x : Bool) → ltb 65535 n ≡ x → given x 65538 (3 + n) ≤ 65538
+  go true e = omega arith
+  go false e = let l : n ≤ 65535 = ltb-false _ _ e in omega arith
+attribute-most false n = omega arith
+
+pub attribute-short : (n : ℕ) → n ≤ 65535 → attributeLen true n ≡ 3 + n
+unfolding attributeLen
+attribute-short n h = rw (le-ltb 65535 n h)
+
+pub attribute-long : (n : ℕ) → 65535 < n → attributeLen true n ≡ 65538
+unfolding attributeLen
+attribute-long n h = rw (lt-ltb 65535 n h)
+
+pub attribute-fits : (n : ℕ) → attributeLen true n ≤ 65537 → n ≤ 65535
+attribute-fits n h = go (ltb 65535 n) refl where
+  go : (x : Bool) → ltb 65535 n ≡ x → n ≤ 65535
+  go true e = let l = attribute-long n (ltb-true _ _ e) in absurd (omega arith)
+  go false e = ltb-false _ _ e
+
+attribute-there : (a : List ℕ) → length (encOptional encStr (some a)) ≡ 3 + length a
+unfolding encOptional
+attribute-there a = let s = length-str a in omega arith
+
+attribute-none : (n : ℕ) → attributeLen false n ≡ length (encOptional encStr none)
+unfolding attributeLen encOptional
+attribute-none n = refl
+
+pub attribute-is : (has : Bool) (a : List ℕ) → attributeLen has (length a) ≤ 65537 → attributeLen has (length a) ≡ length (encOptional encStr (optionOf has a))
+unfolding optionOf
+attribute-is true a h = attribute-short (length a) (attribute-fits (length a) h) ∙ sym (attribute-there a)
+attribute-is false a h = attribute-none (length a)
+
+-- an attribute written, with its Flag
+module _ (d : List ℕ) (at : ℕ) {has : Bool} (a : List ℕ) (h : at + attributeLen has (length a) ≤ length d) (g : attributeLen has (length a) ≤ 65537) where
+  pub attribute-room : has ≡ true → (at + (3 + length a) ≤ length d) × (length a ≤ 65535)
+  attribute-room t =
+      let g′ : attributeLen true (length a) ≤ 65537 = rw t at g in
+      let h′ : at + attributeLen true (length a) ≤ length d = rw t at h in
+      let l = attribute-fits (length a) g′ in
+      let s = attribute-short (length a) l in
+      (omega arith, l)
+
+  pub attribute-written : {f : List ℕ} → has ≡ true → f ≡ over (set d at 1) (at + 1) (encStr a) → f ≡ over d at (encOptional encStr (optionOf has a))
+  unfolding encOptional optionOf
+  attribute-written t q =
+      let r = attribute-room t in
+      let s = length-str a in
+      rw t (q ∙ then-over d at (1 ∷ []) (encStr a) (set-over d at 1 (omega arith)) refl (omega arith))
+
+  pub attribute-sized : {f : List ℕ} → has ≡ true → f ≡ over (set d at 1) (at + 1) (encStr a) → length f ≡ length d
+  attribute-sized t q =
+      let l = attribute-is has a g in
+      ap length (attribute-written t q) ∙ length-over d at (encOptional encStr (optionOf has a)) (omega arith)
+
+  pub attribute-absent : has ≡ false → at + 1 ≤ length d
+  unfolding attributeLen
+  attribute-absent t = rw t at h
+
+  pub absent-written : has ≡ false → set d at 0 ≡ over d at (encOptional encStr (optionOf has a))
+  unfolding encOptional optionOf
+  absent-written t = let l = attribute-absent t in rw t (set-over d at 0 (omega arith))
+
+-- the bytes of a Reference record, and their number
+module _ (k : Referred) (i : List ℕ) (o : Option (List ℕ)) where
+  reference-rest : length (2 ∷ encReferred k ∷ encStr i ++ encOptional encStr o) ≡ 4 + length i + length (encOptional encStr o)
+  reference-rest = let a = length-append (encStr i) (encOptional encStr o) in let b = length-str i in omega arith
+
+  pub reference-length : length (encError (reference k i o)) ≡ 6 + length i + length (encOptional encStr o)
+  unfolding encError
+  reference-length = let a = record-length (2 ∷ encReferred k ∷ encStr i ++ encOptional encStr o) in let b = reference-rest in omega arith
+
+  pub reference-long : 65535 < length i → 65537 < length (encError (reference k i o))
+  reference-long h = let a = reference-length in omega arith
+
+  reference-is : (m : ℕ) {x : ℕ} → x ≡ encReferred k → m ≡ length (encOptional encStr o) → toBe 2 (4 + length i + m) ++ (2 ∷ x ∷ encStr i) ++ encOptional encStr o ≡ encError (reference k i o)
+  unfolding encError
+  reference-is m {x} e q =
+      let r = reference-rest in
+      rw (e, append-assoc (toBe 2 (4 + length i + m)) (2 ∷ encReferred k ∷ encStr i) (encOptional encStr o)) (record-is (2 ∷ encReferred k ∷ encStr i ++ encOptional encStr o) (4 + length i + m) (omega arith))
+
+  reference-written : (d : List ℕ) (at m : ℕ) {x : ℕ} {e f : List ℕ} → at + (6 + length i + m) ≤ length d → x ≡ encReferred k → m ≡ length (encOptional encStr o)
+      → e ≡ over d at (toBe 2 (4 + length i + m) ++ (2 ∷ x ∷ encStr i)) → f ≡ over e (at + (6 + length i)) (encOptional encStr o) → f ≡ over d at (encError (reference k i o))
+  reference-written d at m {x} h ex em p q =
+      let l = length-named (4 + length i + m) 2 x i in
+      q ∙ then-over d at (toBe 2 (4 + length i + m) ++ (2 ∷ x ∷ encStr i)) (encOptional encStr o) p (omega arith) (omega arith) ∙ ap (over d at) (reference-is m ex em)
+
+attribute-past : (k : Referred) (i : List ℕ) (has : Bool) (a : List ℕ) → 65537 < attributeLen has (length a) → 65537 < length (encError (reference k i (optionOf has a)))
+unfolding optionOf attributeLen
+attribute-past k i true a l = go (ltb 65535 (length a)) refl l where
+  go : (x : Bool) → ltb 65535 (length a) ≡ x → 65537 < given x 65538 (3 + length a) → 65537 < length (encError (reference k i (some a)))
+  go true e l = let s = reference-length k i (some a) in let u = attribute-there a in let v : 65535 < length a = ltb-true _ _ e in omega arith
+  go false e l = let s = reference-length k i (some a) in let u = attribute-there a in omega arith
+attribute-past k i false a l = absurd (omega arith)
+
+-- a Reference record that fits, and one that does not
+module _ (d : List ℕ) (at : ℕ) (k : Referred) (i : List ℕ) (has : Bool) (a : List ℕ) {m : ℕ} {r : Bool} (h : r ≡ roomFor (length d) at (6 + length i + m)) (em : m ≡ attributeLen has (length a)) where
+  pub reference-fits : {x : ℕ} {e f : List ℕ} → r ≡ true → x ≡ encReferred k → e ≡ over d at (toBe 2 (4 + length i + m) ++ (2 ∷ x ∷ encStr i))
+      → f ≡ over e (at + (6 + length i)) (encOptional encStr (optionOf has a)) → (At (at + (6 + length i + m)), f) ≡ recorded d at (reference k i (optionOf has a))
+  reference-fits t ex p q =
+      let room = room-true (length d) at (6 + length i + m) h t in
+      let n : m ≡ length (encOptional encStr (optionOf has a)) = em ∙ attribute-is has a (omega arith) in
+      let s = reference-length k i (optionOf has a) in
+      recorded-fits d at (reference k i (optionOf has a)) (6 + length i + m) h t (omega arith) (reference-written k i (optionOf has a) d at m (room .2) ex n p q)
+
+  pub reference-full : r ≡ false → (Full, d) ≡ recorded d at (reference k i (optionOf has a))
+  reference-full t = go (leb (attributeLen has (length a)) 65537) refl where
+    go : (x : Bool) → leb (attributeLen has (length a)) 65537 ≡ x → (Full, d) ≡ recorded d at (reference k i (optionOf has a))
+    go true e =
+        let n : m ≡ length (encOptional encStr (optionOf has a)) = em ∙ attribute-is has a (leb-true _ _ e) in
+        let s = reference-length k i (optionOf has a) in
+        recorded-full d at (reference k i (optionOf has a)) (6 + length i + m) h t (omega arith)
+    go false e = recorded-long d at (reference k i (optionOf has a)) (attribute-past k i has a (leb-false _ _ e))
 
 -- what stands past a front that was written, and past bytes that were
 over-front : (d a b : List ℕ) → length a ≡ 5 → part d 5 (length b) ≡ b → take (5 + length b) (over d 0 a) ≡ a ++ b

@@ -1,3 +1,3 @@
-pub mod Append
-pub mod Unescape
-pub mod Report
+pub mod Optional
+pub mod ErrorList
+pub mod Relations

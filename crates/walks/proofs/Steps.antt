@@ -8,7 +8,8 @@ use native.Mathlib.Omega.{arith}
 use lib.ListN.{length}
 use Rattle.records.specs.declared.Next.{Next}
 use Rattle.records.specs.declared.Next.the-variants as next
-use Rattle.records.specs.Got.{Got, got, bad, Parser, nextOf}
+use Rattle.records.specs.Got.{Got, got, bad, Parser}
+use Rattle.records.specs.Relations.Answer.{nextOf}
 use Rattle.records.specs.Bytes.{byteAt, bytesAt, numberAt, strAt}
 use Rattle.records.specs.Tree.{Expression, Inline, Arguments, no-variant, or}
 use Rattle.records.specs.Decode.{many, flagAt, optionalAt, idAt, literalAt, keyAt, namedAt, elementAt, patternAt, variantAt, inlinesAt, argumentsAt, termArgumentsAt, selectAt, expression, inline}
@@ -16,7 +17,7 @@ use Rattle.records.proofs.Laws.{bytes-in, bytes-inv, number-inv}
 use Rattle.records.proofs.Local.{Local, local-pattern, local-expression}
 use Rattle.records.proofs.Named.{clash, meet}
 use Rattle.records.proofs.Views.{both, never, next-is, next-of, id-str, text-str, string-str, number-str, many-cons, many-nil, flag-elim, optional-elim, literal-str, key-elim, named-elim, named-arguments-elim, element-elim, pattern-elim, variant-elim, arguments-elim, term-arguments-elim, term-elim, select-elim, Body, is-string, is-number, is-function, is-message, is-term, is-variable, is-nested, inline-elim, expression-elim}
-use Rattle.bundle.specs.Meets.{Passes}
+use Rattle.entries.specs.Relations.Meets.{Passes}
 
 -- an answer that the decoder gives is the position past it
 pub passing : {A : Type 0} {g : Got A} {r : Next} → r ≡ nextOf g → Passes g r

@@ -10,11 +10,11 @@ use Rattle.records.specs.declared.Next.{Next}
 use Rattle.records.specs.declared.Next.the-variants as next
 use Rattle.records.specs.Got.{Got, got, bad}
 use Rattle.records.specs.Bytes.{part, numberAt}
-use Rattle.records.specs.Names.{sameBytes}
+use Rattle.rules.specs.Same.{sameBytes}
 use Rattle.records.proofs.Laws.{number-inv}
 use Rattle.records.proofs.Named.{clash}
 use Rattle.resolution.specs.Resolve.{onTrail}
-use Rattle.walks.specs.Trail.{EndAt, end-at, no-end, patternBytes, prefixed, trailOf}
+use Rattle.walks.specs.Relations.Trail.{EndAt, end-at, no-end, patternBytes, prefixed, trailOf}
 
 -- the bytes of the pattern at a position
 module _ (s : List ℕ) (p : ℕ) where

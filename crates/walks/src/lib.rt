@@ -4,29 +4,26 @@
 // the decoder reads, or what the definition says of it.
 ghost use mathlib.Core.Path.{_≡_};
 ghost use mathlib.Core.List.{List, [], _∷_};
-ghost use mathlib.Core.Bool.{_&&_, not};
 ghost use Prim.Native.Nat.{ℕ, _≤_};
 ghost use lib.ListN.{length};
-ghost use lib.Dec.{ltb};
 ghost use Rattle.records.specs.declared.Next.the-variants as next;
 ghost use Rattle.records.specs.Got.{got};
 ghost use Rattle.records.specs.Bytes.{numberAt};
-ghost use Rattle.records.specs.Names.{sameBytes};
-ghost use Rattle.records.specs.Tree.{Expression, no-variant, or};
+ghost use Rattle.rules.specs.Same.{sameBytes};
+ghost use Rattle.records.specs.Tree.{no-variant, or};
 ghost use Rattle.records.specs.Decode.{many, idAt, optionalAt, namedAt, elementAt, patternAt, variantAt, inlinesAt, argumentsAt, termArgumentsAt, expression, inline};
-ghost use Rattle.records.specs.Images.{Store, storeOf};
-ghost use Rattle.bundle.specs.Meets.{Passes};
-ghost use Rattle.resolution.specs.Resolve.{bare, onTrail};
-ghost use Rattle.walks.specs.Trail.{patternBytes, trailOf, EndAt};
+ghost use Rattle.entries.specs.Relations.Meets.{Passes};
+ghost use Rattle.resolution.specs.Resolve.{onTrail};
+ghost use Rattle.walks.specs.Relations.Trail.{patternBytes, trailOf, EndAt};
 use reader::read_size;
 use records::Next;
 use records::Num;
 use records::read_byte;
 use records::read_u16;
 use records::read_u32;
-use records::same_bytes;
 use records::skip_bytes;
 use records::skip_str;
+use rules::same_bytes;
 
 // Past a pattern, by its length.
 pub fn skip_pattern(s: &[u8], at: usize) -> Next
@@ -208,55 +205,6 @@ pub fn skip_element(s: &[u8], at: usize, left: usize) -> Next
         return skip_str(s, p);
     }
     skip_expression(s, p, left)
-}
-
-// Is what stands at `at` written without isolating marks: a direct message, term or string literal?
-pub fn is_bare(s: &[u8], at: usize) -> bool
-    ensures { λ r. ⌜ ((d : ℕ) (x : Expression) (f : ℕ) → expression d (now (s .entry)) at ≡ got x f → r ≡ bare x) ⌝ }
-{
-    let Num::At(tag, _) = read_byte(s, at) else {
-        return false;
-    };
-    if tag == 1 {
-        return true;
-    }
-    if tag == 4 {
-        return true;
-    }
-    tag == 5
-}
-
-// Has the placeable at `at` isolating marks?
-pub fn has_marks(s: &[u8], iso: bool, at: usize) -> bool
-    ensures { λ r. ⌜ ((d : ℕ) (x : Expression) (f : ℕ) → expression d (now (s .entry)) at ≡ got x f → r ≡ (iso && not (bare x))) ⌝ }
-{
-    if iso {
-        return !is_bare(s, at);
-    }
-    false
-}
-
-// Are the placeables of a pattern of n elements isolated?
-pub fn isolates(s: &[u8], n: usize) -> bool
-    ensures { λ r. ⌜ ((st : Store) (e : ℕ) → storeOf (now (s .entry)) ≡ got st e → r ≡ (ltb 1 n && st .isolating)) ⌝ }
-{
-    if n <= 1 {
-        return false;
-    }
-    if s.len() <= 6 {
-        return false;
-    }
-    s[6] == 1
-}
-
-// The locale byte of a store.
-pub fn locale_of(s: &[u8]) -> u8
-    ensures { λ r. ⌜ ((st : Store) (e : ℕ) → storeOf (now (s .entry)) ≡ got st e → r ≡ st .locale) ⌝ }
-{
-    if s.len() <= 5 {
-        return 0;
-    }
-    s[5]
 }
 
 // Where the bytes of the pattern at p end: where its length says, or with the slice.

@@ -1,8 +1,11 @@
-//! The sheets of `sheets/*.ftl` as resource images: the Rattle file that embeds
-//! them in the program `sheet`.
+//! The sheets of `sheets/*.ftl` as resource images, and the usual sighting as
+//! an arguments image: the file that embeds them, which is both Rattle, for the
+//! program `sheet`, and Rust, for the command `weszlagyo`.
 
+use crate::case::Value;
 use crate::encode;
 use crate::ftl;
+use crate::model::number::literal;
 use fluent_syntax::ast::Resource;
 use std::fmt::Write as _;
 use std::path::Path;
@@ -10,7 +13,29 @@ use std::path::Path;
 /// The languages, by their locale byte.
 pub const LANGUAGES: [&str; 4] = ["en", "da", "ru", "cy"];
 
-/// Where the Rattle file stands, below the root.
+/// The fields of the usual sighting.
+pub const USUAL: [(&str, &str); 6] = [
+    ("species", "porpoise"),
+    ("count", "3"),
+    ("calves", "1"),
+    ("distance", "400"),
+    ("leg", "7"),
+    ("observer", "Anna Berg"),
+];
+
+/// Fields as arguments: a number where the text is one.
+pub fn arguments(fields: &[(&str, &str)]) -> Vec<(String, Value)> {
+    let value = |text: &str| match literal(text.as_bytes()) {
+        Some((number, _)) => Value::Number(number),
+        None => Value::Text(text.into()),
+    };
+    fields
+        .iter()
+        .map(|(n, v)| (n.to_string(), value(v)))
+        .collect()
+}
+
+/// Where the file stands, below the root.
 pub const EMBEDDED: &str = "crates/sheet/src/embedded.rt";
 
 /// The sheet of a language, read from its file below the root.
@@ -36,25 +61,31 @@ fn one_line_each(source: &str) -> String {
     out
 }
 
-/// The text of the Rattle file: a constant for each language.
+/// The text of the file: a constant for each language, and the sighting.
 pub fn embedded(root: &Path) -> String {
     let mut out = String::from(
-        "// The sheets as resource images, one for each language. Made from sheets/*.ftl by `tools/sheets`: change those, and run it.\n",
+        "// The sheets as resource images, one for each language, and the usual sighting as an arguments image. Made from sheets/*.ftl by `tools/sheets`: change\n\
+         // those, and run it. The file is Rattle and Rust: the command in rust/cli has it too.\n",
     );
     for language in LANGUAGES {
         let image = encode::resource(&read(root, language));
-        let name = language.to_uppercase();
-        let length = image.len();
-        write!(out, "\npub const {name}: [u8; {length}] =\n    *b\"").expect("a string takes it");
-        for byte in image {
-            match byte {
-                b'"' | b'\\' => write!(out, "\\{}", byte as char),
-                b' '..=b'~' => write!(out, "{}", byte as char),
-                _ => write!(out, "\\x{byte:02X}"),
-            }
-            .expect("a string takes it");
-        }
-        out.push_str("\";\n");
+        constant(&mut out, &language.to_uppercase(), &image);
     }
+    constant(&mut out, "SIGHTING", &encode::arguments(&arguments(&USUAL)));
     out
+}
+
+/// A constant byte array.
+fn constant(out: &mut String, name: &str, bytes: &[u8]) {
+    let length = bytes.len();
+    write!(out, "\npub const {name}: [u8; {length}] =\n    *b\"").expect("a string takes it");
+    for byte in bytes {
+        match byte {
+            b'"' | b'\\' => write!(out, "\\{}", *byte as char),
+            b' '..=b'~' => write!(out, "{}", *byte as char),
+            _ => write!(out, "\\x{byte:02X}"),
+        }
+        .expect("a string takes it");
+    }
+    out.push_str("\";\n");
 }

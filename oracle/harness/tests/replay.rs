@@ -102,46 +102,43 @@ fn replay(name: &str, one: fn(u8, &mut Fields)) -> usize {
 
 #[test]
 fn numbers() {
-    let count = replay(
-        "replay_numbers/data/numbers.vec",
-        |operation, f| match operation {
-            1 => {
-                let read = literal(f.str());
-                assert_eq!(f.flag(), read.is_some());
-                if let Some((decimal, minimum)) = read {
-                    assert_eq!((f.decimal(), f.minimum()), (decimal, minimum));
-                }
+    let count = replay("replay/data/numbers.vec", |operation, f| match operation {
+        1 => {
+            let read = literal(f.str());
+            assert_eq!(f.flag(), read.is_some());
+            if let Some((decimal, minimum)) = read {
+                assert_eq!((f.decimal(), f.minimum()), (decimal, minimum));
             }
-            2 => {
-                let number = Number::with_minimum(f.decimal(), f.minimum());
-                assert_eq!(f.str(), number.text());
-            }
-            3 => {
-                let (locale, ordinal) = (f.u8(), f.flag());
-                let mut number = Number::with_minimum(f.decimal(), f.minimum());
-                number.options.ordinal = ordinal;
-                assert_eq!(CATEGORIES[f.u8() as usize], number.category(locale));
-            }
-            4 => function(f),
-            5 => {
-                let mut pair = || {
-                    let mut number = Number::plain(f.decimal());
-                    f.options(&mut number);
-                    number
-                };
-                let (a, b) = (pair(), pair());
-                assert_eq!(f.flag(), a.equals(&b));
-            }
-            6 => {
-                let (key, locale, decimal) = (f.str(), f.u8(), f.decimal());
-                let ordinal = f.flag();
-                let mut number = Number::with_minimum(decimal, f.minimum());
-                number.options.ordinal = ordinal;
-                assert_eq!(f.flag(), number.category(locale).as_bytes() == key);
-            }
-            _ => panic!("operation {operation}"),
-        },
-    );
+        }
+        2 => {
+            let number = Number::with_minimum(f.decimal(), f.minimum());
+            assert_eq!(f.str(), number.text());
+        }
+        3 => {
+            let (locale, ordinal) = (f.u8(), f.flag());
+            let mut number = Number::with_minimum(f.decimal(), f.minimum());
+            number.options.ordinal = ordinal;
+            assert_eq!(CATEGORIES[f.u8() as usize], number.category(locale));
+        }
+        4 => function(f),
+        5 => {
+            let mut pair = || {
+                let mut number = Number::plain(f.decimal());
+                f.options(&mut number);
+                number
+            };
+            let (a, b) = (pair(), pair());
+            assert_eq!(f.flag(), a.equals(&b));
+        }
+        6 => {
+            let (key, locale, decimal) = (f.str(), f.u8(), f.decimal());
+            let ordinal = f.flag();
+            let mut number = Number::with_minimum(decimal, f.minimum());
+            number.options.ordinal = ordinal;
+            assert_eq!(f.flag(), number.category(locale).as_bytes() == key);
+        }
+        _ => panic!("operation {operation}"),
+    });
     assert!(count > 20_000);
 }
 
@@ -199,35 +196,32 @@ fn accepts(kind: u8, bytes: &[u8]) -> bool {
 
 #[test]
 fn images() {
-    let count = replay(
-        "replay_records/data/images.vec",
-        |operation, f| match operation {
-            20..=22 => {
-                let kind = [4, 5, 13][usize::from(operation - 20)];
-                let fine = accepts(kind, f.blob());
-                assert_eq!(f.u8(), if fine { 0 } else { kind });
-            }
-            23 => {
-                let text = reader::unescape(f.str()).expect("well-formed");
-                assert_eq!(f.str(), text);
-            }
-            24 => {
-                let arguments = reader::arguments(f.blob()).expect("well-formed");
-                let name = f.str();
-                let held = arguments.into_iter().rfind(|(n, _)| n == name);
-                let found = match f.u8() {
-                    0 => None,
-                    1 => Some(Given::Text(f.str().to_vec())),
-                    2 => Some(Given::Number(f.decimal())),
-                    3 => Some(Given::None),
-                    kind => panic!("kind {kind}"),
-                };
-                assert_eq!(found, held.map(|(_, value)| value));
-            }
-            25 => damage(f),
-            _ => panic!("operation {operation}"),
-        },
-    );
+    let count = replay("replay/data/images.vec", |operation, f| match operation {
+        20..=22 => {
+            let kind = [4, 5, 13][usize::from(operation - 20)];
+            let fine = accepts(kind, f.blob());
+            assert_eq!(f.u8(), if fine { 0 } else { kind });
+        }
+        23 => {
+            let text = reader::unescape(f.str()).expect("well-formed");
+            assert_eq!(f.str(), text);
+        }
+        24 => {
+            let arguments = reader::arguments(f.blob()).expect("well-formed");
+            let name = f.str();
+            let held = arguments.into_iter().rfind(|(n, _)| n == name);
+            let found = match f.u8() {
+                0 => None,
+                1 => Some(Given::Text(f.str().to_vec())),
+                2 => Some(Given::Number(f.decimal())),
+                3 => Some(Given::None),
+                kind => panic!("kind {kind}"),
+            };
+            assert_eq!(found, held.map(|(_, value)| value));
+        }
+        25 => damage(f),
+        _ => panic!("operation {operation}"),
+    });
     assert!(count > 2000);
 }
 
@@ -257,7 +251,7 @@ fn damage(f: &mut Fields) {
 
 #[test]
 fn additions() {
-    let count = replay("replay_bundle/data/additions.vec", |operation, f| {
+    let count = replay("replay/data/additions.vec", |operation, f| {
         let refusal = |answer: Result<usize, u8>| answer.err().unwrap_or(0);
         match operation {
             30 => {

@@ -1,36 +1,14 @@
-//! The sheets of `sheets/*.ftl`: the program embeds them as they are, and the
-//! Rust prints what the program prints.
+//! The sheets of `sheets/*.ftl`: program and command embed them as they are, and
+//! the Rust prints what the program prints.
 #![forbid(unsafe_code)]
 
-use harness::case::{Bundle, Case, Item, Value};
-use harness::model::number::literal;
-use harness::sheets::{embedded, read, EMBEDDED, LANGUAGES};
+use harness::case::{Bundle, Case, Item};
+use harness::sheets::{arguments, embedded, read, EMBEDDED, LANGUAGES, USUAL};
 use harness::{expected, large_stack};
 use std::path::Path;
 
 fn root() -> &'static Path {
     Path::new(concat!(env!("CARGO_MANIFEST_DIR"), "/../.."))
-}
-
-/// The fields that the program has unless others are given.
-const USUAL: [(&str, &str); 6] = [
-    ("species", "porpoise"),
-    ("count", "3"),
-    ("calves", "1"),
-    ("distance", "400"),
-    ("leg", "7"),
-    ("observer", "Anna Berg"),
-];
-
-fn arguments(fields: &[(&str, &str)]) -> Vec<(String, Value)> {
-    let value = |text: &str| match literal(text.as_bytes()) {
-        Some((number, _)) => Value::Number(number),
-        None => Value::Text(text.into()),
-    };
-    fields
-        .iter()
-        .map(|(n, v)| (n.to_string(), value(v)))
-        .collect()
 }
 
 /// The text of a message, and the count of its errors; the Rust and the model

@@ -1,8 +1,8 @@
-//! Asks the program for a sighting, in its machine-readable lines.
+//! Asks the command for a sighting, in its machine-readable lines.
 
 use std::process::{exit, Command};
 
-/// The languages in the order of the program's lines.
+/// The languages in the order of the command's lines.
 pub const LANGUAGES: [(&str, &str); 4] = [
     ("en", "English"),
     ("da", "Dansk"),
@@ -10,8 +10,9 @@ pub const LANGUAGES: [(&str, &str); 4] = [
     ("cy", "Cymraeg"),
 ];
 
-pub struct Program {
-    pub command: Vec<String>,
+/// The command `weszlagyo`, by its path.
+pub struct Weszlagyo {
+    pub path: String,
 }
 
 pub struct Sighting {
@@ -44,12 +45,12 @@ pub struct Answer {
     pub errors: Vec<String>,
 }
 
-impl Program {
+impl Weszlagyo {
     /// The sighting in the four languages.
     pub fn ask(&self, s: &Sighting) -> [Answer; 4] {
-        let mut command = Command::new(&self.command[0]);
-        command.args(&self.command[1..]);
-        command.args(["--lines", "--message", s.message, "--species", s.species]);
+        let mut command = Command::new(&self.path);
+        command.args(["sheet", "--lines", "--message", s.message]);
+        command.args(["--species", s.species]);
         let numbers = [
             ("--count", s.count),
             ("--calves", s.calves),
@@ -63,7 +64,7 @@ impl Program {
             command.args(["--no", field]);
         }
         let run = command.output().unwrap_or_else(|e| fail(&e.to_string()));
-        if !run.stderr.is_empty() {
+        if !run.status.success() {
             fail(String::from_utf8_lossy(&run.stderr).trim());
         }
         let lines = String::from_utf8(run.stdout).unwrap_or_else(|e| fail(&e.to_string()));
@@ -96,6 +97,6 @@ fn read(line: &str, language: &str) -> Option<Answer> {
 }
 
 fn fail(what: &str) -> ! {
-    eprintln!("table: the program: {what}");
+    eprintln!("table: the command: {what}");
     exit(1);
 }

@@ -1,12 +1,12 @@
-//! Makes the page of all sentences from what the program `sheet` prints:
-//! `table OUT COMMAND..`, where COMMAND runs the program.
+//! Makes the page of all sentences from what `weszlagyo sheet` prints:
+//! `table OUT COMMAND`, where COMMAND is the command's path.
 #![forbid(unsafe_code)]
 
 mod ask;
 mod differ;
 mod page;
 
-use ask::{Answer, Sighting};
+use ask::{Answer, Sighting, Weszlagyo};
 use std::process::exit;
 
 /// A table of a language: its rows' heads, its columns' heads, and the cells.
@@ -58,7 +58,7 @@ fn is_after_gap(numbers: &[u64], i: usize) -> bool {
 }
 
 /// Every count, with calves and without, one field missing or none.
-fn by_count(program: &ask::Program, missing: Option<&'static str>) -> Table {
+fn by_count(command: &Weszlagyo, missing: Option<&'static str>) -> Table {
     let numbers = match missing {
         Some("count") => vec![3],
         _ => counts(),
@@ -76,7 +76,7 @@ fn by_count(program: &ask::Program, missing: Option<&'static str>) -> Table {
         cells: columns
             .iter()
             .map(|&(_, calves)| {
-                program.ask(&Sighting {
+                command.ask(&Sighting {
                     count: numbers[i],
                     calves,
                     missing,
@@ -95,7 +95,7 @@ fn by_count(program: &ask::Program, missing: Option<&'static str>) -> Table {
 }
 
 /// Every species, at the counts that have forms of their own.
-fn by_species(program: &ask::Program) -> Table {
+fn by_species(command: &Weszlagyo) -> Table {
     let numbers = [0, 1, 2, 3, 5, 6, 11, 21, 22, 25];
     let row = |i: usize| Row {
         head: numbers[i].to_string(),
@@ -103,7 +103,7 @@ fn by_species(program: &ask::Program) -> Table {
         cells: SPECIES
             .iter()
             .map(|&species| {
-                program.ask(&Sighting {
+                command.ask(&Sighting {
                     species,
                     count: numbers[i],
                     message: "seen",
@@ -122,12 +122,12 @@ fn by_species(program: &ask::Program) -> Table {
 }
 
 /// The forms of the other numbers: calves, distance and leg.
-fn by_number(program: &ask::Program) -> Table {
+fn by_number(command: &Weszlagyo) -> Table {
     let numbers: Vec<u64> = (0..=30).chain([31, 42, 101, 111, 112]).collect();
     let row = |i: usize| {
         let n = numbers[i];
         let of = |calves, distance, leg, message| {
-            program.ask(&Sighting {
+            command.ask(&Sighting {
                 count: 120,
                 calves,
                 distance,
@@ -156,26 +156,25 @@ fn by_number(program: &ask::Program) -> Table {
 }
 
 fn main() {
-    let mut words = std::env::args().skip(1);
-    let Some(out) = words.next() else { usage() };
-    let command: Vec<String> = words.collect();
-    if command.is_empty() {
-        usage();
-    }
-    let program = ask::Program { command };
+    let words: Vec<String> = std::env::args().skip(1).collect();
+    let [out, path] = words.as_slice() else {
+        eprintln!("usage: table OUT COMMAND");
+        exit(2);
+    };
+    let command = Weszlagyo { path: path.clone() };
     let mut tables = Vec::new();
     let mut add = |name: &str, table: Table| {
         eprintln!("  {name}");
         tables.push(table);
     };
-    add("every field given", by_count(&program, None));
+    add("every field given", by_count(&command, None));
     for field in FIELDS {
-        add(&format!("without {field}"), by_count(&program, Some(field)));
+        add(&format!("without {field}"), by_count(&command, Some(field)));
     }
-    add("every species", by_species(&program));
-    add("every other number", by_number(&program));
+    add("every species", by_species(&command));
+    add("every other number", by_number(&command));
     let page = page::page(&tables);
-    if let Err(e) = std::fs::write(&out, &page) {
+    if let Err(e) = std::fs::write(out, &page) {
         eprintln!("table: {out} can't be written: {e}");
         exit(1);
     }
@@ -185,9 +184,4 @@ fn main() {
         .map(|r| r.cells.len())
         .sum();
     println!("{out}: {} sentences, {} bytes", cells * 4, page.len());
-}
-
-fn usage() -> ! {
-    eprintln!("usage: table OUT COMMAND..");
-    exit(2);
 }

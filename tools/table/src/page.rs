@@ -38,7 +38,7 @@ fn header(out: &mut String) {
         );
     }
     out.push_str("</div></nav>\n<header id=\"top\">\n<h1>Every sentence of the sheet</h1>\n");
-    out.push_str("<p>What the proved program prints for every count from 0 to 30 and some large ones, with calves and without, and with each field missing; then for every species and every other number. Unless a table says otherwise: porpoise, 3 of them, 1 calf, 400 metres, leg 7, Anna Berg.</p>\n");
+    out.push_str("<p>What <code>weszlagyo sheet</code> prints, by the proved resolver, for every count from 0 to 30 and some large ones, with calves and without, and with each field missing; then for every species and every other number. Unless a table says otherwise: porpoise, 3 of them, 1 calf, 400 metres, leg 7, Anna Berg.</p>\n");
     out.push_str("<p class=\"key\"><span><b class=\"n\">7</b> the row’s own number</span> <span><mark>word</mark> differs from the row above</span> <span class=\"wrong\">what the resolver reports, in its words</span> <span class=\"figures\">placeables begun · ids unfound</span></p>\n</header>\n");
 }
 
@@ -96,7 +96,7 @@ fn grouped(head: &str) -> String {
     }
     let mut out = String::new();
     for (i, c) in head.chars().enumerate() {
-        if i > 0 && (head.len() - i) % 3 == 0 {
+        if i > 0 && (head.len() - i).is_multiple_of(3) {
             out.push('\u{2009}');
         }
         out.push(c);

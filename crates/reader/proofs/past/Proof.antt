@@ -44,7 +44,7 @@ use denote.Triple.Clauses.{ensured, lasts}
 use Rattle.records.specs.declared.Num.{Num}
 use Rattle.records.proofs.Num as N
 use Rattle.records.proofs.Num.Laws as N′
-use Rattle.reader.specs.Rows.{endOf}
+use Rattle.reader.specs.Relations.Rows.{endOf}
 use Rattle.reader.specs.declared.Reader.{Reader}
 use Rattle.reader.proofs.Reader as T
 use Rattle.reader.proofs.Reader.Laws as T′

@@ -4,9 +4,9 @@ use contract.Running.{givenOf, tables, tablesOf}
 use denote.Triple.Spec.{tripleOf}
 use denote.Triple.Table.{entered, cited}
 use Rattle.records.specs.Bytes.{byteAt}
-use Rattle.records.proofs.read_byte.Symbol as read-def
-use Rattle.records.proofs.read_byte.Symbol.{name as #records·read-byte}
-use Rattle.records.proofs.read_byte.Met as read-thm
+use Rattle.records.proofs.bytes.read_byte.Symbol as read-def
+use Rattle.records.proofs.bytes.read_byte.Symbol.{name as #records·read-byte}
+use Rattle.records.proofs.bytes.read_byte.Met as read-thm
 use Rattle.reader.proofs.Apart.{Reads, reads-meets}
 use Rattle.reader.proofs.read_byte.Key.{name as #reader·read-byte}
 use Rattle.reader.proofs.read_byte as read

@@ -4,9 +4,9 @@ use contract.Running.{givenOf, tables, tablesOf}
 use denote.Triple.Spec.{tripleOf}
 use denote.Triple.Table.{entered, cited}
 use Rattle.records.specs.Bytes.{spanAt}
-use Rattle.records.proofs.read_str.Symbol as read-def
-use Rattle.records.proofs.read_str.Symbol.{name as #records·read-str}
-use Rattle.records.proofs.read_str.Met as read-thm
+use Rattle.records.proofs.bytes.read_str.Symbol as read-def
+use Rattle.records.proofs.bytes.read_str.Symbol.{name as #records·read-str}
+use Rattle.records.proofs.bytes.read_str.Met as read-thm
 use Rattle.reader.proofs.Apart.{Reads, reads-meets}
 use Rattle.reader.proofs.read_str.Key.{name as #reader·read-str}
 use Rattle.reader.proofs.read_str as read

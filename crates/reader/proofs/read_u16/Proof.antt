@@ -4,9 +4,9 @@ use contract.Running.{givenOf, tables, tablesOf}
 use denote.Triple.Spec.{tripleOf}
 use denote.Triple.Table.{entered, cited}
 use Rattle.records.specs.Bytes.{numberAt}
-use Rattle.records.proofs.read_u16.Symbol as read-def
-use Rattle.records.proofs.read_u16.Symbol.{name as #records·read-u16}
-use Rattle.records.proofs.read_u16.Met as read-thm
+use Rattle.records.proofs.bytes.read_u16.Symbol as read-def
+use Rattle.records.proofs.bytes.read_u16.Symbol.{name as #records·read-u16}
+use Rattle.records.proofs.bytes.read_u16.Met as read-thm
 use Rattle.reader.proofs.Apart.{Reads, reads-meets}
 use Rattle.reader.proofs.read_u16.Key.{name as #reader·read-u16}
 use Rattle.reader.proofs.read_u16 as read

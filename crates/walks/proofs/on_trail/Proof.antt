@@ -4,7 +4,7 @@ use Rattle.records.specs.Bytes.{numberAt}
 use Rattle.records.specs.Got.{got}
 use Rattle.resolution.specs.Resolve.{onTrail}
 use Rattle.walks.proofs.Trail.{trail-here, trail-next, trail-none}
-use Rattle.walks.specs.Trail.{patternBytes, trailOf}
+use Rattle.walks.specs.Relations.Trail.{patternBytes, trailOf}
 use borrow.Author.Needs.{needs}
 use mathlib.Core.Path.{_∙_, _≡_, refl, sym}
 use native.Mathlib.Omega.{arith}

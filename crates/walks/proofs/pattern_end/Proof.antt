@@ -3,7 +3,7 @@ use Rattle.records.proofs.Laws.{number-inv}
 use Rattle.records.proofs.Views.{num-is, num-none}
 use Rattle.reader.proofs.Laws.{size-is, size-ends, size-leaves}
 use Rattle.walks.proofs.Trail.{end-clip, end-full}
-use Rattle.walks.specs.Trail.{no-end}
+use Rattle.walks.specs.Relations.Trail.{no-end}
 use borrow.Author.Needs.{needs}
 use mathlib.Core.Path.{refl}
 use native.Mathlib.Omega.{arith}

@@ -1,4 +1,4 @@
-//! Writes the sheets' images into the program that prints them: `sheets ROOT`.
+//! Writes the sheets' images into the file that embeds them: `sheets ROOT`.
 #![forbid(unsafe_code)]
 
 use harness::sheets::{embedded, EMBEDDED};

@@ -22,7 +22,7 @@ fn main() {
         let root = Path::new(&root);
         let write = |name: &str, file: File| write(root, name, file);
         write(
-            "replay_numbers/data/numbers.vec",
+            "replay/data/numbers.vec",
             vectors::numbers::make(seed, cases),
         );
         write(
@@ -33,12 +33,9 @@ fn main() {
             "replay_formats/data/formats.vec",
             vectors::formats::make(seed, cases),
         );
+        write("replay/data/images.vec", vectors::images::make(seed, cases));
         write(
-            "replay_records/data/images.vec",
-            vectors::images::make(seed, cases),
-        );
-        write(
-            "replay_bundle/data/additions.vec",
+            "replay/data/additions.vec",
             vectors::additions::make(seed, cases),
         );
     });

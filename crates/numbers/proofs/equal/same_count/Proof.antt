@@ -1,6 +1,6 @@
 -- `numbers::equal::same_count` meets its contract, by cases.
 use Rattle.numbers.specs.Equal.{sameCount}
-use Rattle.numbers.specs.Shown.{toldCount}
+use Rattle.decimals.specs.Relations.Shown.{toldCount}
 use borrow.Author.Needs.{needs}
 use Rattle.numbers.proofs.equal.same_count.Statement.{statement}
 use Rattle.numbers.proofs.equal.same_count.Tie as tie

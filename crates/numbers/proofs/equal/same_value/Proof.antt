@@ -1,5 +1,5 @@
 -- `numbers::equal::same_value` meets its contract: shortest decimals are equal where their values are.
-use Rattle.numbers.proofs.Shortest.{shortest-same}
+use Rattle.decimals.proofs.Shortest.{shortest-same}
 use Rattle.numbers.specs.Equal.{sameValue}
 use borrow.Author.Needs.{needs}
 use borrow.Author.Tests.{eq-eqb, ne-eqb}

@@ -1,82 +1,18 @@
--- `numbers::merge::count_named` meets its contract: the names are compared one after the other.
-use Rattle.numbers.specs.Shown.{countNamed}
+-- `numbers::merge::count_named` meets its contract: the list has the names in their order.
+use Rattle.numbers.proofs.Merging.{count-place}
 use borrow.Author.Needs.{needs}
-use mathlib.Core.Path.{_∙_, sym}
+use mathlib.Core.Path.{_∙_}
 use Rattle.numbers.proofs.merge.count_named.Statement.{statement}
 use Rattle.numbers.proofs.merge.count_named.Tie as tie
 
-slice-aggregate-same-bytes : tie.Need-slice-aggregate-same-bytes
-slice-aggregate-same-bytes c = search needs
+slice-aggregate-place-in : tie.Need-slice-aggregate-place-in
+slice-aggregate-place-in c = search needs
 
-same-bytes-requires : tie.Need-same-bytes-requires
-same-bytes-requires c κs = search needs
+place-in-requires : tie.Need-place-in-requires
+place-in-requires c κs = search needs
 
 returns : tie.Need-returns
-unfolding countNamed
-returns c = simp (sym (c .before .same-bytes .ensures) ∙ c .if1 .taken)
-
-slice-aggregate-same-bytes-2 : tie.Need-slice-aggregate-same-bytes-2
-slice-aggregate-same-bytes-2 c = search needs
-
-same-bytes-requires-2 : tie.Need-same-bytes-requires-2
-same-bytes-requires-2 c κs = search needs
-
-returns-2 : tie.Need-returns-2
-unfolding countNamed
-returns-2 c =
-    let p = sym (c .before .before .before .before .same-bytes .ensures) ∙ c .before .before .before .if1 .left in
-    simp (p, sym (c .before .same-bytes2 .ensures) ∙ c .if2 .taken)
-
-slice-aggregate-same-bytes-3 : tie.Need-slice-aggregate-same-bytes-3
-slice-aggregate-same-bytes-3 c = search needs
-
-same-bytes-requires-3 : tie.Need-same-bytes-requires-3
-same-bytes-requires-3 c κs = search needs
-
-returns-3 : tie.Need-returns-3
-unfolding countNamed
-returns-3 c =
-    let p = sym (c .before .before .before .before .before .before .before .same-bytes .ensures) ∙ c .before .before .before .before .before .before .if1 .left in
-    let q = sym (c .before .before .before .before .same-bytes2 .ensures) ∙ c .before .before .before .if2 .left in
-    simp (p, q, sym (c .before .same-bytes3 .ensures) ∙ c .if3 .taken)
-
-slice-aggregate-same-bytes-4 : tie.Need-slice-aggregate-same-bytes-4
-slice-aggregate-same-bytes-4 c = search needs
-
-same-bytes-requires-4 : tie.Need-same-bytes-requires-4
-same-bytes-requires-4 c κs = search needs
-
-returns-4 : tie.Need-returns-4
-unfolding countNamed
-returns-4 c =
-    let p = sym (c .before .before .before .before .before .before .before .before .before .before .same-bytes .ensures) ∙ c .before .before .before .before .before .before .before .before .before .if1 .left in
-    let q = sym (c .before .before .before .before .before .before .before .same-bytes2 .ensures) ∙ c .before .before .before .before .before .before .if2 .left in
-    let r = sym (c .before .before .before .before .same-bytes3 .ensures) ∙ c .before .before .before .if3 .left in
-    simp (p, q, r, sym (c .before .same-bytes4 .ensures) ∙ c .if4 .taken)
-
-slice-aggregate-same-bytes-5 : tie.Need-slice-aggregate-same-bytes-5
-slice-aggregate-same-bytes-5 c = search needs
-
-same-bytes-requires-5 : tie.Need-same-bytes-requires-5
-same-bytes-requires-5 c κs = search needs
-
-returns-5 : tie.Need-returns-5
-unfolding countNamed
-returns-5 c =
-    let p = sym (c .before .before .before .before .before .before .before .before .before .before .before .before .before .same-bytes .ensures) ∙ c .before .before .before .before .before .before .before .before .before .before .before .before .if1 .left in
-    let q = sym (c .before .before .before .before .before .before .before .before .before .before .same-bytes2 .ensures) ∙ c .before .before .before .before .before .before .before .before .before .if2 .left in
-    let r = sym (c .before .before .before .before .before .before .before .same-bytes3 .ensures) ∙ c .before .before .before .before .before .before .if3 .left in
-    let s = sym (c .before .before .before .before .same-bytes4 .ensures) ∙ c .before .before .before .if4 .left in
-    simp (p, q, r, s, sym (c .before .same-bytes5 .ensures) ∙ c .if5 .taken)
-
-returns-6 : tie.Need-returns-6
-unfolding countNamed
-returns-6 c =
-    let p = sym (c .before .before .before .before .before .before .before .before .before .before .before .before .before .same-bytes .ensures) ∙ c .before .before .before .before .before .before .before .before .before .before .before .before .if1 .left in
-    let q = sym (c .before .before .before .before .before .before .before .before .before .before .same-bytes2 .ensures) ∙ c .before .before .before .before .before .before .before .before .before .if2 .left in
-    let r = sym (c .before .before .before .before .before .before .before .same-bytes3 .ensures) ∙ c .before .before .before .before .before .before .if3 .left in
-    let s = sym (c .before .before .before .before .same-bytes4 .ensures) ∙ c .before .before .before .if4 .left in
-    simp (p, q, r, s, sym (c .before .same-bytes5 .ensures) ∙ c .if5 .left)
+returns c = c .place-in .ensures ∙ count-place _
 
 pub count-named-spec : {M : Type 1} → statement M
-count-named-spec = tie.close (tie.spec slice-aggregate-same-bytes same-bytes-requires returns slice-aggregate-same-bytes-2 same-bytes-requires-2 returns-2 slice-aggregate-same-bytes-3 same-bytes-requires-3 returns-3 slice-aggregate-same-bytes-4 same-bytes-requires-4 returns-4 slice-aggregate-same-bytes-5 same-bytes-requires-5 returns-5 returns-6)
+count-named-spec = tie.close (tie.spec slice-aggregate-place-in place-in-requires returns)

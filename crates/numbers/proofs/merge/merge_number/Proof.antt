@@ -1,8 +1,9 @@
 -- `numbers::merge::merge_number` meets its contract: a name names the place of its count, and only the fraction's minimum has a limit.
 use Prim.Native.Nat.{ℕ}
 use Rattle.numbers.proofs.Merging.{long-named, merge-named}
-use Rattle.numbers.specs.Decimal.{fractionLimit}
-use Rattle.numbers.specs.Shown.{mergedOf, told}
+use Rattle.decimals.specs.Decimal.{fractionLimit}
+use Rattle.numbers.specs.Relations.Shown.{mergedOf}
+use Rattle.decimals.specs.Relations.Shown.{told}
 use Rattle.numbers.specs.Value.{mergeOne, toCount}
 use borrow.Author.Needs.{needs}
 use denote.Ref.{now}

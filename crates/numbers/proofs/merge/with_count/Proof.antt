@@ -1,5 +1,5 @@
 -- `numbers::merge::with_count` meets its contract: each count is what `count_at` gives of it.
-use Rattle.numbers.specs.Shown.{setCount}
+use Rattle.numbers.specs.Relations.Shown.{setCount}
 use borrow.Author.Needs.{needs}
 use Rattle.numbers.proofs.merge.with_count.Statement.{statement}
 use Rattle.numbers.proofs.merge.with_count.Tie as tie

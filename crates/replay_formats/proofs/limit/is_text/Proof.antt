@@ -1,7 +1,7 @@
 -- Safe, and it ends: i stays below the length.
 use Prim.Native.Nat.{_-_}
-use borrow.Author.Needs.{needs}
 use lib.ListN.{length}
+use borrow.Author.Needs.{needs}
 use Rattle.replay_formats.proofs.limit.is_text.Statement.{statement}
 use Rattle.replay_formats.proofs.limit.is_text.Tie as tie
 

@@ -45,20 +45,21 @@ use denote.Triple.Clauses.{ensured, lasts}
 use denote.Triple.Table.{entered, cited}
 use denote.Triple.Walked.{says, Stays, stay-dropped, gave-ref, gave-slice, walkOf, goes-dropped, goes-gave-ref, goes-gave-slice, Walks, ends-at, walked, walk-meets}
 use denote.Exit.{yes}
-use Rattle.scope.specs.declared.state.Scope.{Scope}
-use Rattle.scope.specs.Meets.{world, env, PatternAt, depthS}
-use Rattle.resolver.specs.Formats.{newS}
-use Rattle.scope.proofs.state.Scope as T
-use Rattle.scope.proofs.state.Scope.Laws as T′
-use Rattle.resolver.proofs.Cells.{one-cell, lies, lay}
-use Rattle.resolver.proofs.lent.new as new
-use Rattle.resolver.proofs.lent.new.Symbol as new-def
-use Rattle.resolver.proofs.lent.new.Symbol.{name as #new}
-use Rattle.resolver.proofs.lent.new.Met as new-thm
-use Rattle.resolver.proofs.lent.enter as enter′
-use Rattle.resolver.proofs.lent.enter.Symbol as enter-def
-use Rattle.resolver.proofs.lent.enter.Symbol.{name as #enter}
-use Rattle.resolver.proofs.lent.enter.Met as enter-thm
+use Rattle.state.specs.declared.Scope.{Scope}
+use Rattle.scope.specs.Relations.Meets.{world, env}
+use Rattle.scope.specs.Relations.Members.{PatternAt}
+use Rattle.state.specs.Setters.{depthS, newS}
+use Rattle.state.proofs.Scope as T
+use Rattle.state.proofs.Scope.Laws as T′
+use Rattle.state.proofs.Cells.{one-cell, lies, lay}
+use Rattle.state.proofs.new as new
+use Rattle.state.proofs.new.Symbol as new-def
+use Rattle.state.proofs.new.Symbol.{name as #new}
+use Rattle.state.proofs.new.Met as new-thm
+use Rattle.state.proofs.enter as enter′
+use Rattle.state.proofs.enter.Symbol as enter-def
+use Rattle.state.proofs.enter.Symbol.{name as #enter}
+use Rattle.state.proofs.enter.Met as enter-thm
 use Rattle.resolver.proofs.lent.write as write
 use Rattle.resolver.proofs.lent.write.Symbol as write-def
 use Rattle.resolver.proofs.lent.write.Symbol.{name as #write}
@@ -399,6 +400,6 @@ resolve-spec 𝓤 H 𝓜 𝓖 𝓡 =
     entered 𝓤 H (tripleOf 𝓤 H (𝓖 .A) resolve.signature (resolve.spec 𝓤 H (𝓖 .A) (𝓜 .mem) (𝓡 .run)))
     (tables 𝓤 H 𝓜 𝓡 code.env .C) (tables 𝓤 H 𝓜 𝓡 code.env .Λ) #resolve code.function (code.unfolded 𝓤 H 𝓜 𝓡)
     (resolve-meets 𝓤 H (𝓖 .A) (givenOf 𝓤 H 𝓜 𝓖) (𝓜 .mem) (𝓡 .run) (tablesOf 𝓤 H 𝓜 (tables 𝓤 H 𝓜 𝓡 code.env))
-    (cited 𝓤 H (New 𝓤 H (𝓖 .A) (𝓜 .mem) (𝓡 .run)) 𝓜 𝓡 code.env #new new-def.routine code.calls-resolver·lent·new (new-thm.met 𝓤 H 𝓜 𝓖 𝓡))
-    (cited 𝓤 H (Enter 𝓤 H (𝓖 .A) (𝓜 .mem) (𝓡 .run)) 𝓜 𝓡 code.env #enter enter-def.routine code.calls-resolver·lent·enter (enter-thm.met 𝓤 H 𝓜 𝓖 𝓡))
+    (cited 𝓤 H (New 𝓤 H (𝓖 .A) (𝓜 .mem) (𝓡 .run)) 𝓜 𝓡 code.env #new new-def.routine code.calls-state·new (new-thm.met 𝓤 H 𝓜 𝓖 𝓡))
+    (cited 𝓤 H (Enter 𝓤 H (𝓖 .A) (𝓜 .mem) (𝓡 .run)) 𝓜 𝓡 code.env #enter enter-def.routine code.calls-state·enter (enter-thm.met 𝓤 H 𝓜 𝓖 𝓡))
     (cited 𝓤 H (Write 𝓤 H (𝓖 .A) (𝓜 .mem) (𝓡 .run)) 𝓜 𝓡 code.env #write write-def.routine code.calls-resolver·lent·write (write-thm.met 𝓤 H 𝓜 𝓖 𝓡)))

@@ -1,5 +1,5 @@
--- `resolver::lent::write` meets its contract: a walk of its MIR, by hand. The scope's borrow is opened and the scope is copied out; the other borrows go on to `write_pattern` for good, at their own lifetimes, shares and names; what `write_pattern` returned is stored in the scope's cell, and the borrow is closed at it.
--- All that the proof knows of `write_pattern` is that it meets its contract.
+-- `resolver::lent::write` meets its contract: a walk of its MIR, by hand. The scope's borrow is opened and the scope is copied out; the other borrows go on to `pattern::write` for good, at their own lifetimes, shares and names; what `pattern::write` returned is stored in the scope's cell, and the borrow is closed at it.
+-- All that the proof knows of `pattern::write` is that it meets its contract.
 -- Assumes nothing.
 use mathlib.Core.Path.{refl}
 use Prim.Native.Nat.{ℕ, _<_, _^_}
@@ -41,15 +41,16 @@ use denote.Triple.Clauses.{ensured, lasts}
 use denote.Triple.Table.{entered, cited}
 use denote.Triple.Walked.{says, Stays, stay-ref, stay-dropped, gave-ref, gave-slice, walkOf, goes-ref, goes-dropped, goes-gave-ref, goes-gave-slice, Walks, ends-at, walked, walk-meets}
 use denote.Exit.{yes}
-use Rattle.scope.specs.declared.state.Scope.{Scope}
-use Rattle.scope.specs.Meets.{world, env, PatternAt}
-use Rattle.scope.proofs.state.Scope as T
-use Rattle.scope.proofs.state.Scope.Laws as T′
-use Rattle.resolver.proofs.Cells.{one-cell}
-use Rattle.resolver.proofs.write.write_pattern as write-pattern
-use Rattle.resolver.proofs.write.write_pattern.Symbol as write-pattern-def
-use Rattle.resolver.proofs.write.write_pattern.Symbol.{name as #write-pattern}
-use Rattle.resolver.proofs.write.write_pattern.Met as write-pattern-thm
+use Rattle.state.specs.declared.Scope.{Scope}
+use Rattle.scope.specs.Relations.Meets.{world, env}
+use Rattle.scope.specs.Relations.Members.{PatternAt}
+use Rattle.state.proofs.Scope as T
+use Rattle.state.proofs.Scope.Laws as T′
+use Rattle.state.proofs.Cells.{one-cell}
+use Rattle.resolver.proofs.pattern.write as write-pattern
+use Rattle.resolver.proofs.pattern.write.Symbol as write-pattern-def
+use Rattle.resolver.proofs.pattern.write.Symbol.{name as #write-pattern}
+use Rattle.resolver.proofs.pattern.write.Met as write-pattern-thm
 use Rattle.resolver.proofs.lent.write.Key.{name as #write}
 use Rattle.resolver.proofs.lent.write as write
 use Rattle.resolver.proofs.lent.write.Statement as stated
@@ -102,7 +103,7 @@ stayed = (
 abbrev WritePattern : {M : Type 1} (𝓤 : URA M) (H : Heap 𝓤) (A : Atoms 𝓤) (mem : Memory → SProp 𝓤) (run : Routine → Fun 𝓤) → Contract 𝓤
 WritePattern 𝓤 H A mem run = tripleOf 𝓤 H A write-pattern.signature (write-pattern.spec 𝓤 H A mem run)
 
--- the last values of `write_pattern`'s parameters
+-- the last values of `pattern::write`'s parameters
 abbrev Zs : Type 0
 Zs = Unit {0} × (Unit {0} × (List ℕ × (List ℕ × (List ℕ × (List ℕ × (Unit {0} × (Unit {0} × (Unit {0} × Unit {0}))))))))
 
@@ -124,7 +125,7 @@ module _ {M : Type 1} (𝓤 : URA M) (H : Heap 𝓤) (A : Atoms 𝓤) (W : Given
   abbrev Post : Val → SProp 𝓤
   Post = walkOf 𝓤 H A write.ended stayed (write.clauses 𝓤 H A at-mem run) .post ((κs, qs, tt, xs, at), tt)
 
-  -- the lifetimes and the tokens that `write_pattern` takes
+  -- the lifetimes and the tokens that `pattern::write` takes
   abbrev κs₆ : Lfts 6
   κs₆ = (κs .0, (κs .1 .0, (κs .1 .1 .0, (κs .1 .1 .1 .0, (κs .1 .1 .1 .1 .0, (κs .1 .1 .1 .1 .1 .0, tt))))))
 
@@ -141,7 +142,7 @@ module _ {M : Type 1} (𝓤 : URA M) (H : Heap 𝓤) (A : Atoms 𝓤) (W : Given
   Toks = ‵ (flft (κs .0) (qs .0)) ⊛ ‵ (flft (κs .1 .0) (qs .1 .0)) ⊛ ‵ (flft (κs .1 .1 .0) (qs .1 .1 .0)) ⊛ ‵ (flft (κs .1 .1 .1 .0) (qs .1 .1 .1 .0)) ⊛ ‵ (flft (κs .1 .1 .1 .1 .0) (qs .1 .1 .1 .1 .0)) ⊛ ‵ (flft (κs .1 .1 .1 .1 .1 .0) (qs .1 .1 .1 .1 .1 .0))
       ⊛ ‵ (flft (κs .1 .1 .1 .1 .1 .1 .0) (qs .1 .1 .1 .1 .1 .1 .0)) ⊛ ‵ ftrue
 
-  -- what goes to `write_pattern` for good: the tokens, and what the slices and the trail own
+  -- what goes to `pattern::write` for good: the tokens, and what the slices and the trail own
   abbrev Lent : Item 𝓤
   Lent = ‵ (flft (κs .0) (qs .0)) ⊛ ‵ (flft (κs .1 .0) (qs .1 .0)) ⊛ ‵ (flft (κs .1 .1 .0) (qs .1 .1 .0)) ⊛ ‵ (flft (κs .1 .1 .1 .0) (qs .1 .1 .1 .0)) ⊛ ‵ (flft (κs .1 .1 .1 .1 .0) (qs .1 .1 .1 .1 .0)) ⊛ ‵ (flft (κs .1 .1 .1 .1 .1 .0) (qs .1 .1 .1 .1 .1 .0))
       ⊛ ‵ (ShrSlice (named 0) (κs .0) u8 .own s (sv s ∷ [])) ⊛ ‵ (ShrSlice (named 1) (κs .1 .0) u8 .own g (sv g ∷ [])) ⊛ ‵ (MutSlice (named 2) (κs .1 .1 .0) u8 .own x (sv x ∷ [])) ⊛ ‵ (MutSlice (named 3) (κs .1 .1 .1 .0) u8 .own l (sv l ∷ []))
@@ -158,7 +159,7 @@ module _ {M : Type 1} (𝓤 : URA M) (H : Heap 𝓤) (A : Atoms 𝓤) (W : Given
       move ! (4 ∷ 0 ∷ []) $ join ! $ move ! (4 ∷ 0 ∷ []) $ join ! $ move ! (4 ∷ 0 ∷ []) $ join ! $ move ! (6 ∷ 0 ∷ []) $ join ! $ move ! (6 ∷ 0 ∷ []) $ join ! $ move ! (6 ∷ 0 ∷ []) $ join ! $ move ! (6 ∷ 0 ∷ []) $ join ! $ move ! (6 ∷ 0 ∷ []) $
       join ! $ move ! (6 ∷ 0 ∷ []) $ join ! $ frame ! $ frame ! $ frame ! $ keep ! (1 ∷ []) $ done !
 
-  -- what `write_pattern`'s triple binds outside, and that the caller has what it asks
+  -- what `pattern::write`'s triple binds outside, and that the caller has what it asks
   abbrev to-write : Val → WritePattern 𝓤 H A at-mem run .Ghost
   to-write u = ((κs₆, qs₆, tt, xs₆, (sv s ∷ [], (sv g ∷ [], (sv x ∷ [], (sv l ∷ [], (sv k ∷ [], (vptr (t .ptr .0) (t .ptr .1) ∷ [], (u ∷ [], (vint w64 n ∷ [], (vint w64 m ∷ [], tt)))))))))), tt)
 
@@ -171,7 +172,7 @@ module _ {M : Type 1} (𝓤 : URA M) (H : Heap 𝓤) (A : Atoms 𝓤) (W : Given
       owned ! R (Is R) (LL.makes T.the-type T′.the-plain 𝓤 H A) h _ is $ fjoin ! $ move ! (3 ∷ 0 ∷ []) $ fjoin ! $ move ! (2 ∷ 0 ∷ []) $ fjoin ! $ move ! (2 ∷ 0 ∷ []) $ fjoin ! $ move ! (2 ∷ 0 ∷ []) $ fjoin ! $ move ! (2 ∷ 0 ∷ []) $ fjoin ! $
       move ! (2 ∷ 0 ∷ []) $ fjoin ! $ move ! (1 ∷ 0 ∷ []) $ join ! $ frame ! $ done !
 
-  -- what `write_pattern` ensures
+  -- what `pattern::write` ensures
   abbrev Said : Scope → Zs → Type 0
   Said r zs = PatternAt (env (s .now) (g .now)) n m (world (s .now) (x .now) (l .now) (k .now) (t .now) h) (world (s .now) (zs .1 .1 .0) (zs .1 .1 .1 .0) (zs .1 .1 .1 .1 .0) (zs .1 .1 .1 .1 .1 .0) r)
 
@@ -204,7 +205,7 @@ module _ {M : Type 1} (𝓤 : URA M) (H : Heap 𝓤) (A : Atoms 𝓤) (W : Given
         split ! $ move ! (1 ∷ []) $ split ! $ move ! (1 ∷ []) $ split ! $ move ! (2 ∷ 0 ∷ 1 ∷ []) $
         opens ! tt R {h = h} (c .ptr .0) (c .ptr .1) (λ vs. one-cell ! R (Is R) (shows 𝓤 H A R) (LL.val T.the-type T′.the-laws) (LL.tells T.the-type T′.the-laws) fullShare h vs (c .ptr .0) (c .ptr .1) (λ u is.
         use1 W (‵ (fat fullShare T′.mir (c .ptr .0) (c .ptr .1) u)) (W .laws .raw-at fullShare T′.mir (c .ptr .0) (c .ptr .1) u) $
-        -- [the scope's cell; what the scope owns; the open borrow; obs; auth; what goes to `write_pattern`; the locals]
+        -- [the scope's cell; what the scope owns; the open borrow; obs; auth; what goes to `pattern::write`; the locals]
         assigns ! (addr ! (from ! (fld ! refl (hop ! (look-in ! 36 (sub ! 0 refl (whole !))) (stop !))))) (from ! (stop !)) (init ! 20 refl (tt, tt)) $
         assigns ! (agg ! (and-then ! (load ! (from ! (stop !)) (look ! 20 refl)) (and-then ! (load ! (from ! (fld ! refl (stop !))) (look-in ! 36 (sub ! 1 refl (whole !)))) (no-more !)))) (from ! (stop !)) (init ! 18 refl (tt, (tt, (record { fits = rx .0 }, tt)))) $
         assigns ! (addr ! (from ! (fld ! refl (hop ! (look-in ! 34 (sub ! 0 refl (whole !))) (stop !))))) (from ! (stop !)) (init ! 16 refl (tt, tt)) $
@@ -213,7 +214,7 @@ module _ {M : Type 1} (𝓤 : URA M) (H : Heap 𝓤) (A : Atoms 𝓤) (W : Given
         assigns ! (agg ! (and-then ! (load ! (from ! (stop !)) (look ! 12 refl)) (and-then ! (load ! (from ! (fld ! refl (stop !))) (look-in ! 32 (sub ! 1 refl (whole !)))) (no-more !)))) (from ! (stop !)) (init ! 10 refl (tt, (tt, (record { fits = rk .0 }, tt)))) $
         assigns ! (addr ! (from ! (hop ! (look ! 30 refl) (stop !)))) (from ! (stop !)) (init ! 8 refl (tt, tt)) $
         assigns ! (of-opd ! (load ! (from ! (hop ! (look ! 28 refl) (stop !))) (look ! 0 refl))) (from ! (stop !)) (init ! 6 refl (LL.lawful T.the-type T′.the-laws 𝓤 H A W .typed h _ is .0)) $
-        -- `write_pattern`
+        -- `pattern::write`
         move ! (5 ∷ []) $ use1 W (raw (WritePattern 𝓤 H A at-mem run .pre (to-write u))) (goes u is) $
         calls-at ! fm (WritePattern 𝓤 H A at-mem run) known (to-write u) (and-then ! (load ! (from ! (stop !)) (look ! 40 refl)) (and-then ! (load ! (from ! (stop !)) (look ! 38 refl)) (and-then ! (load ! (from ! (stop !)) (look ! 18 refl)) (and-then ! (load ! (from ! (stop !)) (look ! 14 refl)) (and-then ! (load ! (from ! (stop !)) (look ! 10 refl)) (and-then ! (load ! (from ! (stop !)) (look ! 8 refl)) (and-then ! (load ! (from ! (stop !)) (look ! 6 refl)) (and-then ! (load ! (from ! (stop !)) (look ! 26 refl)) (and-then ! (load ! (from ! (stop !)) (look ! 24 refl)) (no-more !)))))))))) (λ w.
         use1 W (later (some (λ (r : Scope). (Alive ⊛ ‵ (R .own r (w ∷ []))) ⊛ raw (ensured 𝓤 H A write-pattern.ended (write-pattern.clauses 𝓤 H A at-mem run) κs₆ xs₆ tt r)))) (id⊢ 𝓤 _) $ await ! tt $ pick ! (λ r.
@@ -282,4 +283,4 @@ write-spec 𝓤 H 𝓜 𝓖 𝓡 =
     entered 𝓤 H (tripleOf 𝓤 H (𝓖 .A) write.signature (write.spec 𝓤 H (𝓖 .A) (𝓜 .mem) (𝓡 .run)))
     (tables 𝓤 H 𝓜 𝓡 code.env .C) (tables 𝓤 H 𝓜 𝓡 code.env .Λ) #write code.function (code.unfolded 𝓤 H 𝓜 𝓡)
     (write-meets 𝓤 H (𝓖 .A) (givenOf 𝓤 H 𝓜 𝓖) (𝓜 .mem) (𝓡 .run) (tablesOf 𝓤 H 𝓜 (tables 𝓤 H 𝓜 𝓡 code.env))
-    (cited 𝓤 H (WritePattern 𝓤 H (𝓖 .A) (𝓜 .mem) (𝓡 .run)) 𝓜 𝓡 code.env #write-pattern write-pattern-def.routine code.calls-resolver·write·write-pattern (write-pattern-thm.met 𝓤 H 𝓜 𝓖 𝓡)))
+    (cited 𝓤 H (WritePattern 𝓤 H (𝓖 .A) (𝓜 .mem) (𝓡 .run)) 𝓜 𝓡 code.env #write-pattern write-pattern-def.routine code.calls-resolver·pattern·write (write-pattern-thm.met 𝓤 H 𝓜 𝓖 𝓡)))

@@ -1,17 +1,17 @@
 -- `scope::call::merge_named` meets its contract: each turn merges the first of the named arguments that are left.
 use Prim.Native.Nat.{ℕ}
-use Rattle.numbers.specs.Shown.{shownOptions}
+use Rattle.decimals.specs.Relations.Shown.{shownOptions}
 use Rattle.records.specs.Decode.{many, namedAt}
 use Rattle.records.specs.Got.{got}
 use Rattle.records.specs.Tree.{Named}
 use Rattle.scope.proofs.Calls.{Merging, merging-end, merging-long, merging-never, merging-next, merging-room}
-use Rattle.scope.specs.Meets.{NamedIn, namedTexts}
-use Rattle.scope.specs.Values.{mergedAll}
+use Rattle.scope.specs.Relations.Meets.{NamedIn, namedTexts}
+use Rattle.scope.specs.Relations.Values.{mergedAll}
 use borrow.Author.Needs.{needs}
 use mathlib.Core.List.{[], _∷_}
 use mathlib.Core.Path.{_≡_, refl}
 use native.Mathlib.Omega.{arith}
-use Rattle.numbers.specs.Decimal.{Options}
+use Rattle.decimals.specs.Decimal.{Options}
 use Rattle.scope.proofs.call.merge_named.Statement.{statement}
 use Rattle.scope.proofs.call.merge_named.Tie as tie
 

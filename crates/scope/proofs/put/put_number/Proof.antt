@@ -1,7 +1,7 @@
 -- `scope::put::put_number` meets its contract: the text of the number that the code holds is that of the number it stands for.
 use Prim.Native.Nat.{_-_, ℕ}
 use Rattle.numbers.specs.Number.{rangedText}
-use Rattle.numbers.specs.Shown.{told}
+use Rattle.decimals.specs.Relations.Shown.{told}
 use Rattle.resolution.specs.Effect.{write}
 use Rattle.scope.proofs.Buffers.{shown-text}
 use Rattle.scope.proofs.Steps.{acts-as}
@@ -9,7 +9,7 @@ use borrow.Author.Needs.{needs}
 use lib.ListN.{length, length-take, take}
 use mathlib.Core.Path.{_∙_, _≡_, ap, sym}
 use native.Mathlib.Omega.{arith}
-use Rattle.numbers.specs.declared.types.Number as code-number
+use Rattle.decimals.specs.declared.types.Number as code-number
 use Rattle.scope.proofs.put.put_number.Statement.{statement}
 use Rattle.scope.proofs.put.put_number.Tie as tie
 

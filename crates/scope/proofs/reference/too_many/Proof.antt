@@ -1,5 +1,5 @@
 -- `scope::reference::too_many` meets its contract.
-use Rattle.texts.specs.Report.{plainOf}
+use Rattle.texts.specs.Relations.Report.{plainOf}
 use borrow.Author.Needs.{needs}
 use Rattle.scope.proofs.reference.too_many.Statement.{statement}
 use Rattle.scope.proofs.reference.too_many.Tie as tie

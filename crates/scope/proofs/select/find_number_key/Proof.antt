@@ -1,7 +1,7 @@
 -- `scope::select::find_number_key` meets its contract: the first variant whose key matches the number.
 use Prim.Native.Nat.{ℕ}
-use Rattle.numbers.specs.Decimal.{Number}
-use Rattle.numbers.specs.Shown.{shown}
+use Rattle.decimals.specs.Decimal.{Number}
+use Rattle.decimals.specs.Relations.Shown.{shown}
 use Rattle.numbers.specs.Value.{numeric}
 use Rattle.records.proofs.Laws.{span-in}
 use Rattle.records.proofs.Views.{num-is, num-none}

@@ -5,7 +5,7 @@ use Rattle.records.specs.Got.{got}
 use Rattle.records.specs.Tree.{Named}
 use Rattle.resolution.specs.Resolve.{lastNamed}
 use Rattle.scope.proofs.Named.{Seeks, seek-end, seek-here, seek-later, seek-never, seek-room, seek-start}
-use Rattle.scope.specs.Meets.{NamedIn, namedTexts}
+use Rattle.scope.specs.Relations.Meets.{NamedIn, namedTexts}
 use borrow.Author.Needs.{needs}
 use mathlib.Core.List.{List, [], _∷_}
 use mathlib.Core.Logic.{⊎-elim}

@@ -1,6 +1,6 @@
 -- `scope::value::kept` meets its contract: the back moves down, and the highest use is the greater of two.
 use Prim.Native.Nat.{_+_, _-_, max, ℕ}
-use Rattle.scope.specs.Values.{heldS}
+use Rattle.state.specs.Setters.{heldS}
 use borrow.Author.Needs.{needs}
 use mathlib.Core.Path.{_≡_, ap}
 use native.Mathlib.Omega.{arith}

@@ -1,6 +1,7 @@
 -- `scope::value::list_variable` meets its contract: nothing inside a term, outside the reference is listed.
 use Rattle.scope.proofs.Variables.{missing-listed, missing-silent}
-use Rattle.texts.specs.Report.{optionOf, referredOf}
+use Rattle.texts.specs.Optional.{optionOf}
+use Rattle.texts.specs.Relations.Report.{referredOf}
 use borrow.Author.Needs.{needs}
 use native.Mathlib.Omega.{arith}
 use Rattle.scope.proofs.value.list_variable.Statement.{statement}

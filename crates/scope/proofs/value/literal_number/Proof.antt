@@ -3,7 +3,7 @@ use Rattle.scope.proofs.Merges.{literal-bad, literal-is}
 use borrow.Author.Needs.{needs}
 use mathlib.Core.Path.{ap}
 use native.Mathlib.Omega.{arith}
-use Rattle.scope.specs.declared.state.Value.the-variants as val
+use Rattle.state.specs.declared.Value.the-variants as val
 use Rattle.scope.proofs.value.literal_number.Statement.{statement}
 use Rattle.scope.proofs.value.literal_number.Tie as tie
 

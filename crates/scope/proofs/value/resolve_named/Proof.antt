@@ -1,8 +1,8 @@
 -- `scope::value::resolve_named` meets its contract: each turn resolves the first of the named arguments that are left.
 use Prim.Native.Nat.{ℕ}
 use Rattle.scope.proofs.Values.{named-digits-as, named-end, named-string-as, named-unread}
-use Rattle.scope.specs.Meets.{NamedAt}
-use Rattle.scope.specs.declared.state.Scope.{Scope}
+use Rattle.scope.specs.Relations.Leaves.{NamedAt}
+use Rattle.state.specs.declared.Scope.{Scope}
 use borrow.Author.Needs.{needs}
 use lib.ListN.{length}
 use mathlib.Core.List.{List}

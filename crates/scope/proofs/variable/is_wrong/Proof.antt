@@ -1,46 +1,17 @@
 -- `scope::variable::is_wrong` meets its contract: only Error is.
-use Prim.Native.Nat.{ℕ}
+use Rattle.scope.proofs.Wrong.{is-wrong-so, is-wrong-not, wrong-else}
 use borrow.Author.Needs.{needs}
-use mathlib.Core.Path.{_≡_}
-use native.Mathlib.Omega.{arith}
 use Rattle.scope.proofs.variable.is_wrong.Statement.{statement}
 use Rattle.scope.proofs.variable.is_wrong.Tie as tie
 
 enum-told : tie.Need-enum-told
 enum-told c = search needs
 
-enum-told-2 : tie.Need-enum-told-2
-enum-told-2 c = search needs
-
-enum-told-3 : tie.Need-enum-told-3
-enum-told-3 c = search needs
-
-enum-told-4 : tie.Need-enum-told-4
-enum-told-4 c = search needs
-
-enum-told-5 : tie.Need-enum-told-5
-enum-told-5 c = search needs
-
-enum-told-6 : tie.Need-enum-told-6
-enum-told-6 c = search needs
-
 returns : tie.Need-returns
-returns c = ((λ q. c .enum-told .given .1), λ q w. let z : _≡_ {A = ℕ} 0 1 = cc in omega arith)
+returns c = is-wrong-so (c .enum-told .given .1)
 
 returns-2 : tie.Need-returns-2
-returns-2 c = ((λ q. let z : _≡_ {A = ℕ} 0 1 = cc in absurd (omega arith)), λ q w. let g = c .enum-told2 .given .1 in let z : _≡_ {A = ℕ} 0 1 = cc in omega arith)
-
-returns-3 : tie.Need-returns-3
-returns-3 c = ((λ q. let z : _≡_ {A = ℕ} 0 1 = cc in absurd (omega arith)), λ q w. let g = c .enum-told3 .given .1 in let z : _≡_ {A = ℕ} 0 1 = cc in omega arith)
-
-returns-4 : tie.Need-returns-4
-returns-4 c = ((λ q. let z : _≡_ {A = ℕ} 0 1 = cc in absurd (omega arith)), λ q w. let g = c .enum-told4 .given .1 in let z : _≡_ {A = ℕ} 0 1 = cc in omega arith)
-
-returns-5 : tie.Need-returns-5
-returns-5 c = ((λ q. let z : _≡_ {A = ℕ} 0 1 = cc in absurd (omega arith)), λ q w. let g = c .enum-told5 .given .1 in let z : _≡_ {A = ℕ} 0 1 = cc in omega arith)
-
-returns-6 : tie.Need-returns-6
-returns-6 c = ((λ q. let z : _≡_ {A = ℕ} 0 1 = cc in absurd (omega arith)), λ q w. let g = c .enum-told6 .given .1 in let z : _≡_ {A = ℕ} 0 1 = cc in omega arith)
+returns-2 c = is-wrong-not (wrong-else (c .before .args .value) (c .match .keys2))
 
 pub is-wrong-spec : {M : Type 1} → statement M
-is-wrong-spec = tie.close (tie.spec enum-told enum-told-2 enum-told-3 enum-told-4 enum-told-5 enum-told-6 returns returns-2 returns-3 returns-4 returns-5 returns-6)
+is-wrong-spec = tie.close (tie.spec enum-told returns returns-2)

@@ -1,25 +1,17 @@
 -- `scope::variable::write_result` meets its contract: the value's text, the name of a function that gave Error, or a reference to one that is missing.
-use Rattle.scope.proofs.Written.{result-none, result-out, result-value, result-wrong}
-use Rattle.texts.specs.Report.{optionOf, referredOf}
-use borrow.Author.Needs.{needs}
+use Rattle.scope.proofs.Written.{result-none, result-value, result-wrong}
+use Rattle.texts.specs.Optional.{optionOf}
+use Rattle.texts.specs.Relations.Report.{referredOf}
 use native.Mathlib.Omega.{arith}
+use borrow.Author.Needs.{needs}
 use Rattle.scope.proofs.variable.write_result.Statement.{statement}
 use Rattle.scope.proofs.variable.write_result.Tie as tie
 
-returns : tie.Need-returns
-returns c = λ t. result-out _ _ _ _ _ (λ p q. let h = c .if1 .taken in omega arith)
-
-returns-2 : tie.Need-returns-2
-returns-2 c = λ t. result-out _ _ _ _ _ (λ p q. let h = c .if2 .taken in omega arith)
+text-of-requires : tie.Need-text-of-requires
+text-of-requires c κs = search needs
 
 is-wrong-requires : tie.Need-is-wrong-requires
 is-wrong-requires c κs = search needs
-
-part-put-braced-start : tie.Need-part-put-braced-start
-part-put-braced-start c = search needs
-
-part-put-braced-end : tie.Need-part-put-braced-end
-part-put-braced-end c = search needs
 
 slice-aggregate-put-braced : tie.Need-slice-aggregate-put-braced
 slice-aggregate-put-braced c = search needs
@@ -36,8 +28,8 @@ same-length c = search needs
 same-length-2 : tie.Need-same-length-2
 same-length-2 c = search needs
 
-returns-3 : tie.Need-returns-3
-returns-3 c = λ t. result-wrong _ _ _ _ (c .before .before .before .before .before .before .before .before .before .before .before .before .if3 .taken) (c .before .before .before .before .before .before .before .before .before .before .before .is-wrong .ensures .0 (c .before .before .before .before .before .before .before .before .before .before .if4 .taken)) (c .before .before .before .before .put-braced .ensures _ _ t)
+returns : tie.Need-returns
+returns c = λ t. result-wrong _ _ _ _ (c .before .before .before .before .before .before .before .before .before .before .before .before .text-of .ensures) (c .before .before .before .before .before .before .before .before .before .before .before .if1 .taken) (c .before .before .before .before .before .before .before .before .before .before .is-wrong .ensures .0 (c .before .before .before .before .before .before .before .before .before .if2 .taken)) (c .before .before .before .before .put-braced .ensures _ _ t)
 
 put-value-requires : tie.Need-put-value-requires
 put-value-requires c κs = search needs
@@ -48,14 +40,8 @@ same-length-3 c = search needs
 same-length-4 : tie.Need-same-length-4
 same-length-4 c = search needs
 
-returns-4 : tie.Need-returns-4
-returns-4 c = λ t. result-value _ _ _ _ (c .before .before .before .before .before .before .before .before .before .if3 .taken) (c .before .before .before .before .before .before .before .before .is-wrong .ensures .1 (c .before .before .before .before .before .before .before .if4 .left)) (c .before .before .before .before .put-value .ensures .0 _ t) (λ y k. c .before .before .before .before .put-value .ensures .1 y k _ t)
-
-part-list-reference-start : tie.Need-part-list-reference-start
-part-list-reference-start c = search needs
-
-part-list-reference-end : tie.Need-part-list-reference-end
-part-list-reference-end c = search needs
+returns-2 : tie.Need-returns-2
+returns-2 c = λ t. result-value _ _ _ _ (c .before .before .before .before .before .before .before .before .before .if1 .taken) (c .before .before .before .before .before .before .before .before .is-wrong .ensures .1 (c .before .before .before .before .before .before .before .if2 .left)) (c .before .before .before .before .put-value .ensures .0 _ t) (λ y k. c .before .before .before .before .put-value .ensures .1 y k _ t)
 
 slice-aggregate-list-reference : tie.Need-slice-aggregate-list-reference
 slice-aggregate-list-reference c = search needs
@@ -65,12 +51,6 @@ list-reference-requires c κs = search needs
 
 slice-aggregate-put-braced-3 : tie.Need-slice-aggregate-put-braced-3
 slice-aggregate-put-braced-3 c = search needs
-
-part-put-braced-start-2 : tie.Need-part-put-braced-start-2
-part-put-braced-start-2 c = search needs
-
-part-put-braced-end-2 : tie.Need-part-put-braced-end-2
-part-put-braced-end-2 c = search needs
 
 slice-aggregate-put-braced-4 : tie.Need-slice-aggregate-put-braced-4
 slice-aggregate-put-braced-4 c = search needs
@@ -87,9 +67,9 @@ same-length-6 c = search needs
 same-length-7 : tie.Need-same-length-7
 same-length-7 c = search needs
 
-returns-5 : tie.Need-returns-5
+returns-3 : tie.Need-returns-3
 unfolding referredOf optionOf
-returns-5 c = λ t. result-none _ _ _ _ (c .before .before .before .before .before .before .before .before .before .before .before .before .before .before .before .before .if3 .left) (c .before .before .before .before .before .before .before .before .before .before .before .before .list-reference .ensures .0 _ _ _ t) (λ n. c .before .before .before .before .before .before .before .before .before .before .before .before .list-reference .ensures .1 n (omega arith) _ _ _ t) (c .before .before .before .before .put-braced2 .ensures _ _ t)
+returns-3 c = λ t. result-none _ _ _ _ (c .before .before .before .before .before .before .before .before .before .before .before .before .before .before .before .text-of .ensures) (c .before .before .before .before .before .before .before .before .before .before .before .before .before .before .if1 .left) (c .before .before .before .before .before .before .before .before .before .before .before .list-reference .ensures .0 _ _ _ t) (λ n. c .before .before .before .before .before .before .before .before .before .before .before .list-reference .ensures .1 n (omega arith) _ _ _ t) (c .before .before .before .before .put-braced2 .ensures _ _ t)
 
 pub write-result-spec : {M : Type 1} → statement M
-write-result-spec = tie.close (tie.spec returns returns-2 is-wrong-requires part-put-braced-start part-put-braced-end slice-aggregate-put-braced slice-aggregate-put-braced-2 put-braced-requires same-length same-length-2 returns-3 put-value-requires same-length-3 same-length-4 returns-4 part-list-reference-start part-list-reference-end slice-aggregate-list-reference list-reference-requires slice-aggregate-put-braced-3 part-put-braced-start-2 part-put-braced-end-2 slice-aggregate-put-braced-4 put-braced-requires-2 same-length-5 same-length-6 same-length-7 returns-5)
+write-result-spec = tie.close (tie.spec text-of-requires is-wrong-requires slice-aggregate-put-braced slice-aggregate-put-braced-2 put-braced-requires same-length same-length-2 returns put-value-requires same-length-3 same-length-4 returns-2 slice-aggregate-list-reference list-reference-requires slice-aggregate-put-braced-3 slice-aggregate-put-braced-4 put-braced-requires-2 same-length-5 same-length-6 same-length-7 returns-3)

@@ -1,21 +1,11 @@
 -- `scope::variable::write_variable` meets its contract: the value's text where the variable is there, else its name in braces.
-use Rattle.scope.proofs.Variables.{write-found, write-missing, write-out}
+use Rattle.scope.proofs.Variables.{write-found, write-missing}
 use borrow.Author.Needs.{needs}
-use native.Mathlib.Omega.{arith}
 use Rattle.scope.proofs.variable.write_variable.Statement.{statement}
 use Rattle.scope.proofs.variable.write_variable.Tie as tie
 
-returns : tie.Need-returns
-returns c = λ t. write-out _ _ _ _ _ _ _ t _ (λ p q. let h = c .if1 .taken in omega arith)
-
-returns-2 : tie.Need-returns-2
-returns-2 c = λ t. write-out _ _ _ _ _ _ _ t _ (λ p q. let h = c .if2 .taken in omega arith)
-
-part-find-variable-start : tie.Need-part-find-variable-start
-part-find-variable-start c = search needs
-
-part-find-variable-end : tie.Need-part-find-variable-end
-part-find-variable-end c = search needs
+text-of-requires : tie.Need-text-of-requires
+text-of-requires c κs = search needs
 
 find-variable-requires : tie.Need-find-variable-requires
 find-variable-requires c κs = search needs
@@ -26,23 +16,11 @@ enum-known-v c = search needs
 enum-told : tie.Need-enum-told
 enum-told c = search needs
 
-part-list-variable-start : tie.Need-part-list-variable-start
-part-list-variable-start c = search needs
-
-part-list-variable-end : tie.Need-part-list-variable-end
-part-list-variable-end c = search needs
-
 list-variable-requires : tie.Need-list-variable-requires
 list-variable-requires c κs = search needs
 
 slice-aggregate-put-braced : tie.Need-slice-aggregate-put-braced
 slice-aggregate-put-braced c = search needs
-
-part-put-braced-start : tie.Need-part-put-braced-start
-part-put-braced-start c = search needs
-
-part-put-braced-end : tie.Need-part-put-braced-end
-part-put-braced-end c = search needs
 
 slice-aggregate-put-braced-2 : tie.Need-slice-aggregate-put-braced-2
 slice-aggregate-put-braced-2 c = search needs
@@ -59,8 +37,8 @@ same-length-2 c = search needs
 same-length-3 : tie.Need-same-length-3
 same-length-3 c = search needs
 
-returns-3 : tie.Need-returns-3
-returns-3 c = λ t. write-missing _ _ _ _ _ _ _ t _ (λ u L q k lv. c .before .before .before .before .before .before .before .before .before .before .before .before .before .before .before .before .before .find-variable .ensures u _ _ _ t L q k lv) (c .before .before .before .before .before .before .before .before .before .before .before .before .before .before .before .enum-told .given .1) (c .before .before .before .before .before .before .before .before .before .before .before .before .list-variable .ensures) (c .before .before .before .before .put-braced .ensures _ _ t)
+returns : tie.Need-returns
+returns c = λ t. write-missing _ _ _ _ _ _ _ t _ (c .before .before .before .before .before .before .before .before .before .before .before .before .before .before .before .before .text-of .ensures) (λ u L q k lv. c .before .before .before .before .before .before .before .before .before .before .before .before .before .before .before .find-variable .ensures u _ _ _ t L q k lv) (c .before .before .before .before .before .before .before .before .before .before .before .before .before .enum-told .given .1) (c .before .before .before .before .before .before .before .before .before .before .before .list-variable .ensures) (c .before .before .before .before .put-braced .ensures _ _ t)
 
 put-value-requires : tie.Need-put-value-requires
 put-value-requires c κs = search needs
@@ -71,8 +49,8 @@ same-length-4 c = search needs
 same-length-5 : tie.Need-same-length-5
 same-length-5 c = search needs
 
-returns-4 : tie.Need-returns-4
-returns-4 c = λ t. write-found _ _ _ _ _ _ _ t _ (λ u L q k lv. c .before .before .before .before .before .before .before .before .before .before .find-variable .ensures u _ _ _ t L q k lv) (c .before .before .before .before .before .before .before .before .v .given .1) (c .before .before .before .before .put-value .ensures .0 _ t) (λ y hy. c .before .before .before .before .put-value .ensures .1 y hy _ t)
+returns-2 : tie.Need-returns-2
+returns-2 c = λ t. write-found _ _ _ _ _ _ _ t _ (c .before .before .before .before .before .before .before .before .before .before .before .text-of .ensures) (λ u L q k lv. c .before .before .before .before .before .before .before .before .before .before .find-variable .ensures u _ _ _ t L q k lv) (c .before .before .before .before .before .before .before .before .v .given .1) (c .before .before .before .before .put-value .ensures .0 _ t) (λ y hy. c .before .before .before .before .put-value .ensures .1 y hy _ t)
 
 pub write-variable-spec : {M : Type 1} → statement M
-write-variable-spec = tie.close (tie.spec returns returns-2 part-find-variable-start part-find-variable-end find-variable-requires enum-known-v enum-told part-list-variable-start part-list-variable-end list-variable-requires slice-aggregate-put-braced part-put-braced-start part-put-braced-end slice-aggregate-put-braced-2 put-braced-requires same-length same-length-2 same-length-3 returns-3 put-value-requires same-length-4 same-length-5 returns-4)
+write-variable-spec = tie.close (tie.spec text-of-requires find-variable-requires enum-known-v enum-told list-variable-requires slice-aggregate-put-braced slice-aggregate-put-braced-2 put-braced-requires same-length same-length-2 same-length-3 returns put-value-requires same-length-4 same-length-5 returns-2)

@@ -14,11 +14,11 @@ use Rattle.walks.proofs.+skip_arguments+skip_expression+skip_inlines+sk
 use Rattle.walks.proofs.skip_term_arguments.Reads as skip-term-arguments-reads
 use Rattle.walks.proofs.skip_term_arguments.Kinds as skip-term-arguments-kinds
 use Rattle.walks.proofs.+skip_arguments+skip_expression+skip_inlines+skip_term_arguments.Lts-skip_term_arguments as skip-term-arguments-lts
-use Rattle.records.proofs.read_u16.Reads as read-u16-reads
+use Rattle.records.proofs.bytes.read_u16.Reads as read-u16-reads
 use Rattle.walks.proofs.skip_named.Reads as skip-named-reads
-use Rattle.records.proofs.read_byte.Reads as read-byte-reads
+use Rattle.records.proofs.bytes.read_byte.Reads as read-byte-reads
 use Rattle.walks.proofs.skip_variants.Reads as skip-variants-reads
-use Rattle.records.proofs.skip_str.Reads as skip-str-reads
+use Rattle.records.proofs.bytes.skip_str.Reads as skip-str-reads
 use Rattle.walks.proofs.skip_optional.Reads as skip-optional-reads
 
 abbrev pub μ-skip-arguments : cycle.Measures 1 skip-arguments-kinds.ps ℕ

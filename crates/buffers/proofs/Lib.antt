@@ -1,0 +1,2 @@
+-- Laws of bytes written over a buffer.
+pub mod Place

@@ -1,0 +1,2 @@
+-- What the functions do to a buffer.
+pub mod Append

@@ -1,0 +1,2 @@
+-- What the answers of the code say of the definitions.
+pub mod Places

@@ -1,0 +1,6 @@
+-- Bytes, decimals and their text; Relations has what only contracts and proofs use.
+pub mod Ascii
+pub mod Bytes
+pub mod Decimal
+pub mod Text
+pub mod Relations

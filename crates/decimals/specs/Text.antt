@@ -1,0 +1,54 @@
+-- A number's text.
+use Prim.Native.Nat.{ℕ, zero, suc, _+_, _-_, _/_, _%_, _^_}
+use mathlib.Core.List.{List, [], _∷_, _++_}
+use mathlib.Core.Bool.{Bool, true, false, _&&_}
+use mathlib.Core.Option.{Option, none, some}
+use lib.ListN.{replicate}
+use lib.Dec.{ltb, leb}
+use Rattle.decimals.specs.Ascii.{ascii}
+use Rattle.decimals.specs.Decimal.{Options, Number, shortest, orZero, digitsLimit, scaleLimit, fractionLimit}
+
+-- the lowest w digits of n, the highest first; 48 is `0`
+unfoldable pub digitsOf : ℕ → ℕ → List ℕ
+digitsOf zero n = []
+digitsOf (suc w) n = digitsOf w (n / 10) ++ ((48 + n % 10) ∷ [])
+
+-- how many digits n has (at least 1); a fuel of n is enough
+unfoldable pub width : ℕ → ℕ → ℕ
+width zero n = 1
+width (suc f) n = elim (ltb n 10) [ true ↦ 1 | false ↦ suc (width f (n / 10)) ]
+
+-- a whole number without leading zeros
+unfoldable pub decimal : ℕ → List ℕ
+decimal n = digitsOf (width n n) n
+
+-- "`-` kept on zero"
+unfoldable pub signText : Bool → List ℕ
+signText true = ascii "-"
+signText false = []
+
+-- "then zeros are added up to the minimum, and with no dot present a dot is written first, so minimum 0 gives `5.`"; 46 is `.`
+unfoldable pub fractionText : Option ℕ → ℕ → ℕ → List ℕ
+fractionText none d zero = []
+fractionText none d (suc s) = 46 ∷ digitsOf (suc s) d
+fractionText (some m) d s = 46 ∷ (digitsOf s d ++ replicate (m - s) 48)
+
+-- the text of d over 10^s, a shortest decimal
+unfoldable pub decimalText : Bool → Option ℕ → ℕ × ℕ → List ℕ
+decimalText negative m (d, s) = signText negative ++ (decimal (d / 10 ^ s) ++ fractionText m d s)
+
+-- "Text is the shortest decimal, `-` kept on zero; then zeros are added up to the minimum"
+unfoldable pub numberText : Number → List ℕ
+numberText n = decimalText (n .negative) (n .options .minimumFractionDigits) (shortest (n .digits) (n .scale))
+
+-- the greatest length of a number's text: a sign, 15 digits, a dot, 19 fraction digits
+abbrev pub textLimit : ℕ
+textLimit = 36
+
+-- the numbers that literals, arguments and accepted merges give
+unfoldable pub inRange : Number → Bool
+inRange n = ltb (n .digits) digitsLimit && (leb (n .scale) scaleLimit && leb (orZero (n .options .minimumFractionDigits)) fractionLimit)
+
+-- the text of a number in range, and none of any other
+unfoldable pub rangedText : Number → List ℕ
+rangedText n = elim (inRange n) [ true ↦ numberText n | false ↦ [] ]

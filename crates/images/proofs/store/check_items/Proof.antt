@@ -1,0 +1,48 @@
+-- What is left of the items ends where all of them end.
+use Rattle.records.proofs.Laws.{many-more, many-none, many-stop}
+use Rattle.records.specs.Decode.{many}
+use Rattle.records.specs.Relations.Answer.{nextOf}
+use Rattle.records.specs.Images.{itemAt}
+use borrow.Author.Needs.{needs}
+use denote.Ref.{now}
+use mathlib.Core.List.{[], _∷_}
+use mathlib.Core.Path.{_∙_, _≡_, refl, sym}
+use native.Mathlib.Omega.{arith}
+use Rattle.images.proofs.store.check_items.Statement.{statement}
+use Rattle.images.proofs.store.check_items.Tie as tie
+
+abbrev Inv-loop : tie.InvT-loop
+Inv-loop s from count at₀ left₀ at left = nextOf (many [] _∷_ left itemAt s at) ≡ nextOf (many [] _∷_ count itemAt s from)
+
+abbrev μ-loop : tie.MeasureT-loop
+μ-loop s from count at₀ left₀ at left = left
+
+loop-holds : tie.Need-loop-holds Inv-loop μ-loop
+loop-holds c = refl
+
+check-item-requires : tie.Need-check-item-requires Inv-loop μ-loop
+check-item-requires c κs = search needs
+
+enum-known-e : tie.Need-enum-known-e Inv-loop μ-loop
+enum-known-e c = search needs
+
+enum-told : tie.Need-enum-told Inv-loop μ-loop
+enum-told c = search needs
+
+returns : tie.Need-returns Inv-loop μ-loop
+returns c = many-stop [] _∷_ itemAt (now (c .before .before .before .before .before .before .args .s)) (c .before .before .before .before .loop .left) (c .before .before .before .before .loop .at) (c .before .before .before .loop-test .taken) (c .before .before .check-item .ensures) (c .enum-told .given .1) ∙ c .before .before .before .before .loop .inv
+
+sub-left : tie.Need-sub-left Inv-loop μ-loop
+sub-left c = omega arith
+
+loop-less : tie.Need-loop-less Inv-loop μ-loop
+loop-less c = omega arith
+
+loop-again : tie.Need-loop-again Inv-loop μ-loop
+loop-again c = sym (many-more [] _∷_ itemAt (now (c .before .before .before .before .before .before .before .args .s)) (c .before .before .before .before .before .loop .left) (c .before .before .before .before .before .loop .at) (c .before .before .before .before .loop-test .taken) (c .before .before .before .check-item .ensures) (c .before .e .given .1)) ∙ c .before .before .before .before .before .loop .inv
+
+returns-2 : tie.Need-returns-2 Inv-loop μ-loop
+returns-2 c = many-none [] _∷_ itemAt (now (c .before .before .before .args .s)) (c .before .loop .left) (c .before .loop .at) (c .loop-test .left) ∙ c .before .loop .inv
+
+pub check-items-spec : {M : Type 1} → statement M
+check-items-spec = tie.close (tie.spec Inv-loop μ-loop loop-holds check-item-requires enum-known-e enum-told returns sub-left loop-less loop-again returns-2)

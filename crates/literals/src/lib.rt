@@ -1,0 +1,2 @@
+// Number literals: which texts are one, and the number that one stands for.
+pub mod literal;

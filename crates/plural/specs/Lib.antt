@@ -1,0 +1,3 @@
+-- Plural categories; Relations has what only contracts and proofs use.
+pub mod Plural
+pub mod Relations

@@ -1,0 +1,3 @@
+// Plural categories of numbers.
+pub mod plural;
+pub mod types;

@@ -1,3 +1,0 @@
-pub mod Bundles
-pub mod Sheets
-pub mod Says

@@ -1,0 +1,45 @@
+-- `records::check_number` meets its contract.
+use Rattle.records.proofs.Laws.{fails-to, holds, next-got, num-step, num-stop, str-in}
+use Rattle.records.specs.Decode.{literalNumberAt, ruledAt}
+use borrow.Author.Needs.{needs}
+use denote.Ref.{now}
+use mathlib.Core.Path.{_∙_, sym}
+use native.Mathlib.Omega.{arith}
+use Rattle.records.proofs.literal.check_number.Statement.{statement}
+use Rattle.records.proofs.literal.check_number.Tie as tie
+
+read-str-requires : tie.Need-read-str-requires
+read-str-requires c κs = search needs
+
+enum-known-p : tie.Need-enum-known-p
+enum-known-p c = search needs
+
+enum-told : tie.Need-enum-told
+enum-told c = search needs
+
+returns : tie.Need-returns
+unfolding literalNumberAt ruledAt
+returns c = num-stop _ _ (c .before .before .read-str .ensures) (c .enum-told .given .1)
+
+sub-is-number : tie.Need-sub-is-number
+sub-is-number c = let h = str-in (now (c .before .before .before .before .before .args .s)) (c .before .before .before .before .before .args .at) (c .before .before .before .read-str .ensures) (c .before .p .given .1) in omega arith
+
+part-is-number-start : tie.Need-part-is-number-start
+part-is-number-start c = let h = str-in (now (c .before .before .before .before .before .args .s)) (c .before .before .before .before .before .args .at) (c .before .before .before .read-str .ensures) (c .before .p .given .1) in omega arith
+
+part-is-number-end : tie.Need-part-is-number-end
+part-is-number-end c = let h = str-in (now (c .before .before .before .before .before .args .s)) (c .before .before .before .before .before .args .at) (c .before .before .before .read-str .ensures) (c .before .p .given .1) in omega arith
+
+is-number-requires : tie.Need-is-number-requires
+is-number-requires c κs = search needs
+
+returns-2 : tie.Need-returns-2
+unfolding literalNumberAt ruledAt
+returns-2 c = num-step _ _ (c .before .before .before .before .before .before .read-str .ensures) (c .before .before .before .before .p .given .1) (holds _ _ (sym (c .before .is-number .ensures) ∙ c .if1 .taken) (next-got _ _))
+
+returns-3 : tie.Need-returns-3
+unfolding literalNumberAt ruledAt
+returns-3 c = num-step _ _ (c .before .before .before .before .before .before .read-str .ensures) (c .before .before .before .before .p .given .1) (fails-to _ _ (sym (c .before .is-number .ensures) ∙ c .if1 .left))
+
+pub check-number-spec : {M : Type 1} → statement M
+check-number-spec = tie.close (tie.spec read-str-requires enum-known-p enum-told returns sub-is-number part-is-number-start part-is-number-end is-number-requires returns-2 returns-3)

@@ -1,0 +1,3 @@
+-- What the answers of the code say of the definitions.
+pub mod Slots
+pub mod Seen

@@ -1,0 +1,3 @@
+// Which entries of an image repeat an id.
+pub mod marks;
+pub mod slots;

@@ -1,0 +1,49 @@
+-- What a reference leads to: for each answer of the code, the step that then makes what the reference asks for.
+use mathlib.Core.Path.{_≡_}
+use mathlib.Core.List.{List}
+use mathlib.Core.Bool.{Bool, true, false, _&&_}
+use Prim.Native.Nat.{ℕ, _-_, _≤_}
+use lib.ListN.{length}
+use lib.Dec.{leb}
+use Rattle.records.specs.Bytes.{part}
+use Rattle.records.specs.Errors.{noValue}
+use Rattle.texts.specs.Relations.Report.{referredOf}
+use Rattle.texts.specs.declared.errors.Referred.the-variants as referred
+use Rattle.resolution.specs.Effect.{report, emit}
+use Rattle.state.specs.declared.Scope.{Scope}
+use Rattle.state.specs.Setters.{countedS}
+use Rattle.scope.specs.Relations.Meets.{World, world, Kept, Acts, env}
+use Rattle.scope.specs.Relations.Leaves.{ErrorAt, RefErrorAt}
+use Rattle.scope.specs.Relations.Members.{TrackAt, MessageAt, FoundTermAt}
+use Rattle.resolver.specs.declared.reference.Target as code-target
+use Rattle.resolver.specs.declared.reference.Target.the-variants as target
+
+-- a lookup unfound more, if it was lost
+unfoldable pub countIf : Bool → Scope → Scope
+countIf true s = countedS s
+countIf false s = s
+
+-- four numbers, none less than the one before it
+unfoldable pub inOrder : ℕ → ℕ → ℕ → ℕ → Bool
+inOrder a b c d = leb a b && (leb b c && leb c d)
+
+-- a message reference at `at`
+pub data MessageTarget (s : List ℕ) (at : ℕ) (r : code-target.Target) : Type 0 where
+  message-goes : (q : ℕ) → r ≡ target.At q → ((image : List ℕ) (w v : World) → TrackAt (env s image) at q w v → MessageAt (env s image) at w v) → MessageTarget s at r
+  message-lacks : (from to : ℕ) → r ≡ target.NoValue from to → from ≤ to → to ≤ length s
+      → ((image x l w l1 x′ w′ t : List ℕ) (st s1 s′ : Scope)
+      → ((i x w t : List ℕ) → Kept (world i x l w t st) (world i x l1 w t s1))
+      × (length (part s from (to - from)) ≤ 255 → (i x w t : List ℕ) → Acts (emit (report (noValue (part s from (to - from))))) (world i x l w t st) (world i x l1 w t s1))
+      → ErrorAt s at x w s1 x′ w′ s′ → MessageAt (env s image) at (world s x l w t st) (world s x′ l1 w′ t s′)) → MessageTarget s at r
+  message-misses : (lost : Bool) → r ≡ target.Missing lost
+      → ((image x l w x′ l′ w′ t : List ℕ) (st s′ : Scope) → RefErrorAt s at (referredOf referred.Message) x l w (countIf lost st) x′ l′ w′ s′
+      → MessageAt (env s image) at (world s x l w t st) (world s x′ l′ w′ t s′)) → MessageTarget s at r
+  message-bad : r ≡ target.Bad → ((image : List ℕ) (w : World) → MessageAt (env s image) at w w) → MessageTarget s at r
+
+-- a term reference at `at`, its arguments known
+pub data TermTarget (s : List ℕ) (at : ℕ) (r : code-target.Target) : Type 0 where
+  term-goes : (q : ℕ) → r ≡ target.At q → ((image : List ℕ) (w v : World) → TrackAt (env s image) at q w v → FoundTermAt (env s image) at w v) → TermTarget s at r
+  term-misses : (lost : Bool) → r ≡ target.Missing lost
+      → ((image x l w x′ l′ w′ t : List ℕ) (st s′ : Scope) → RefErrorAt s at (referredOf referred.Term) x l w (countIf lost st) x′ l′ w′ s′
+      → FoundTermAt (env s image) at (world s x l w t st) (world s x′ l′ w′ t s′)) → TermTarget s at r
+  term-bad : r ≡ target.Bad → ((image : List ℕ) (w : World) → FoundTermAt (env s image) at w w) → TermTarget s at r

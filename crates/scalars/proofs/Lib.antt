@@ -1,0 +1,3 @@
+-- Laws of digits and scalars.
+pub mod Scalars
+pub mod Examples

@@ -1,4 +1,0 @@
-pub mod Options
-pub mod Finds
-pub mod Fields
-pub mod Making

@@ -1,0 +1,2 @@
+-- What the functions do to a list.
+pub mod Report

@@ -1,0 +1,65 @@
+// Files of vectors: WVEC, version 1, u32 count of cases, and the cases, each after its u32 length; and the counts that are printed.
+use crate::fields::part;
+use crate::fields::u32_at;
+use libc::STDOUT_FILENO;
+
+// A descriptor; below 0, and said so, where there is no such file.
+pub fn open(name: &[u8]) -> i32 {
+    let fd = os::open_read(name);
+    if fd < 0 {
+        os::fail(name);
+    }
+    fd
+}
+
+// How many cases the file has that starts here.
+pub fn case_count(fd: i32) -> u64 {
+    let mut head = [0u8; 9];
+    io::read_full(fd, &mut head);
+    u32_at(&head, 5)
+}
+
+fn next_length(fd: i32) -> usize {
+    let mut head = [0u8; 4];
+    io::read_full(fd, &mut head);
+    u32_at(&head, 0) as usize
+}
+
+// The next case, put at the front of a buffer: its length, and 0 where the file ends before it does, or the buffer.
+pub fn next_case(fd: i32, buffer: &mut [u8]) -> usize {
+    let n = next_length(fd);
+    if buffer.len() < n {
+        return 0;
+    }
+    let zero = 0usize;
+    if io::read_full(fd, &mut buffer[zero..n]) < n {
+        return 0;
+    }
+    n
+}
+
+// Counts, each at a place.
+pub struct Counts {
+    pub n: [u64; 128],
+}
+
+pub fn no_counts() -> Counts {
+    Counts { n: [0; 128] }
+}
+
+// The count at a place, so much higher.
+pub fn counted(c: Counts, place: usize, by: u64) -> Counts {
+    let mut r = c;
+    if place < 128 {
+        r.n[place] = std::num::wrapping_add_u64(r.n[place], by);
+    }
+    r
+}
+
+// The count at a place, and the words that stand in a text from a position on, so many bytes.
+pub fn line(c: Counts, place: usize, text: &[u8], at: usize, length: usize) {
+    if place < 128 {
+        io::print_decimal(STDOUT_FILENO, c.n[place]);
+        io::write_all(STDOUT_FILENO, part(text, at, length));
+    }
+}

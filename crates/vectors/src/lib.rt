@@ -1,0 +1,29 @@
+// What the programs share that replay the oracle's vectors: the fields of a case, the bytes that a case lends, the files, and the counts.
+pub mod compare;
+pub mod fields;
+pub mod files;
+
+pub use compare::all_are;
+pub use compare::begins;
+pub use compare::copied;
+pub use compare::differs;
+pub use compare::lent;
+pub use fields::blob;
+pub use fields::byte;
+pub use fields::flag;
+pub use fields::part;
+pub use fields::past;
+pub use fields::past_blob;
+pub use fields::past_string;
+pub use fields::string;
+pub use fields::tail;
+pub use fields::u16_at;
+pub use fields::u32_at;
+pub use fields::u64_at;
+pub use files::Counts;
+pub use files::case_count;
+pub use files::counted;
+pub use files::line;
+pub use files::next_case;
+pub use files::no_counts;
+pub use files::open;

@@ -1,5 +1,0 @@
-pub mod Poured
-pub mod Strs
-pub mod Refusals
-pub mod Errors
-pub mod Messages

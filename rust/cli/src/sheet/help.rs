@@ -1,0 +1,29 @@
+//! How `sheet` is used.
+
+/// What `--help` prints.
+pub const TEXT: &str = "\
+Prints the sheet of a sighting in English, Danish, Russian and Welsh.
+
+  --species NAME    porpoise, minke, humpback or dolphin; any other is an animal (porpoise)
+  --count N         the size of the group, calves included (3)
+  --calves N        how many of them are calves (1)
+  --distance N      metres from the flight line (400)
+  --leg N           the leg of the flight (7)
+  --observer NAME   who saw it (Anna Berg)
+  --no FIELD        leave a field out: species, count, calves, distance, leg or observer
+
+  --language L      one language only: en, da, ru or cy
+  --message ID      one message only, in place of the sheet's
+  --attribute ID    an attribute of that message
+  --store FILE      format from this store, in place of the sheets
+  --arguments FILE  format with this arguments image, in place of the fields
+  --isolate         put isolation marks around what is filled in
+  --figures         add the figures: placeables begun, ids unfound, workspace
+  --lines           a line for each message, its parts set apart by tabs:
+                    language, message, begun, unfound, errors, text, each error
+
+  --save-store FILE --save-arguments FILE
+                    write the store of the last language, and the arguments image
+
+A number has at most 15 digits: 3, -3 or 3.5. Of equal options the last holds.
+";

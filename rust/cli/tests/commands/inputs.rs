@@ -1,0 +1,161 @@
+//! The files that the stored command lines name.
+
+use std::path::Path;
+use weszlagyo::syntax::*;
+use weszlagyo::{FluentArgs, FluentBundle, FluentNumber, FluentResource, FluentValue, Locale};
+
+mod embedded {
+    #![allow(dead_code)]
+    include!(concat!(
+        env!("CARGO_MANIFEST_DIR"),
+        "/../../crates/sheet/src/embedded.rt"
+    ));
+}
+
+/// Writes them into a folder.
+pub fn write(folder: &Path) {
+    let mixed = mixed();
+    let usual = embedded::SIGHTING.to_vec();
+    let files = [
+        ("mixed.store", mixed.clone()),
+        ("cut.store", mixed[..mixed.len() - 1].to_vec()),
+        ("longer.store", [mixed.as_slice(), b"behind it"].concat()),
+        ("cy.store", sheet(Locale::Cy, embedded::CY.to_vec())),
+        ("deep.store", deep()),
+        ("text.store", b"This is no store.\n".to_vec()),
+        ("most.store", vec![0; 1_048_576]),
+        ("too-long.store", vec![0; 1_048_577]),
+        ("usual.arguments", usual.clone()),
+        ("cut.arguments", usual[..usual.len() - 1].to_vec()),
+        ("other.arguments", arguments()),
+        ("no.arguments", vec![0, 0, 0, 7, 1, 0, 0]),
+        ("most.arguments", vec![0; 65_536]),
+        ("too-long.arguments", vec![0; 65_537]),
+        ("empty", Vec::new()),
+    ];
+    for (name, bytes) in files {
+        std::fs::write(folder.join(name), bytes).expect("a file");
+    }
+    std::fs::create_dir(folder.join("folder")).expect("a folder");
+}
+
+fn store(locale: Locale, resources: &[FluentResource]) -> Vec<u8> {
+    let mut bundle = FluentBundle::new(vec![locale]);
+    bundle.set_use_isolating(false);
+    bundle.add_builtins().expect("NUMBER is new");
+    for resource in resources {
+        bundle.add_resource(resource).expect("no id twice");
+    }
+    bundle.store().to_vec()
+}
+
+/// The store that `--save-store` writes.
+fn sheet(locale: Locale, image: Vec<u8>) -> Vec<u8> {
+    store(
+        locale,
+        &[FluentResource::from_image(image).expect("well-formed")],
+    )
+}
+
+fn arguments() -> Vec<u8> {
+    let mut args = FluentArgs::new();
+    args.set("species", "minke");
+    args.set("count", FluentNumber::new(true, 150, 2).expect("a number"));
+    args.set("calves", FluentValue::None);
+    args.set("observer", "Bo\tÅ");
+    args.image().expect("they fit")
+}
+
+/// Terms, attributes, and everything that can go wrong.
+fn mixed() -> Vec<u8> {
+    let fraction = |digits: &str| {
+        let given = Arguments::new().positional(variable("count"));
+        call(
+            "NUMBER",
+            given.named("minimumFractionDigits", Literal::Number(digits.into())),
+        )
+    };
+    let greet = Pattern::new()
+        .text("Hello, ")
+        .place(variable("observer"))
+        .text("!");
+    let all = |parts: &[Inline]| {
+        parts.iter().fold(Pattern::new(), |pattern, part| {
+            pattern.text("- ").place(part.clone())
+        })
+    };
+    let unknown = [
+        variable("nothing"),
+        message("nothing"),
+        message_attribute("hello", "nothing"),
+        term("nothing"),
+        term_attribute("whale", "nothing"),
+        call("NOTHING", Arguments::new()),
+        message("bare"),
+    ];
+    let many = |n: usize| (0..n).fold(Pattern::new(), |p, _| p.place(variable("count")));
+    let small = FluentResource::builder()
+        .message("sheet", "A sheet")
+        .message("seen", all(&[variable("count"), message("hello")]))
+        .message("hello", "Hello")
+        .message("greet", greet)
+        .attribute(
+            "title",
+            Pattern::new().text("For ").place(variable("observer")),
+        )
+        .attribute("none", all(&[variable("nothing")]))
+        .message_without_value("bare")
+        .attribute("title", "Bare")
+        .term("whale", "whale")
+        .attribute("kind", "minke")
+        .message("whales", all(&[term("whale"), term("whale")]))
+        .message("unknown", all(&unknown))
+        .message("cycle", Pattern::new().text("x ").place(message("back")))
+        .message("back", Pattern::new().place(message("cycle")))
+        .message("control", "a\tb\nc\u{1}d")
+        .message("hundred", many(100))
+        .message("hundred-one", many(101))
+        .message("two-digits", Pattern::new().place(fraction("2")))
+        .message("nineteen-digits", Pattern::new().place(fraction("19")))
+        .message("twenty-digits", Pattern::new().place(fraction("20")))
+        .message(
+            "no-default",
+            Pattern::from(select(variable("species")).variant("none", "x")),
+        );
+    // more than 65,536 bytes of text, of workspace and of errors
+    let long = FluentResource::builder()
+        .message("part", "x".repeat(40_000))
+        .message(
+            "long",
+            Pattern::new().place(message("part")).place(message("part")),
+        )
+        .message(
+            "work",
+            Pattern::from(select(message("long")).default("other", "y")),
+        );
+    let name = "n".repeat(255);
+    let names = (0..130).fold(Arguments::new(), |a, _| a.positional(variable(&name)));
+    let errors = FluentResource::builder()
+        .message("names", Pattern::new().place(call("NUMBER", names)))
+        .message(
+            "list",
+            Pattern::new()
+                .place(message("names"))
+                .place(message("names")),
+        );
+    let built = [small, long, errors].map(|builder| builder.build().expect("well-formed"));
+    store(Locale::En, &built)
+}
+
+/// References inside each other, each nested as deep as is allowed.
+fn deep() -> Vec<u8> {
+    let mut builder = FluentResource::builder().term("t", "t");
+    for n in 0..102 {
+        let inner = message(format!("m{}", n + 1));
+        let nested = (1..32).fold(inner, |inner, _| {
+            term_with("t", Arguments::new().positional(inner))
+        });
+        builder = builder.message(format!("m{n}"), nested);
+    }
+    store(Locale::En, &[builder.build().expect("well-formed")])
+}

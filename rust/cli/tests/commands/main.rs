@@ -1,0 +1,134 @@
+//! Runs the command lines of `stored/*.txt` and compares status, standard
+//! output, standard error and the files that are written.
+//!
+//! The answers are those of an earlier program, `sheet`, whose text was proved
+//! to be made as a definition says. Its messages began with its own name; here
+//! `sheet: ` at the start of a line of standard error stands for `weszlagyo: `.
+#![forbid(unsafe_code)]
+
+mod inputs;
+mod stored;
+
+use std::ffi::OsStr;
+use std::os::unix::ffi::OsStrExt;
+use std::path::{Path, PathBuf};
+use std::process::{Command, Output};
+use stored::Stored;
+
+/// A new folder with the input files.
+fn folder(name: &str) -> PathBuf {
+    let folder = Path::new(env!("CARGO_TARGET_TMPDIR")).join(name);
+    let _ = std::fs::remove_dir_all(&folder);
+    std::fs::create_dir_all(&folder).expect("a folder");
+    inputs::write(&folder);
+    folder
+}
+
+fn run<'a>(folder: &Path, words: impl IntoIterator<Item = &'a [u8]>) -> Output {
+    Command::new(env!("CARGO_BIN_EXE_weszlagyo"))
+        .args(words.into_iter().map(OsStr::from_bytes))
+        .current_dir(folder)
+        .output()
+        .expect("it runs")
+}
+
+/// The files that a run may have written; each is removed.
+fn take_saved(folder: &Path) -> Vec<(String, Vec<u8>)> {
+    let take = |name: &&str| {
+        let path = folder.join(name);
+        let bytes = std::fs::read(&path).ok()?;
+        std::fs::remove_file(&path).ok()?;
+        Some((name.to_string(), bytes))
+    };
+    ["saved.store", "saved.arguments"]
+        .iter()
+        .filter_map(take)
+        .collect()
+}
+
+/// With the command's name in the place of the earlier program's.
+fn renamed(lines: &[u8]) -> Vec<u8> {
+    lines
+        .split_inclusive(|b| *b == b'\n')
+        .flat_map(|line| match line.strip_prefix(b"sheet: ") {
+            Some(rest) => [b"weszlagyo: ", rest].concat(),
+            None => line.to_vec(),
+        })
+        .collect()
+}
+
+/// What differs from what is stored, in words.
+fn differences(stored: &Stored, output: &Output, saved: &[(String, Vec<u8>)]) -> Vec<String> {
+    let mut out = Vec::new();
+    if output.status.code() != Some(stored.status) {
+        out.push(format!("{}, not {}", output.status, stored.status));
+    }
+    for (name, now, then) in [
+        ("standard output", &output.stdout, &stored.out),
+        ("standard error", &output.stderr, &renamed(&stored.err)),
+    ] {
+        if now != then {
+            let (now, then) = (String::from_utf8_lossy(now), String::from_utf8_lossy(then));
+            out.push(format!("{name} is\n{now}and not\n{then}"));
+        }
+    }
+    let saved: Vec<_> = saved
+        .iter()
+        .map(|(name, bytes)| (name.clone(), bytes.len(), stored::sum(bytes)))
+        .collect();
+    if saved != stored.saved {
+        out.push(format!("saved {saved:x?}, not {:x?}", stored.saved));
+    }
+    out
+}
+
+/// Runs all command lines behind these words.
+fn compare(name: &str, before: &[&[u8]], is_run: impl Fn(&Stored) -> bool) -> usize {
+    let folder = folder(name);
+    let all: Vec<Stored> = stored::all().into_iter().filter(is_run).collect();
+    let mut wrong = Vec::new();
+    for stored in &all {
+        let words = stored.words.iter().map(Vec::as_slice);
+        let output = run(&folder, before.iter().copied().chain(words));
+        let found = differences(stored, &output, &take_saved(&folder));
+        wrong.extend(found.iter().map(|what| format!("{}: {what}", stored.place)));
+    }
+    assert!(wrong.is_empty(), "{}", wrong.join("\n"));
+    all.len()
+}
+
+#[test]
+fn every_stored_command_line() {
+    let count = compare("named", &[b"sheet"], |_| true);
+    assert!(count >= 170, "{count} command lines are stored");
+}
+
+/// `sheet` can be left out. A first word without a `-` is then a command's
+/// name, and `--help` asks for the commands.
+#[test]
+fn sheet_is_the_command_where_none_is_named() {
+    compare("unnamed", &[], |stored| {
+        stored
+            .words
+            .first()
+            .is_none_or(|word| word.starts_with(b"-") && word != b"--help")
+    });
+}
+
+#[test]
+fn the_commands() {
+    let folder = folder("commands");
+    let help = run(&folder, [b"--help".as_slice()]);
+    let text = String::from_utf8(help.stdout).expect("it is text");
+    assert!(text.starts_with("usage: weszlagyo [COMMAND] [OPTIONS]\n"));
+    assert!(text.contains("\n  sheet "));
+    assert!(help.stderr.is_empty() && help.status.code() == Some(0));
+
+    let unknown = run(&folder, [b"sheets".as_slice(), b"--count"]);
+    let said = String::from_utf8(unknown.stderr).expect("it is text");
+    assert_eq!(
+        said,
+        "weszlagyo: there is no command sheets; --help lists them\n"
+    );
+    assert!(unknown.stdout.is_empty() && unknown.status.code() == Some(1));
+}
