@@ -18,7 +18,7 @@ pub fn check_attribute(s: &[u8], at: usize) -> Next
     let Next::At(e) = records::check_id(s, at) else {
         return Next::Bad;
     };
-    records::check_pattern(s, e, MAX_DEPTH)
+    patterns::check_pattern(s, e, MAX_DEPTH)
 }
 
 // `count` attributes.
@@ -48,7 +48,7 @@ fn check_entry_of(s: &[u8], at: usize, term: bool) -> Next
         return Next::Bad;
     };
     if flag == 1 {
-        let Next::At(r) = records::check_pattern(s, v, MAX_DEPTH) else {
+        let Next::At(r) = patterns::check_pattern(s, v, MAX_DEPTH) else {
             return Next::Bad;
         };
         let Num::At(k, e) = records::read_u16(s, r) else {

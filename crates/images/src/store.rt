@@ -87,7 +87,7 @@ pub fn check_locale(s: &[u8], at: usize) -> Next
     }
 }
 
-// A store: At its used length, or Bad. One pass: how often a byte is visited at most stands at records::check_pattern.
+// A store: At its used length, or Bad. One pass: how often a byte is visited at most stands at patterns::check_pattern.
 pub fn check_store(s: &[u8]) -> Next
     ensures { λ r. ⌜ r ≡ nextOf (storeOf (now (s .entry))) ⌝ }
 {

@@ -1,12 +1,12 @@
 -- What is left of `check_variant`.
 use Prim.Native.Nat.{ℕ}
 use Rattle.records.proofs.Laws.{next-end, next-step, next-stop}
 use Rattle.records.specs.Decode.{variantAt}
 use borrow.Author.Needs.{needs}
 use native.Mathlib.Omega.{arith}
-use Rattle.records.proofs.pattern.check_variant.Reads as check-variant-reads
-use Rattle.records.proofs.pattern.+check_arguments+check_body+check_element+check_elements+check_expression+check_inline+check_inlines+check_pattern+check_select+check_term+check_variant+check_variants.Lts-check_variant as check-variant-lts
-use Rattle.records.proofs.pattern.+check_arguments+check_body+check_element+check_elements+check_expression+check_inline+check_inlines+check_pattern+check_select+check_term+check_variant+check_variants.Proof.Base.{check-variant-at, check-variant-claims}
+use Rattle.patterns.proofs.check_variant.Reads as check-variant-reads
+use Rattle.patterns.proofs.+check_arguments+check_body+check_element+check_elements+check_expression+check_inline+check_inlines+check_pattern+check_select+check_term+check_variant+check_variants.Lts-check_variant as check-variant-lts
+use Rattle.patterns.proofs.+check_arguments+check_body+check_element+check_elements+check_expression+check_inline+check_inlines+check_pattern+check_select+check_term+check_variant+check_variants.Proof.Base.{check-variant-at, check-variant-claims}
 
 pub check-key-requires : (t : ℕ) → check-variant-lts.Need-check-key-requires (check-variant-claims t) (check-variant-at t) check-variant-reads.Post
 check-key-requires t c κs = search needs

@@ -1,21 +1,21 @@
-// Patterns and expressions, and what they hold: one cycle of calls.
+// The checks of patterns and expressions, and of what they hold: one cycle of calls.
 ghost use mathlib.Core.Path.{_≡_};
 ghost use Rattle.records.specs.Relations.Answer.{nextOf};
 ghost use Rattle.records.specs.Tree.{no-variant, or};
 ghost use Rattle.records.specs.Decode.{many, elementAt, elementsAt, patternAt, variantAt, inlinesAt, argumentsAt, termAt, selectAt, inlineBody, expression, inline};
-use crate::Next;
-use crate::Num;
-use crate::arguments::check_named_arguments;
-use crate::bytes::read_byte;
-use crate::bytes::read_u16;
-use crate::bytes::read_u32;
-use crate::literal::check_flag;
-use crate::literal::check_id;
-use crate::literal::check_key;
-use crate::literal::check_number;
-use crate::literal::check_optional_id;
-use crate::literal::check_string;
-use crate::literal::check_text;
+use records::Next;
+use records::Num;
+use records::check_flag;
+use records::check_id;
+use records::check_key;
+use records::check_named_arguments;
+use records::check_number;
+use records::check_optional_id;
+use records::check_string;
+use records::check_text;
+use records::read_byte;
+use records::read_u16;
+use records::read_u32;
 
 // A pattern: u32 length of the rest, u16 element count, elements. `depth` is what is left of the nesting.
 //

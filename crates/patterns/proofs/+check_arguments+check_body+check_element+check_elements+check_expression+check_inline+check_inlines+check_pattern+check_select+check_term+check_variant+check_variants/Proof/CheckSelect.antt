@@ -1,12 +1,12 @@
 -- What is left of `check_select`.
 use Prim.Native.Nat.{ℕ}
 use Rattle.records.proofs.Laws.{above, next-end, next-step, next-stop, not-above, num-step, num-stop}
 use Rattle.records.specs.Decode.{selectAt}
 use borrow.Author.Needs.{needs}
 use native.Mathlib.Omega.{arith}
-use Rattle.records.proofs.pattern.check_select.Reads as check-select-reads
-use Rattle.records.proofs.pattern.+check_arguments+check_body+check_element+check_elements+check_expression+check_inline+check_inlines+check_pattern+check_select+check_term+check_variant+check_variants.Lts-check_select as check-select-lts
-use Rattle.records.proofs.pattern.+check_arguments+check_body+check_element+check_elements+check_expression+check_inline+check_inlines+check_pattern+check_select+check_term+check_variant+check_variants.Proof.Base.{check-select-at, check-select-claims}
+use Rattle.patterns.proofs.check_select.Reads as check-select-reads
+use Rattle.patterns.proofs.+check_arguments+check_body+check_element+check_elements+check_expression+check_inline+check_inlines+check_pattern+check_select+check_term+check_variant+check_variants.Lts-check_select as check-select-lts
+use Rattle.patterns.proofs.+check_arguments+check_body+check_element+check_elements+check_expression+check_inline+check_inlines+check_pattern+check_select+check_term+check_variant+check_variants.Proof.Base.{check-select-at, check-select-claims}
 
 pub check-inline-requires : (t : ℕ) → check-select-lts.Need-check-inline-requires (check-select-claims t) (check-select-at t) check-select-reads.Post
 check-inline-requires t c κs = omega arith

@@ -1,12 +1,12 @@
 -- What is left of `check_term`.
 use Prim.Native.Nat.{ℕ}
 use Rattle.records.proofs.Laws.{arguments-bad, arguments-none, arguments-other, arguments-some, next-end, next-step, next-stop}
 use Rattle.records.specs.Decode.{termAt}
 use borrow.Author.Needs.{needs}
 use native.Mathlib.Omega.{arith}
-use Rattle.records.proofs.pattern.check_term.Reads as check-term-reads
-use Rattle.records.proofs.pattern.+check_arguments+check_body+check_element+check_elements+check_expression+check_inline+check_inlines+check_pattern+check_select+check_term+check_variant+check_variants.Lts-check_term as check-term-lts
-use Rattle.records.proofs.pattern.+check_arguments+check_body+check_element+check_elements+check_expression+check_inline+check_inlines+check_pattern+check_select+check_term+check_variant+check_variants.Proof.Base.{check-term-at, check-term-claims}
+use Rattle.patterns.proofs.check_term.Reads as check-term-reads
+use Rattle.patterns.proofs.+check_arguments+check_body+check_element+check_elements+check_expression+check_inline+check_inlines+check_pattern+check_select+check_term+check_variant+check_variants.Lts-check_term as check-term-lts
+use Rattle.patterns.proofs.+check_arguments+check_body+check_element+check_elements+check_expression+check_inline+check_inlines+check_pattern+check_select+check_term+check_variant+check_variants.Proof.Base.{check-term-at, check-term-claims}
 
 pub check-id-requires : (t : ℕ) → check-term-lts.Need-check-id-requires (check-term-claims t) (check-term-at t) check-term-reads.Post
 check-id-requires t c κs = search needs

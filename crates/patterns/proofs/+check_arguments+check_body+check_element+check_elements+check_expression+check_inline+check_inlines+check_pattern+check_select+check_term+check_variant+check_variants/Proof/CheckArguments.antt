@@ -1,12 +1,12 @@
 -- What is left of `check_arguments`.
 use Prim.Native.Nat.{ℕ}
 use Rattle.records.proofs.Laws.{next-end, next-step, next-stop, num-step, num-stop}
 use Rattle.records.specs.Decode.{argumentsAt}
 use borrow.Author.Needs.{needs}
 use native.Mathlib.Omega.{arith}
-use Rattle.records.proofs.pattern.check_arguments.Reads as check-arguments-reads
-use Rattle.records.proofs.pattern.+check_arguments+check_body+check_element+check_elements+check_expression+check_inline+check_inlines+check_pattern+check_select+check_term+check_variant+check_variants.Lts-check_arguments as check-arguments-lts
-use Rattle.records.proofs.pattern.+check_arguments+check_body+check_element+check_elements+check_expression+check_inline+check_inlines+check_pattern+check_select+check_term+check_variant+check_variants.Proof.Base.{check-arguments-at, check-arguments-claims}
+use Rattle.patterns.proofs.check_arguments.Reads as check-arguments-reads
+use Rattle.patterns.proofs.+check_arguments+check_body+check_element+check_elements+check_expression+check_inline+check_inlines+check_pattern+check_select+check_term+check_variant+check_variants.Lts-check_arguments as check-arguments-lts
+use Rattle.patterns.proofs.+check_arguments+check_body+check_element+check_elements+check_expression+check_inline+check_inlines+check_pattern+check_select+check_term+check_variant+check_variants.Proof.Base.{check-arguments-at, check-arguments-claims}
 
 pub read-u16-requires : (t : ℕ) → check-arguments-lts.Need-read-u16-requires (check-arguments-claims t) (check-arguments-at t) check-arguments-reads.Post
 read-u16-requires t c κs = search needs

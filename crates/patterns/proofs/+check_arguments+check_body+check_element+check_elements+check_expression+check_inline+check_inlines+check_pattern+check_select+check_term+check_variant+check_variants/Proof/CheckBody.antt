@@ -1,12 +1,12 @@
 -- What is left of `check_body`.
 use Prim.Native.Nat.{ℕ}
 use Rattle.records.proofs.Laws.{fails, isnt, next-end, next-step, next-stop, passes, is as is-tag}
 use Rattle.records.specs.Decode.{inlineBody}
 use borrow.Author.Needs.{needs}
 use native.Mathlib.Omega.{arith}
-use Rattle.records.proofs.pattern.check_body.Reads as check-body-reads
-use Rattle.records.proofs.pattern.+check_arguments+check_body+check_element+check_elements+check_expression+check_inline+check_inlines+check_pattern+check_select+check_term+check_variant+check_variants.Lts-check_body as check-body-lts
-use Rattle.records.proofs.pattern.+check_arguments+check_body+check_element+check_elements+check_expression+check_inline+check_inlines+check_pattern+check_select+check_term+check_variant+check_variants.Proof.Base.{check-body-at, check-body-claims}
+use Rattle.patterns.proofs.check_body.Reads as check-body-reads
+use Rattle.patterns.proofs.+check_arguments+check_body+check_element+check_elements+check_expression+check_inline+check_inlines+check_pattern+check_select+check_term+check_variant+check_variants.Lts-check_body as check-body-lts
+use Rattle.patterns.proofs.+check_arguments+check_body+check_element+check_elements+check_expression+check_inline+check_inlines+check_pattern+check_select+check_term+check_variant+check_variants.Proof.Base.{check-body-at, check-body-claims}
 
 pub check-string-requires : (t : ℕ) → check-body-lts.Need-check-string-requires (check-body-claims t) (check-body-at t) check-body-reads.Post
 check-string-requires t c κs = search needs

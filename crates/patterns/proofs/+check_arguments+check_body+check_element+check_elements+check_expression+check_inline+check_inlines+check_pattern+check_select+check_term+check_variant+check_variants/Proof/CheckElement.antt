@@ -1,12 +1,12 @@
 -- What is left of `check_element`.
 use Prim.Native.Nat.{ℕ}
 use Rattle.records.proofs.Laws.{fails, isnt, next-end, num-step, num-stop, passes, is as is-tag}
 use Rattle.records.specs.Decode.{elementAt}
 use borrow.Author.Needs.{needs}
 use native.Mathlib.Omega.{arith}
-use Rattle.records.proofs.pattern.check_element.Reads as check-element-reads
-use Rattle.records.proofs.pattern.+check_arguments+check_body+check_element+check_elements+check_expression+check_inline+check_inlines+check_pattern+check_select+check_term+check_variant+check_variants.Lts-check_element as check-element-lts
-use Rattle.records.proofs.pattern.+check_arguments+check_body+check_element+check_elements+check_expression+check_inline+check_inlines+check_pattern+check_select+check_term+check_variant+check_variants.Proof.Base.{check-element-at, check-element-claims}
+use Rattle.patterns.proofs.check_element.Reads as check-element-reads
+use Rattle.patterns.proofs.+check_arguments+check_body+check_element+check_elements+check_expression+check_inline+check_inlines+check_pattern+check_select+check_term+check_variant+check_variants.Lts-check_element as check-element-lts
+use Rattle.patterns.proofs.+check_arguments+check_body+check_element+check_elements+check_expression+check_inline+check_inlines+check_pattern+check_select+check_term+check_variant+check_variants.Proof.Base.{check-element-at, check-element-claims}
 
 pub read-byte-requires : (t : ℕ) → check-element-lts.Need-read-byte-requires (check-element-claims t) (check-element-at t) check-element-reads.Post
 read-byte-requires t c κs = search needs

@@ -1,12 +1,12 @@
 -- What is left of `check_inline`.
 use Prim.Native.Nat.{ℕ}
 use Rattle.records.proofs.Laws.{inline-deeper, inline-none, num-step, num-stop}
 use Rattle.records.specs.Decode.{inlineAt}
 use borrow.Author.Needs.{needs}
 use native.Mathlib.Omega.{arith}
-use Rattle.records.proofs.pattern.check_inline.Reads as check-inline-reads
-use Rattle.records.proofs.pattern.+check_arguments+check_body+check_element+check_elements+check_expression+check_inline+check_inlines+check_pattern+check_select+check_term+check_variant+check_variants.Lts-check_inline as check-inline-lts
-use Rattle.records.proofs.pattern.+check_arguments+check_body+check_element+check_elements+check_expression+check_inline+check_inlines+check_pattern+check_select+check_term+check_variant+check_variants.Proof.Base.{check-inline-at, check-inline-claims}
+use Rattle.patterns.proofs.check_inline.Reads as check-inline-reads
+use Rattle.patterns.proofs.+check_arguments+check_body+check_element+check_elements+check_expression+check_inline+check_inlines+check_pattern+check_select+check_term+check_variant+check_variants.Lts-check_inline as check-inline-lts
+use Rattle.patterns.proofs.+check_arguments+check_body+check_element+check_elements+check_expression+check_inline+check_inlines+check_pattern+check_select+check_term+check_variant+check_variants.Proof.Base.{check-inline-at, check-inline-claims}
 
 pub returns : (t : ℕ) → check-inline-lts.Need-returns (check-inline-claims t) (check-inline-at t) check-inline-reads.Post
 returns t c = inline-none _ _ _ (c .if1 .taken)

@@ -1,16 +1,16 @@
 -- What is left of `check_inlines`.
 use Prim.Native.Nat.{ℕ}
 use Rattle.records.proofs.Laws.{many-more, many-none, many-stop}
 use Rattle.records.specs.Decode.{inline, inlinesAt}
 use Rattle.records.specs.Relations.Answer.{nextOf}
 use Rattle.records.specs.Tree.{and, no-inline}
 use borrow.Author.Needs.{needs}
 use denote.Ref.{now}
 use mathlib.Core.Path.{_∙_, _≡_, sym}
 use native.Mathlib.Omega.{arith}
-use Rattle.records.proofs.pattern.check_inlines.Reads as check-inlines-reads
-use Rattle.records.proofs.pattern.+check_arguments+check_body+check_element+check_elements+check_expression+check_inline+check_inlines+check_pattern+check_select+check_term+check_variant+check_variants.Lts-check_inlines as check-inlines-lts
-use Rattle.records.proofs.pattern.+check_arguments+check_body+check_element+check_elements+check_expression+check_inline+check_inlines+check_pattern+check_select+check_term+check_variant+check_variants.Proof.Base.{check-inlines-at, check-inlines-claims}
+use Rattle.patterns.proofs.check_inlines.Reads as check-inlines-reads
+use Rattle.patterns.proofs.+check_arguments+check_body+check_element+check_elements+check_expression+check_inline+check_inlines+check_pattern+check_select+check_term+check_variant+check_variants.Lts-check_inlines as check-inlines-lts
+use Rattle.patterns.proofs.+check_arguments+check_body+check_element+check_elements+check_expression+check_inline+check_inlines+check_pattern+check_select+check_term+check_variant+check_variants.Proof.Base.{check-inlines-at, check-inlines-claims}
 
 abbrev pub Inv-loop : check-inlines-lts.InvT-loop
 Inv-loop s from count depth at₀ left₀ at left = nextOf (inlinesAt (inline depth) left s at) ≡ nextOf (inlinesAt (inline depth) count s from)

@@ -1,13 +1,13 @@
 -- What is left of `check_pattern`.
 use Prim.Native.Nat.{_+_, ℕ}
 use Rattle.records.proofs.Laws.{above, fails, next-got, next-step, next-stop, not-above, num-step, num-stop, passes}
 use Rattle.records.specs.Decode.{patternAt}
 use borrow.Author.Needs.{needs}
 use mathlib.Core.Path.{_≡_}
 use native.Mathlib.Omega.{arith}
-use Rattle.records.proofs.pattern.check_pattern.Reads as check-pattern-reads
-use Rattle.records.proofs.pattern.+check_arguments+check_body+check_element+check_elements+check_expression+check_inline+check_inlines+check_pattern+check_select+check_term+check_variant+check_variants.Lts-check_pattern as check-pattern-lts
-use Rattle.records.proofs.pattern.+check_arguments+check_body+check_element+check_elements+check_expression+check_inline+check_inlines+check_pattern+check_select+check_term+check_variant+check_variants.Proof.Base.{check-pattern-at, check-pattern-claims}
+use Rattle.patterns.proofs.check_pattern.Reads as check-pattern-reads
+use Rattle.patterns.proofs.+check_arguments+check_body+check_element+check_elements+check_expression+check_inline+check_inlines+check_pattern+check_select+check_term+check_variant+check_variants.Lts-check_pattern as check-pattern-lts
+use Rattle.patterns.proofs.+check_arguments+check_body+check_element+check_elements+check_expression+check_inline+check_inlines+check_pattern+check_select+check_term+check_variant+check_variants.Proof.Base.{check-pattern-at, check-pattern-claims}
 
 pub read-u32-requires : (t : ℕ) → check-pattern-lts.Need-read-u32-requires (check-pattern-claims t) (check-pattern-at t) check-pattern-reads.Post
 read-u32-requires t c κs = search needs

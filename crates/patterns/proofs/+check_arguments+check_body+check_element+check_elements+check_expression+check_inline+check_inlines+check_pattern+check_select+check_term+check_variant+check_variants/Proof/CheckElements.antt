@@ -1,16 +1,16 @@
 -- What is left of `check_elements`.
 use Prim.Native.Nat.{ℕ}
 use Rattle.records.proofs.Laws.{many-more, many-none, many-stop}
 use Rattle.records.specs.Decode.{elementAt, elementsAt, expression}
 use Rattle.records.specs.Relations.Answer.{nextOf}
 use Rattle.records.specs.Tree.{more, no-more}
 use borrow.Author.Needs.{needs}
 use denote.Ref.{now}
 use mathlib.Core.Path.{_∙_, _≡_, sym}
 use native.Mathlib.Omega.{arith}
-use Rattle.records.proofs.pattern.check_elements.Reads as check-elements-reads
-use Rattle.records.proofs.pattern.+check_arguments+check_body+check_element+check_elements+check_expression+check_inline+check_inlines+check_pattern+check_select+check_term+check_variant+check_variants.Lts-check_elements as check-elements-lts
-use Rattle.records.proofs.pattern.+check_arguments+check_body+check_element+check_elements+check_expression+check_inline+check_inlines+check_pattern+check_select+check_term+check_variant+check_variants.Proof.Base.{check-elements-at, check-elements-claims}
+use Rattle.patterns.proofs.check_elements.Reads as check-elements-reads
+use Rattle.patterns.proofs.+check_arguments+check_body+check_element+check_elements+check_expression+check_inline+check_inlines+check_pattern+check_select+check_term+check_variant+check_variants.Lts-check_elements as check-elements-lts
+use Rattle.patterns.proofs.+check_arguments+check_body+check_element+check_elements+check_expression+check_inline+check_inlines+check_pattern+check_select+check_term+check_variant+check_variants.Proof.Base.{check-elements-at, check-elements-claims}
 
 abbrev pub Inv-loop : check-elements-lts.InvT-loop
 Inv-loop s from count depth at₀ left₀ at left = nextOf (elementsAt (expression depth) left s at) ≡ nextOf (elementsAt (expression depth) count s from)

@@ -1,16 +1,16 @@
 -- What is left of `check_variants`.
 use Prim.Native.Nat.{ℕ}
 use Rattle.records.proofs.Laws.{many-more, many-none, many-stop}
 use Rattle.records.specs.Decode.{expression, many, variantAt}
 use Rattle.records.specs.Relations.Answer.{nextOf}
 use Rattle.records.specs.Tree.{no-variant, or}
 use borrow.Author.Needs.{needs}
 use denote.Ref.{now}
 use mathlib.Core.Path.{_∙_, _≡_, sym}
 use native.Mathlib.Omega.{arith}
-use Rattle.records.proofs.pattern.check_variants.Reads as check-variants-reads
-use Rattle.records.proofs.pattern.+check_arguments+check_body+check_element+check_elements+check_expression+check_inline+check_inlines+check_pattern+check_select+check_term+check_variant+check_variants.Lts-check_variants as check-variants-lts
-use Rattle.records.proofs.pattern.+check_arguments+check_body+check_element+check_elements+check_expression+check_inline+check_inlines+check_pattern+check_select+check_term+check_variant+check_variants.Proof.Base.{check-variants-at, check-variants-claims}
+use Rattle.patterns.proofs.check_variants.Reads as check-variants-reads
+use Rattle.patterns.proofs.+check_arguments+check_body+check_element+check_elements+check_expression+check_inline+check_inlines+check_pattern+check_select+check_term+check_variant+check_variants.Lts-check_variants as check-variants-lts
+use Rattle.patterns.proofs.+check_arguments+check_body+check_element+check_elements+check_expression+check_inline+check_inlines+check_pattern+check_select+check_term+check_variant+check_variants.Proof.Base.{check-variants-at, check-variants-claims}
 
 abbrev pub Inv-loop : check-variants-lts.InvT-loop
 Inv-loop s from count depth at₀ left₀ at left = nextOf (many no-variant or left (variantAt (expression depth)) s at) ≡ nextOf (many no-variant or count (variantAt (expression depth)) s from)
