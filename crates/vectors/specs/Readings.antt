@@ -45,3 +45,8 @@ allAre (b ∷ s) v = eqb b v && allAre s v
 -- are these bytes at the front, and AA in every later one?
 unfoldable pub beginsWith : List ℕ → List ℕ → Bool
 beginsWith s front = sameBytes (partIn s 0 (length front)) front && allAre (drop (length front) s) 170
+
+-- what is counted of a comparison
+unfoldable pub differing : Bool → ℕ
+differing true = 0
+differing false = 1

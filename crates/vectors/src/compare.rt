@@ -5,7 +5,7 @@ use records::write_bytes;
 use rules::same_bytes;
 ghost use mathlib.Core.Path.{_≡_};
 ghost use lib.ListN.{length};
-ghost use Rattle.vectors.specs.Readings.{allAre, beginsWith};
+ghost use Rattle.vectors.specs.Readings.{allAre, beginsWith, differing};
 
 // Has every byte this value?
 pub fn all_are(s: &[u8], v: u8) -> bool
@@ -32,7 +32,9 @@ pub fn begins(s: &[u8], front: &[u8]) -> bool
 }
 
 // 1 where two things are not the same, to be counted.
-pub fn differs(same: bool) -> u64 {
+pub fn differs(same: bool) -> u64
+    ensures { λ r. ⌜ r ≡ differing same ⌝ }
+{
     if same { 0 } else { 1 }
 }
 

@@ -3,6 +3,7 @@
 ghost use mathlib.Core.Path.{_≡_};
 ghost use Prim.Native.Nat.{_+_, _<_, min};
 ghost use lib.ListN.{length, getD, drop};
+ghost use lib.Dec.{eqb};
 ghost use Rattle.vectors.specs.Readings.{u16In, u32In, u64In, partIn, stringIn, pastString, blobIn, pastBlob};
 
 pub fn byte(s: &[u8], at: usize) -> u8
@@ -11,7 +12,9 @@ pub fn byte(s: &[u8], at: usize) -> u8
     if at < s.len() { s[at] } else { 0 }
 }
 
-pub fn flag(s: &[u8], at: usize) -> bool {
+pub fn flag(s: &[u8], at: usize) -> bool
+    ensures { λ r. ⌜ r ≡ eqb (getD (now (s .entry)) at 0) 1 ⌝ }
+{
     byte(s, at) == 1
 }
 

@@ -1,5 +1,4 @@
 -- `listing::list_repeats` meets its contract: what was tallied is what is written, and nothing is written where it does not fit.
--- Made from Proof.answers, which stands beside it: change that, and run `proofs make`.
 use Rattle.listing.proofs.Records.{listed-all, listed-short}
 use Rattle.listing.proofs.Tallying.{tally-small}
 use borrow.Author.Needs.{needs}

@@ -1,5 +1,4 @@
 -- `bundle::bundle::add_function` meets its contract: a refusal by its number, or the item at its place.
--- Made from Proof.answers, which stands beside it: change that, and run `proofs make`.
 use Rattle.bundle.proofs.Adds.{function-filed, function-no-place}
 use Rattle.bundle.proofs.Placing.{function-fits}
 use borrow.Author.Needs.{needs}

@@ -1,5 +1,4 @@
 -- `bundle::bundle::add_resource` meets its contract: a refusal by its number, or the list of the repeated entries and the item at its place.
--- Made from Proof.answers, which stands beside it: change that, and run `proofs make`.
 use Rattle.bundle.proofs.Adds.{plain-filed, plain-no-place, plain-short}
 use Rattle.bundle.proofs.Placing.{resource-fits}
 use borrow.Author.Needs.{needs}

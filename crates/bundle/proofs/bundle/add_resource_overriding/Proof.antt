@@ -1,5 +1,4 @@
 -- `bundle::bundle::add_resource_overriding` meets its contract: a refusal by its number, or the item at its place.
--- Made from Proof.answers, which stands beside it: change that, and run `proofs make`.
 use Rattle.bundle.proofs.Adds.{over-filed, over-no-place}
 use Rattle.bundle.proofs.Placing.{resource-fits}
 use borrow.Author.Needs.{needs}

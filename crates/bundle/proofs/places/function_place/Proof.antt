@@ -1,5 +1,4 @@
 -- `bundle::places::function_place` meets its contract: each refusal in its order, and then the place.
--- Made from Proof.answers, which stands beside it: change that, and run `proofs make`.
 use Rattle.bundle.proofs.Placing.{named-10, named-4, named-6, named-8, named-9, named-at, store-used}
 use Rattle.entries.proofs.Lengths.{short-id}
 use Rattle.growth.proofs.Items.{has-room-is, no-room}

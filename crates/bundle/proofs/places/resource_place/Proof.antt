@@ -1,5 +1,4 @@
 -- `bundle::places::resource_place` meets its contract: each refusal in its order, and then the place.
--- Made from Proof.answers, which stands beside it: change that, and run `proofs make`.
 use Rattle.bundle.proofs.Placing.{image-small, place-4, place-5, place-6, place-at, store-used}
 use Rattle.growth.proofs.Items.{has-room-is, no-room}
 use Rattle.records.proofs.Views.{next-is, next-none}

@@ -1,5 +1,4 @@
 -- `vectors::compare::all_are` meets its contract: what is left answers as the whole does.
--- Made from Proof.answers, which stands beside it: change that, and run `proofs make`.
 use Prim.Native.Nat.{_-_}
 use Rattle.vectors.proofs.Same.{all-differs, all-end, all-turn}
 use Rattle.vectors.specs.Readings.{allAre}

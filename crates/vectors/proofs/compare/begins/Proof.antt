@@ -1,5 +1,4 @@
 -- `vectors::compare::begins` meets its contract: the front is compared, then what follows it.
--- Made from Proof.answers, which stands beside it: change that, and run `proofs make`.
 use Rattle.vectors.proofs.Same.{begins-not, begins-same}
 use borrow.Author.Needs.{needs}
 use denote.Ref.{now}

@@ -1,5 +1,4 @@
 -- `vectors::fields::byte` meets its contract: past the end the list's default is read.
--- Made from Proof.answers, which stands beside it: change that, and run `proofs make`.
 use borrow.Author.Needs.{needs}
 use denote.Ref.{now}
 use lib.ListN.{List·getD-eq-default}

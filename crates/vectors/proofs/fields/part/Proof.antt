@@ -1,5 +1,4 @@
 -- `vectors::fields::part` meets its contract: it is whole where it does not pass the end.
--- Made from Proof.answers, which stands beside it: change that, and run `proofs make`.
 use Rattle.vectors.proofs.Clamp.{part-in, part-past}
 use borrow.Author.Needs.{needs}
 use denote.Ref.{now}

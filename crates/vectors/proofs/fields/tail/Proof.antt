@@ -1,5 +1,4 @@
 -- `vectors::fields::tail` meets its contract: past the end nothing is left.
--- Made from Proof.answers, which stands beside it: change that, and run `proofs make`.
 use Rattle.vectors.proofs.Clamp.{tail-in, tail-past}
 use borrow.Author.Needs.{needs}
 use denote.Ref.{now}

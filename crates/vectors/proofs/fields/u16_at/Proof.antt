@@ -1,5 +1,4 @@
 -- `vectors::fields::u16_at` meets its contract: two bytes, the second held to the end.
--- Made from Proof.answers, which stands beside it: change that, and run `proofs make`.
 use Rattle.vectors.proofs.Clamp.{u16-is}
 use borrow.Author.Needs.{needs}
 use denote.Ref.{now}

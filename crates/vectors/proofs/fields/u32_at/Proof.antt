@@ -1,5 +1,4 @@
 -- `vectors::fields::u32_at` meets its contract: two u16, the second held to the end.
--- Made from Proof.answers, which stands beside it: change that, and run `proofs make`.
 use Rattle.vectors.proofs.Clamp.{u32-is}
 use borrow.Author.Needs.{needs}
 use denote.Ref.{now}
