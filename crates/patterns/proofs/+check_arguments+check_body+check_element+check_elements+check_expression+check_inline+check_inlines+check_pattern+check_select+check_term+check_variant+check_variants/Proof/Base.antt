@@ -39,7 +39,7 @@ use Rattle.patterns.proofs.check_variants.Reads as check-variants-reads
 use Rattle.patterns.proofs.check_variants.Kinds as check-variants-kinds
 use Rattle.patterns.proofs.+check_arguments+check_body+check_element+check_elements+check_expression+check_inline+check_inlines+check_pattern+check_select+check_term+check_variant+check_variants.Lts-check_variants as check-variants-lts
 use Rattle.records.proofs.bytes.read_u16.Reads as read-u16-reads
-use Rattle.records.proofs.arguments.check_named_arguments.Reads as check-named-arguments-reads
+use Rattle.records.proofs.call_arguments.check_named_arguments.Reads as check-named-arguments-reads
 use Rattle.records.proofs.literal.check_string.Reads as check-string-reads
 use Rattle.records.proofs.literal.check_number.Reads as check-number-reads
 use Rattle.records.proofs.literal.check_id.Reads as check-id-reads

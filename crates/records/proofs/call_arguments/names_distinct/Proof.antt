@@ -11,8 +11,8 @@ use denote.Ref.{now}
 use mathlib.Core.List.{[], _∷_}
 use mathlib.Core.Path.{_∙_, _≡_, ap, refl, subst, sym}
 use native.Mathlib.Omega.{arith}
-use Rattle.records.proofs.arguments.names_distinct.Statement.{statement}
-use Rattle.records.proofs.arguments.names_distinct.Tie as tie
+use Rattle.records.proofs.call_arguments.names_distinct.Statement.{statement}
+use Rattle.records.proofs.call_arguments.names_distinct.Tie as tie
 
 abbrev Inv-loop : tie.InvT-loop
 Inv-loop s from count at₀ left₀ at left = Rest distinct s count from left at

@@ -2,8 +2,8 @@
 use Rattle.records.proofs.Laws.{next-end, next-step, next-stop}
 use Rattle.records.specs.Decode.{namedAt}
 use borrow.Author.Needs.{needs}
-use Rattle.records.proofs.arguments.check_named.Statement.{statement}
-use Rattle.records.proofs.arguments.check_named.Tie as tie
+use Rattle.records.proofs.call_arguments.check_named.Statement.{statement}
+use Rattle.records.proofs.call_arguments.check_named.Tie as tie
 
 check-id-requires : tie.Need-check-id-requires
 check-id-requires c κs = search needs

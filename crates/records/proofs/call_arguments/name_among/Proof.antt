@@ -12,8 +12,8 @@ use denote.Ref.{now}
 use mathlib.Core.List.{[], _∷_}
 use mathlib.Core.Path.{_∙_, _≡_, ap, refl, subst, sym}
 use native.Mathlib.Omega.{arith}
-use Rattle.records.proofs.arguments.name_among.Statement.{statement}
-use Rattle.records.proofs.arguments.name_among.Tie as tie
+use Rattle.records.proofs.call_arguments.name_among.Statement.{statement}
+use Rattle.records.proofs.call_arguments.name_among.Tie as tie
 
 abbrev Inv-loop : tie.InvT-loop
 Inv-loop s from count p e at₀ left₀ at left = Rest (among (part s p (e - p))) s count from left at

@@ -4,8 +4,8 @@ use Rattle.records.specs.Bytes.{strAt}
 use borrow.Author.Needs.{needs}
 use denote.Ref.{now}
 use mathlib.Core.Path.{_∙_, ap}
-use Rattle.records.proofs.arguments.skip_literal.Statement.{statement}
-use Rattle.records.proofs.arguments.skip_literal.Tie as tie
+use Rattle.records.proofs.call_arguments.skip_literal.Statement.{statement}
+use Rattle.records.proofs.call_arguments.skip_literal.Tie as tie
 
 read-byte-requires : tie.Need-read-byte-requires
 read-byte-requires c κs = search needs

@@ -7,8 +7,8 @@ use denote.Ref.{now}
 use mathlib.Core.List.{[], _∷_}
 use mathlib.Core.Path.{_∙_, _≡_, refl, sym}
 use native.Mathlib.Omega.{arith}
-use Rattle.records.proofs.arguments.check_all_named.Statement.{statement}
-use Rattle.records.proofs.arguments.check_all_named.Tie as tie
+use Rattle.records.proofs.call_arguments.check_all_named.Statement.{statement}
+use Rattle.records.proofs.call_arguments.check_all_named.Tie as tie
 
 abbrev Inv-loop : tie.InvT-loop
 Inv-loop s from count at₀ left₀ at left = nextOf (many [] _∷_ left namedAt s at) ≡ nextOf (many [] _∷_ count namedAt s from)

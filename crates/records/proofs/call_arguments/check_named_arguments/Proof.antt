@@ -3,8 +3,8 @@ use Rattle.records.proofs.Laws.{fails-to, holds, next-got, next-know, n
 use Rattle.records.specs.Decode.{namedArgumentsAt}
 use borrow.Author.Needs.{needs}
 use mathlib.Core.Path.{_∙_, sym}
-use Rattle.records.proofs.arguments.check_named_arguments.Statement.{statement}
-use Rattle.records.proofs.arguments.check_named_arguments.Tie as tie
+use Rattle.records.proofs.call_arguments.check_named_arguments.Statement.{statement}
+use Rattle.records.proofs.call_arguments.check_named_arguments.Tie as tie
 
 check-all-named-requires : tie.Need-check-all-named-requires
 check-all-named-requires c κs = search needs
