@@ -1,4 +1,4 @@
--- What the code finds for a name, against the definition: of equal names the last.
+-- What the code finds for a name: a value by its tag, a turn of the search, and what is found where the image decodes.
 use mathlib.Core.Path.{_≡_, refl, ap, sym, subst, _∙_}
 use mathlib.Core.List.{List, [], _∷_}
 use mathlib.Core.Bool.{Bool, true, false}
@@ -6,7 +6,8 @@ use mathlib.Core.Option.{Option, some, none}
 use Prim.Native.Nat.{ℕ, zero, suc, _+_, _-_, _≤_, _<_}
 use native.Mathlib.Omega.{arith}
 use lib.ListN.{length, getD}
-use lib.Dec.{eqb}
+use lib.Dec.{eqb, leb}
+use borrow.Author.Tests.{eq-eqb, ne-eqb, lt-ltb, le-ltb, leb-true, leb-false}
 use Rattle.records.specs.declared.Next.{Next}
 use Rattle.records.specs.declared.Num.{Num}
 use Rattle.records.specs.declared.Next.the-variants as next
@@ -15,130 +16,304 @@ use Rattle.arguments.specs.declared.Given.{Given}
 use Rattle.arguments.specs.declared.Given.the-variants as given
 use Rattle.records.specs.Got.{Got, got, bad, Parser, after, test, pick}
 use Rattle.records.specs.Relations.Answer.{nextOf, numOf}
-use Rattle.records.specs.Bytes.{part, byteAt, numberAt, spanAt}
+use Rattle.records.specs.Bytes.{part, byteAt, bytesAt, numberAt, spanAt, strAt}
 use Rattle.rules.specs.Rules.{isUtf8}
-use Rattle.rules.specs.Same.{sameBytes}
-use Rattle.records.specs.Decode.{many, ruledAt}
+use Rattle.decimals.specs.Bytes.{sameBytes}
+use Rattle.records.specs.Decode.{many}
 use Rattle.records.specs.Images.{Argument, argumentNumberAt, argumentValueAt, argumentAt, argumentsOf}
-use Rattle.arguments.specs.Arguments.{lastFrom, lastNamed, instead}
-use Rattle.arguments.specs.Relations.Given.{between, meant, Within}
-use Rattle.records.proofs.Laws.{span-in, byte-inv}
-use Rattle.records.proofs.Named.{clash, meet}
-use Rattle.records.proofs.Views.{both, never, num-is, num-none, ruled-elim, id-elim, flag-elim, many-cons, many-nil}
+use Rattle.records.specs.Optional.{orElse, optionOf}
+use Rattle.records.specs.Names.{lastNamed}
+use Rattle.records.proofs.Last.{or-none, or-true, or-false, last-cons}
+use Rattle.arguments.specs.Relations.Given.{meant, Within}
+use Rattle.arguments.specs.Relations.Outline.{numberGiven, textGiven, valueGiven, rowAt, readOr, givenFrom, readable, rowsOf, orMissing, givenBy}
+use Rattle.records.proofs.Laws.{after-elim, got-elim, span-in, byte-inv, number-inv, number-in, bytes-in, bytes-out}
+use Rattle.records.proofs.Views.{pick-elim, as-elim, num-is, num-none, next-is, next-none, str-is, ruled-elim, id-str, flag-elim, many-cons, many-nil}
 use Rattle.arguments.proofs.Laws.{between-in}
-use Rattle.arguments.proofs.Views.{argument-elim, argument-number-elim, value-text, value-number, value-nothing, arguments-image-elim}
+use Rattle.arguments.proofs.Views.{argument-elim, argument-value-elim, argument-number-elim, arguments-image-elim}
 
--- the value at a position
-module _ (s : List ℕ) (at : ℕ) {tag p : ℕ} (hb : byteAt s at ≡ got tag p) {v : Argument} {f : ℕ} (h : argumentValueAt s at ≡ got v f) where
-  pub text-bad : {C : Type 0} → tag ≡ 1 → spanAt s p ≡ bad → C
-  text-bad i g = value-text s at hb h i (λ t ht _. ruled-elim isUtf8 s p ht (λ a hs _ _. never g hs))
+-- a value by its tag
+module _ (s : List ℕ) (at : ℕ) {r : Num} (is : r ≡ numOf (byteAt s at)) where
+  pub value-bad : r ≡ num.Bad → valueGiven s at ≡ bad
+  unfolding valueGiven after
+  value-bad h = rw (num-none is h)
 
-  pub text-meant : {a e : ℕ} → tag ≡ 1 → spanAt s p ≡ got a e → meant s (given.Text a e) ≡ some v
-  unfolding meant
-  text-meant {a} {e} i g =
-      value-text s at hb h i (λ t ht w.
-      ruled-elim isUtf8 s p ht (λ a′ hs et _.
-      both g hs (λ ea ee.
-      let q = span-in s p g in
-      ap some (ap Argument.string (between-in s a e (q .0) (q .1) ∙ ap (λ (k : ℕ). part s k (e - k)) ea ∙ ap (λ (k : ℕ). part s a′ (k - a′)) ee ∙ sym et) ∙ sym w))))
+  pub value-text : {tag p : ℕ} → r ≡ num.At tag p → tag ≡ 1 → valueGiven s at ≡ textGiven s p
+  unfolding valueGiven after pick
+  value-text {tag} h i = rw (num-is is h, eq-eqb tag 1 i)
 
-  pub number-meant : {sign q d r : ℕ} → tag ≡ 2 → byteAt s p ≡ got sign q → numberAt 8 s q ≡ got d r → meant s (given.Number (eqb sign 1) d (getD s r 0)) ≡ some v
-  unfolding meant
-  number-meant {sign} {q} {d} {r} i hs hd =
-      value-number s at hb h i (λ hn.
-      argument-number-elim s p hn (λ g q′ d′ r′ k hg hd′ _ hk _ w.
-      let flag : (g ≡ eqb sign 1) × (q ≡ q′) = flag-elim s p hg (λ y e. both hs y (λ es eq. (e ∙ (rw es), eq))) (λ y e. both hs y (λ es eq. (e ∙ (rw es), eq))) in
-      both hd (ap (numberAt 8 s) (flag .1) ∙ hd′) (λ ed er.
-      let ek : k ≡ getD s r 0 = byte-inv s r′ hk .1 ∙ ap (λ (j : ℕ). getD s j 0) (sym er) in
-      ap some (ap (λ (x : Bool). Argument.number x d (getD s r 0)) (sym (flag .0)) ∙ ap (λ (x : ℕ). Argument.number g x (getD s r 0)) ed ∙ ap (Argument.number g d′) (sym ek) ∙ sym w))))
+  pub value-number : {tag p : ℕ} → r ≡ num.At tag p → tag ≡ 2 → valueGiven s at ≡ numberGiven s p
+  unfolding valueGiven after pick
+  value-number {tag} h i = rw (num-is is h, ne-eqb tag 1 (λ z. omega arith), eq-eqb tag 2 i)
 
-  -- each part of a number is there
-  pub number-bad : {C : Type 0} → tag ≡ 2 → byteAt s p ≡ bad → C
-  number-bad i g = value-number s at hb h i (λ hn. argument-number-elim s p hn (λ b q d r k hg _ _ _ _ _. flag-elim s p hg (λ y _. never g y) (λ y _. never g y)))
+  pub value-nothing : {tag p : ℕ} → r ≡ num.At tag p → (tag ≡ 1 → ⊥) → (tag ≡ 2 → ⊥) → valueGiven s at ≡ got given.Nothing p
+  unfolding valueGiven after pick
+  value-nothing {tag} h i j = rw (num-is is h, ne-eqb tag 1 i, ne-eqb tag 2 j)
 
-  pub digits-bad : {C : Type 0} {sign q : ℕ} → tag ≡ 2 → byteAt s p ≡ got sign q → numberAt 8 s q ≡ bad → C
-  digits-bad i hs g =
-      value-number s at hb h i (λ hn. argument-number-elim s p hn (λ b q′ d r k hg hd _ _ _ _.
-      let eq = flag-elim s p hg (λ y _. both hs y (λ _ e. e)) (λ y _. both hs y (λ _ e. e)) in
-      never (ap (numberAt 8 s) (sym eq) ∙ g) hd))
+-- two readings of the same bytes end alike
+pub ends-alike : {A B C : Type 0} (g : Got A) (f : A → ℕ → B) (h : A → ℕ → C) → nextOf (after g (λ a e. got (f a e) e)) ≡ nextOf (after g (λ a e. got (h a e) e))
+unfolding after nextOf
+ends-alike (got a e) f h = refl
+ends-alike bad f h = refl
 
-  pub scale-bad : {C : Type 0} {sign q d r : ℕ} → tag ≡ 2 → byteAt s p ≡ got sign q → numberAt 8 s q ≡ got d r → length s ≤ r → C
-  scale-bad {r = r} i hs hd l =
-      value-number s at hb h i (λ hn. argument-number-elim s p hn (λ b q′ d′ r′ k hg hd′ _ hk _ _.
-      let eq = flag-elim s p hg (λ y _. both hs y (λ _ e. e)) (λ y _. both hs y (λ _ e. e)) in
-      both hd (ap (numberAt 8 s) eq ∙ hd′) (λ _ er. let z = byte-inv s r′ hk .0 in absurd (omega arith))))
+pub text-ends : (s : List ℕ) (at : ℕ) → nextOf (strAt s at) ≡ nextOf (textGiven s at)
+unfolding strAt textGiven
+text-ends s at = ends-alike (spanAt s at) (λ p e. part s p (e - p)) (λ p e. given.Text p e)
 
-  pub nothing-meant : (tag ≡ 1 → ⊥) → (tag ≡ 2 → ⊥) → meant s given.Nothing ≡ some v
-  unfolding meant
-  nothing-meant i j = value-nothing s at hb h i j (λ _ w. ap some (sym w))
+-- a text by its Str
+module _ (s : List ℕ) (at : ℕ) where
+  pub text-bad : spanAt s at ≡ bad → textGiven s at ≡ bad
+  unfolding textGiven after
+  text-bad h = rw h
 
--- the arguments of an image, from where its count says
-pub image-arguments : (s : List ℕ) {k p : ℕ} {l : List (List ℕ × Argument)} {e : ℕ} → numberAt 2 s 5 ≡ got k p → argumentsOf s ≡ got l e → many [] _∷_ k argumentAt s p ≡ got l e
-image-arguments s {k} {p} {l} {e} hn h =
-    arguments-image-elim s h (λ k′ hk hm. both hn hk (λ ek ep. rw (ek, ep) hm))
+  pub text-is : {a e : ℕ} → spanAt s at ≡ got a e → textGiven s at ≡ got (given.Text a e) e
+  unfolding textGiven after
+  text-is h = rw h
 
--- the arguments left to read, with what was found so far, give what all of them give
-abbrev pub Last : List ℕ → List ℕ → ℕ → ℕ → ℕ → ℕ → Option Argument → Type 0
-Last s name count from left at o = (l : List (List ℕ × Argument)) (f : ℕ) → many [] _∷_ count argumentAt s from ≡ got l f → (t : List (List ℕ × Argument)) × (many [] _∷_ left argumentAt s at ≡ got t f) × (lastNamed name l ≡ lastFrom name o t)
+byte-in : (s : List ℕ) (at : ℕ) → at < length s → byteAt s at ≡ got (getD s at 0) (at + 1)
+unfolding byteAt test
+byte-in s at h = rw (lt-ltb at (length s) h)
 
--- the first of those arguments: where its name and its value stand, and the rest
-module _ (s : List ℕ) (n at : ℕ) {l : List (List ℕ × Argument)} {f : ℕ} (h : 0 < n) (all : many [] _∷_ n argumentAt s at ≡ got l f) where
-  first-argument : {C : Type 0} → ((q g : ℕ) (v : Argument) (e : ℕ) (t : List (List ℕ × Argument)) → spanAt s at ≡ got q g → argumentValueAt s g ≡ got v e → many [] _∷_ (n - 1) argumentAt s e ≡ got t f → l ≡ (part s q (g - q), v) ∷ t → C) → C
-  first-argument c =
-      many-cons [] _∷_ argumentAt s n at h all (λ a e t ha ht w.
-      argument-elim s at ha (λ m g v hm hv wa.
-      id-elim s at hm (λ q hs em _.
-      c q g v e t hs hv ht (w ∙ ap (λ (y : List ℕ × Argument). y ∷ t) wa ∙ ap (λ (y : List ℕ). (y, v) ∷ t) em))))
+byte-out : (s : List ℕ) (at : ℕ) → length s ≤ at → byteAt s at ≡ bad
+unfolding byteAt test
+byte-out s at h = rw (le-ltb at (length s) h)
 
-  pub argument-read : {C : Type 0} {r : Num} → r ≡ numOf (spanAt s at) → r ≡ num.Bad → C
-  argument-read p q = first-argument (λ q′ g v e t hs hv ht w. never (num-none p q) hs)
+-- a number by its parts
+module _ (s : List ℕ) (at : ℕ) where
+  pub number-bad : byteAt s at ≡ bad → numberGiven s at ≡ bad
+  unfolding numberGiven after
+  number-bad h = rw h
 
-  pub argument-turn : {C : Type 0} {r : Num} {q g : ℕ} → r ≡ numOf (spanAt s at) → r ≡ num.At q g
-      → ((v : Argument) (e : ℕ) (t : List (List ℕ × Argument)) → argumentValueAt s g ≡ got v e → many [] _∷_ (n - 1) argumentAt s e ≡ got t f → l ≡ (part s q (g - q), v) ∷ t → C) → C
-  argument-turn {q = q} {g = g} p v c =
-      first-argument (λ q′ g′ x e t hs hx ht w.
-      both (num-is p v) hs (λ eq eg.
-      c x e t (ap (argumentValueAt s) eg ∙ hx) ht
-      (w ∙ ap (λ (k : ℕ). (part s k (g′ - k), x) ∷ t) (sym eq) ∙ ap (λ (k : ℕ). (part s q (k - q), x) ∷ t) (sym eg))))
+  module _ {f p : ℕ} (hf : byteAt s at ≡ got f p) where
+    pub digits-bad : numberAt 8 s p ≡ bad → numberGiven s at ≡ bad
+    unfolding numberGiven after
+    digits-bad h = rw (hf, h)
 
--- a name found, a name passed, the start, the end
-module _ (name y : List ℕ) (v : Argument) (o : Option Argument) (t : List (List ℕ × Argument)) where
-  pub last-here : {o′ : Option Argument} → sameBytes y name ≡ true → o′ ≡ some v → lastFrom name o ((y, v) ∷ t) ≡ lastFrom name o′ t
-  unfolding lastFrom instead
-  last-here h k = rw (h, k)
+    pub scale-bad : {d q : ℕ} → numberAt 8 s p ≡ got d q → length s ≤ q → numberGiven s at ≡ bad
+    unfolding numberGiven after
+    scale-bad {q = q} h l = rw (hf, h, byte-out s q l)
 
-  pub last-later : sameBytes y name ≡ false → lastFrom name o ((y, v) ∷ t) ≡ lastFrom name o t
-  unfolding lastFrom instead
-  last-later h = rw h
+    pub number-is : {d q : ℕ} → numberAt 8 s p ≡ got d q → q < length s → numberGiven s at ≡ got (given.Number (eqb f 1) d (getD s q 0)) (q + 1)
+    unfolding numberGiven after
+    number-is {q = q} h l = rw (hf, h, byte-in s q l)
 
-pub last-none : (name : List ℕ) (o : Option Argument) (t : List (List ℕ × Argument)) → t ≡ [] → lastFrom name o t ≡ o
+  number-out : (g : Got Given) → numberGiven s at ≡ g → length s < at + 10 → g ≡ bad
+  unfolding numberGiven
+  number-out bad w l = refl
+  number-out (got v e) w l =
+      after-elim (byteAt s at) _ w (λ f p hf h.
+      after-elim (numberAt 8 s p) _ h (λ d q hd h.
+      as-elim _ (byteAt s q) h (λ k hk _.
+      let ep = byte-inv s at hf .2 in
+      let eq = number-inv s 8 p hd .1 in
+      let lk = byte-inv s q hk .0 in
+      absurd (omega arith))))
+
+  -- it is ten bytes
+  pub number-ends : nextOf (bytesAt 10 s at) ≡ nextOf (numberGiven s at)
+  unfolding nextOf
+  number-ends = go (leb (at + 10) (length s)) refl
+    where
+      go : (t : Bool) → leb (at + 10) (length s) ≡ t → nextOf (bytesAt 10 s at) ≡ nextOf (numberGiven s at)
+      go true t =
+          let l = leb-true (at + 10) (length s) t in
+          let e : at + 1 + 8 + 1 ≡ at + 10 = omega arith in
+          rw (bytes-in s at 10 l, number-is (byte-in s at (omega arith)) (number-in s (at + 1) 8 (omega arith)) (omega arith), e)
+      go false t =
+          let l = leb-false (at + 10) (length s) t in
+          rw (bytes-out s at 10 (omega arith), number-out (numberGiven s at) refl (omega arith))
+
+-- what the code answers for a value
+pub given-bad : {g : Got Given} → g ≡ bad → given.Missing ≡ givenFrom g
+unfolding givenFrom readOr
+given-bad h = rw h
+
+pub given-is : {g : Got Given} {v : Given} {e : ℕ} → g ≡ got v e → v ≡ givenFrom g
+unfolding givenFrom readOr
+given-is h = rw h
+
+-- A later one takes the place of an earlier one; the last of a name, or what was found before.
+unfoldable pub instead : {A : Type 0} → Bool → A → Option A → Option A
+instead true v o = some v
+instead false v o = o
+
+unfoldable pub lastFrom : {A : Type 0} → List ℕ → Option A → List (List ℕ × A) → Option A
+lastFrom n o [] = o
+lastFrom n o (a ∷ l) = lastFrom n (instead (sameBytes (a .0) n) (a .1) o) l
+
+instead-or : {A : Type 0} (t : Bool) (v : A) (o : Option A) → instead t v o ≡ orElse (optionOf t v) o
+unfolding instead
+instead-or true v o = sym (or-true v o)
+instead-or false v o = sym (or-false v o)
+
+nothing-last : {A : Type 0} (n : List ℕ) (o : Option A) → o ≡ orElse (lastNamed n []) o
+unfolding orElse lastNamed
+nothing-last n o = refl
+
+from-last : {A : Type 0} (n : List ℕ) (o : Option A) (l : List (List ℕ × A)) → lastFrom n o l ≡ orElse (lastNamed n l) o
 unfolding lastFrom
-last-none name o t h = rw h
+from-last n o [] = nothing-last n o
+from-last n o (a ∷ l) =
+    from-last n (instead (sameBytes (a .0) n) (a .1) o) l
+    ∙ ap (orElse (lastNamed n l)) (instead-or (sameBytes (a .0) n) (a .1) o)
+    ∙ sym (last-cons n a l o (sameBytes (a .0) n) refl)
 
-pub last-start : (name : List ℕ) (l : List (List ℕ × Argument)) → lastNamed name l ≡ lastFrom name none l
-unfolding lastNamed
-last-start name l = refl
+from-none : {A : Type 0} (n : List ℕ) (l : List (List ℕ × A)) → lastFrom n none l ≡ lastNamed n l
+from-none n l = from-last n none l ∙ or-none (lastNamed n l)
 
--- a turn of the search: the name is the one, and what stands there takes the place of what was found; or it is not
-module _ (s name : List ℕ) (count from left at : ℕ) (best : Given) {r : Num} {q g : ℕ} {x : Next} {i : ℕ}
-    (z : 0 < left) (inv : Within s best × Last s name count from left at (meant s best))
-    (is : r ≡ numOf (spanAt s at)) (h : r ≡ num.At q g)
-    (skip : (v : Argument) (e : ℕ) → argumentValueAt s g ≡ got v e → x ≡ next.At e) (k : x ≡ next.At i) where
-  pub turn-here : {b b′ : Given} → sameBytes (part s q (g - q)) name ≡ true → Within s b′ × ((v : Argument) (e : ℕ) → argumentValueAt s g ≡ got v e → meant s b′ ≡ some v) → b ≡ b′
-      → Within s b × Last s name count from (left - 1) i (meant s b)
-  turn-here {b} {b′} y w e = (
-    subst (Within s) (sym e) (w .0),
-    λ l f all.
-        let j = inv .1 l f all in
-        argument-turn s left at z (j .1) is h (λ v n t hv ht wl.
-        (t, subst (λ (o : ℕ). many [] _∷_ (left - 1) argumentAt s o ≡ got t f) (meet (skip v n hv) k) ht, j .2 ∙ ap (lastFrom name (meant s best)) wl ∙ last-here name _ v (meant s best) t y (ap (meant s) e ∙ w .1 v n hv))),
-  )
+-- one argument more
+last-turn : {A : Type 0} (name y : List ℕ) (v : A) (o : Option A) (l : List (List ℕ × A)) {t : Bool} → sameBytes y name ≡ t → lastFrom name o ((y, v) ∷ l) ≡ lastFrom name (instead t v o) l
+unfolding lastFrom
+last-turn name y v o l h = rw h
 
-  pub turn-later : {b : Given} → sameBytes (part s q (g - q)) name ≡ false → b ≡ best → Within s b × Last s name count from (left - 1) i (meant s b)
-  turn-later {b} y e = (
-    subst (Within s) (sym e) (inv .0),
-    λ l f all.
-        let j = inv .1 l f all in
-        argument-turn s left at z (j .1) is h (λ v n t hv ht wl.
-        (t, subst (λ (o : ℕ). many [] _∷_ (left - 1) argumentAt s o ≡ got t f) (meet (skip v n hv) k) ht, j .2 ∙ ap (lastFrom name (meant s best)) wl ∙ last-later name _ v (meant s best) t y ∙ ap (λ (u : Given). lastFrom name (meant s u) t) (sym e))),
-  )
+-- The search: what was found so far, and the arguments that are left, give what all of them give.
+abbrev pub Search : List ℕ → List ℕ → ℕ → ℕ → Given → Type 0
+Search s name left at best = (o : Option Given) × (best ≡ orMissing o) × (givenBy s name ≡ orMissing (lastFrom name o (readable left rowAt s at)))
+
+given-from : (s name : List ℕ) → givenBy s name ≡ orMissing (lastFrom name none (rowsOf s))
+unfolding givenBy
+given-from s name = ap orMissing (sym (from-none name (rowsOf s)))
+
+rows-from : (s : List ℕ) {count from : ℕ} → numberAt 2 s 5 ≡ got count from → rowsOf s ≡ readable count rowAt s from
+unfolding rowsOf readOr
+rows-from s h = rw h
+
+pub search-none : (s name : List ℕ) {r : Num} → r ≡ numOf (numberAt 2 s 5) → r ≡ num.Bad → given.Missing ≡ givenBy s name
+unfolding givenBy rowsOf readOr lastNamed orMissing
+search-none s name is h = rw (num-none is h)
+
+pub search-start : (s name : List ℕ) {r : Num} {count from : ℕ} → r ≡ numOf (numberAt 2 s 5) → r ≡ num.At count from → Search s name count from given.Missing
+unfolding orMissing
+search-start s name is h = (none, refl, given-from s name ∙ ap (λ (l : List (List ℕ × Given)). orMissing (lastFrom name none l)) (rows-from s (num-is is h)))
+
+module _ (s name : List ℕ) (left at : ℕ) {best : Given} (inv : Search s name left at best) where
+  pub search-end : left ≤ 0 → best ≡ givenBy s name
+  unfolding readable lastFrom
+  search-end z = inv .1 ∙ sym (inv .2 ∙ go left z)
+    where
+      go : (n : ℕ) → n ≤ 0 → orMissing (lastFrom name (inv .0) (readable n rowAt s at)) ≡ orMissing (inv .0)
+      go zero z = refl
+      go (suc n) z = absurd (omega arith)
+
+  -- an argument cannot be read
+  search-stop : rowAt s at ≡ bad → best ≡ givenBy s name
+  unfolding readable readOr lastFrom
+  search-stop h = inv .1 ∙ sym (inv .2 ∙ go left)
+    where
+      go : (n : ℕ) → orMissing (lastFrom name (inv .0) (readable n rowAt s at)) ≡ orMissing (inv .0)
+      go zero = refl
+      go (suc n) = rw h
+
+  module _ {r : Num} (is : r ≡ numOf (spanAt s at)) where
+    pub search-name : r ≡ num.Bad → best ≡ givenBy s name
+    unfolding rowAt strAt after
+    search-name h = search-stop (row-bad (num-none is h))
+      where
+        row-bad : spanAt s at ≡ bad → rowAt s at ≡ bad
+        row-bad w = rw w
+
+    module _ {q g : ℕ} (h : r ≡ num.At q g) {x : Next} (vs : x ≡ nextOf (valueGiven s g)) where
+      pub search-value : x ≡ next.Bad → best ≡ givenBy s name
+      unfolding rowAt after
+      search-value w = search-stop (row-bad (next-none vs w))
+        where
+          row-bad : valueGiven s g ≡ bad → rowAt s at ≡ bad
+          row-bad e = rw (str-is s at is h, e)
+
+      -- the argument that the code passed, and the rest
+      turn : {i : ℕ} → x ≡ next.At i → 0 < left → (v : Given) × (valueGiven s g ≡ got v i) × (readable left rowAt s at ≡ (part s q (g - q), v) ∷ readable (left - 1) rowAt s i)
+      unfolding readable readOr rowAt after
+      turn {i} w z = next-is vs w (λ v hv. (v, hv, go v hv left z))
+        where
+          go : (v : Given) → valueGiven s g ≡ got v i → (n : ℕ) → 0 < n → readable n rowAt s at ≡ (part s q (g - q), v) ∷ readable (n - 1) rowAt s i
+          go v hv zero z = absurd (omega arith)
+          go v hv (suc n) z = let m : suc n - 1 ≡ n = omega arith in rw (m, str-is s at is h, hv)
+
+      -- its name is the one, and its value takes the place of what was found; or it is not
+      pub search-here : {i : ℕ} → x ≡ next.At i → 0 < left → sameBytes (part s q (g - q)) name ≡ true → {b b′ : Given} → b′ ≡ givenFrom (valueGiven s g) → b ≡ b′ → Search s name (left - 1) i b
+      unfolding instead orMissing
+      search-here w z y gb e =
+          let k = turn w z in
+          (some (k .0), e ∙ gb ∙ sym (given-is (k .1)), inv .2 ∙ ap orMissing (ap (lastFrom name (inv .0)) (k .2) ∙ last-turn name _ (k .0) (inv .0) _ y))
+
+      pub search-later : {i : ℕ} → x ≡ next.At i → 0 < left → sameBytes (part s q (g - q)) name ≡ false → {b : Given} → b ≡ best → Search s name (left - 1) i b
+      unfolding instead
+      search-later w z y e =
+          let k = turn w z in
+          (inv .0, e ∙ inv .1, inv .2 ∙ ap orMissing (ap (lastFrom name (inv .0)) (k .2) ∙ last-turn name _ (k .0) (inv .0) _ y))
+
+-- What is found where the image decodes: what the definition says of its arguments.
+value-means : (s : List ℕ) (at : ℕ) {a : Argument} {e : ℕ} → argumentValueAt s at ≡ got a e → (v : Given) × (valueGiven s at ≡ got v e) × (meant s v ≡ some a)
+unfolding valueGiven textGiven numberGiven after pick meant
+value-means s at {a} {e} h =
+    argument-value-elim s at h
+    (λ p t hb ht w.
+    ruled-elim isUtf8 s p ht (λ q hs et _.
+    let k = span-in s p hs in
+    (given.Text q e, rw (hb, hs), ap some (ap Argument.string (between-in s q e (k .0) (k .1) ∙ sym et) ∙ sym w))))
+    (λ p hb hn.
+    argument-number-elim s p hn (λ f q d r k hf hd _ hk _ w.
+    let sign : (y : ℕ) × (byteAt s p ≡ got y q) × (eqb y 1 ≡ f) = flag-elim s p hf (λ y z. (0, y, sym z)) (λ y z. (1, y, sym z)) in
+    (given.Number f d k, rw (hb, sign .1, hd, hk, sign .2), ap some (sym w))))
+    (λ hb w. (given.Nothing, rw hb, ap some (sym w)))
+
+module _ (s name : List ℕ) where
+  rows-mean : (n at : ℕ) (o : Option Given) {l : List (List ℕ × Argument)} {f : ℕ} → many [] _∷_ n argumentAt s at ≡ got l f
+      → meant s (orMissing (lastFrom name o (readable n rowAt s at))) ≡ lastFrom name (meant s (orMissing o)) l
+  unfolding readable readOr rowAt after lastFrom instead orMissing
+  rows-mean zero at o h = many-nil [] _∷_ argumentAt s zero at (omega arith) h (λ e _. rw e)
+  rows-mean (suc n) at o {l} {f} h =
+      let m : suc n - 1 ≡ n = omega arith in
+      many-cons [] _∷_ argumentAt s (suc n) at (omega arith) h (λ a e t ha ht w.
+      argument-elim s at ha (λ i p v hi hv wa.
+      let k = value-means s p hv in
+      let x = rows-mean n e (instead (sameBytes i name) (k .0) o) (subst (λ (j : ℕ). many [] _∷_ j argumentAt s e ≡ got t f) m ht) in
+      rw (id-str s at hi, k .1, w, wa) (x ∙ ap (λ (y : Option Argument). lastFrom name y t) (same (sameBytes i name) (k .0) (k .2)))))
+    where
+      same : (t : Bool) (g : Given) {v : Argument} → meant s g ≡ some v → meant s (orMissing (instead t g o)) ≡ instead t v (meant s (orMissing o))
+      same true g h = h
+      same false g h = refl
+
+  given-meant : {l : List (List ℕ × Argument)} {e : ℕ} → argumentsOf s ≡ got l e → meant s (givenBy s name) ≡ lastNamed name l
+  unfolding orMissing meant
+  given-meant {l} h = arguments-image-elim s h (λ k hk hm.
+      ap (meant s) (given-from s name ∙ ap (λ (r : List (List ℕ × Given)). orMissing (lastFrom name none r)) (rows-from s hk)) ∙ rows-mean k 7 none hm ∙ from-none name l)
+
+-- A text that is found lies in the bytes, whatever they are.
+value-within : (s : List ℕ) (at : ℕ) {v : Given} {e : ℕ} → valueGiven s at ≡ got v e → Within s v
+unfolding valueGiven textGiven numberGiven Within
+value-within s at h =
+    after-elim (byteAt s at) _ h (λ t p _ h.
+    pick-elim _ _ _ h
+    (λ _ h. after-elim (spanAt s p) _ h (λ a i hs h. got-elim h (λ x y. subst (Within s) x (span-in s p hs))))
+    (λ _ h. pick-elim _ _ _ h
+    (λ _ h. after-elim (byteAt s p) _ h (λ f q _ h. after-elim (numberAt 8 s q) _ h (λ d r _ h. as-elim _ (byteAt s r) h (λ k _ w. subst (Within s) (sym w) tt))))
+    (λ _ h. got-elim h (λ x _. subst (Within s) x tt))))
+
+row-within : (s : List ℕ) (at : ℕ) {a : List ℕ × Given} {e : ℕ} → rowAt s at ≡ got a e → Within s (a .1)
+unfolding rowAt
+row-within s at h = after-elim (strAt s at) _ h (λ n p _ h. as-elim _ _ h (λ v hv w. subst (λ (y : List ℕ × Given). Within s (y .1)) (sym w) (value-within s p hv)))
+
+module _ (s name : List ℕ) where
+  instead-within : (t : Bool) (v : Given) (o : Option Given) → Within s v → Within s (orMissing o) → Within s (orMissing (instead t v o))
+  unfolding instead orMissing
+  instead-within true v o w h = w
+  instead-within false v o w h = h
+
+  read-within : {A : Type 0} (o : Option Given) (g : Got A) (k : A → ℕ → List (List ℕ × Given)) → Within s (orMissing o) → ((a : A) (e : ℕ) → g ≡ got a e → Within s (orMissing (lastFrom name o (k a e))))
+      → Within s (orMissing (lastFrom name o (readOr [] g k)))
+  unfolding readOr lastFrom
+  read-within o bad k h f = h
+  read-within o (got a e) k h f = f a e refl
+
+  rows-within : (n at : ℕ) (o : Option Given) → Within s (orMissing o) → Within s (orMissing (lastFrom name o (readable n rowAt s at)))
+  unfolding readable lastFrom
+  rows-within zero at o h = h
+  rows-within (suc n) at o h = read-within o (rowAt s at) _ h (λ a e w. rows-within n e _ (instead-within (sameBytes (a .0) name) (a .1) o (row-within s at w) h))
+
+  given-within : Within s (givenBy s name)
+  unfolding rowsOf orMissing Within
+  given-within = subst (Within s) (sym (given-from s name)) (read-within none (numberAt 2 s 5) _ tt (λ n e _. rows-within n e none tt))
+
+  -- what find_argument answers: a text of it lies in the bytes, and where they decode it is what the definition says
+  pub found-means : {r : Given} → r ≡ givenBy s name → Within s r × ((l : List (List ℕ × Argument)) (e : ℕ) → argumentsOf s ≡ got l e → meant s r ≡ lastNamed name l)
+  found-means h = (subst (Within s) (sym h) given-within, λ l e k. ap (meant s) h ∙ given-meant s name k)

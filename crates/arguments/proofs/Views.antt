@@ -3,19 +3,19 @@ use mathlib.Core.Path.{_≡_, ap, sym, subst, _∙_}
 use mathlib.Core.List.{List, [], _∷_}
 use mathlib.Core.Bool.{Bool}
 use Prim.Native.Nat.{ℕ, _+_, _≤_, _<_}
-use native.Mathlib.Omega.{arith}
 use borrow.Author.Tests.{ltb-true, leb-true}
-use Rattle.records.specs.Got.{got, bad}
-use Rattle.records.specs.Bytes.{part, byteAt, bytesAt, numberAt}
+use Rattle.records.specs.Got.{got}
+use Rattle.records.specs.Bytes.{byteAt, numberAt}
 use Rattle.rules.specs.Rules.{isUtf8}
 use Rattle.records.specs.Decode.{many, ruledAt, flagAt, idAt}
-use Rattle.records.specs.Images.{Argument, maxScale, digitsLimit, oneAt, argumentNumberAt, argumentValueAt, argumentAt, argumentsAt, argumentsOf}
-use Rattle.records.proofs.Laws.{after-elim, test-elim, got-elim, number-inv, bytes-in, byte-inv}
-use Rattle.records.proofs.Views.{pick-elim, as-elim, both, never, byte-tag, one-elim, flag-elim, whole-elim}
+use Rattle.records.specs.Images.{Argument, oneAt, argumentNumberAt, argumentValueAt, argumentAt, argumentsAt, argumentsOf}
+use Rattle.decimals.specs.Decimal.{scaleLimit, digitsLimit}
+use Rattle.records.proofs.Laws.{after-elim, test-elim, got-elim, number-inv, byte-inv}
+use Rattle.records.proofs.Views.{pick-elim, as-elim, byte-tag, one-elim, whole-elim}
 
 -- an argument's number: its sign, its digits and its scale
 pub argument-number-elim : {C : Type 0} (s : List ℕ) (at : ℕ) {v : Argument} {e : ℕ} → argumentNumberAt s at ≡ got v e
-    → ((f : Bool) (p d q k : ℕ) → flagAt s at ≡ got f p → numberAt 8 s p ≡ got d q → d < digitsLimit → byteAt s q ≡ got k e → k ≤ maxScale → v ≡ Argument.number f d k → C) → C
+    → ((f : Bool) (p d q k : ℕ) → flagAt s at ≡ got f p → numberAt 8 s p ≡ got d q → d < digitsLimit → byteAt s q ≡ got k e → k ≤ scaleLimit → v ≡ Argument.number f d k → C) → C
 unfolding argumentNumberAt
 argument-number-elim s at h c =
     after-elim (flagAt s at) _ h (λ f p hf h.
@@ -23,19 +23,7 @@ argument-number-elim s at h c =
     test-elim _ _ h (λ z h.
     after-elim (byteAt s q) _ h (λ k i hk h.
     test-elim _ _ h (λ t h. got-elim h (λ x y.
-    c f p d q k hf hd (ltb-true d digitsLimit z) (hk ∙ ap (λ (j : ℕ). got k j) y) (leb-true k maxScale t) (sym x)))))))
-
--- a number is ten bytes
-pub argument-number-bytes : (s : List ℕ) (at : ℕ) {v : Argument} {e : ℕ} → argumentNumberAt s at ≡ got v e → bytesAt 10 s at ≡ got (part s at 10) e
-argument-number-bytes s at {v} {e} h =
-    argument-number-elim s at h (λ f p d q k hf hd _ hk _ _.
-    let ep : p ≡ at + 1 = flag-elim s at hf (λ y _. byte-inv s at y .2) (λ y _. byte-inv s at y .2) in
-    let eq = number-inv s 8 p hd .1 in
-    let ek = byte-inv s q hk in
-    let lk = ek .0 in
-    let ee = ek .2 in
-    let w : at + 10 ≡ e = omega arith in
-    bytes-in s at 10 (omega arith) ∙ ap (λ (j : ℕ). got (part s at 10) j) w)
+    c f p d q k hf hd (ltb-true d digitsLimit z) (hk ∙ ap (λ (j : ℕ). got k j) y) (leb-true k scaleLimit t) (sym x)))))))
 
 -- an argument's value: by its tag
 pub argument-value-elim : {C : Type 0} (s : List ℕ) (at : ℕ) {v : Argument} {e : ℕ} → argumentValueAt s at ≡ got v e
@@ -48,29 +36,6 @@ argument-value-elim s at h c d f =
     pick-elim _ _ _ h (λ t h. as-elim _ _ h (λ b q w. c p b (byte-tag hb t) q w)) (λ _ h.
     pick-elim _ _ _ h (λ t h. d p (byte-tag hb t) h) (λ _ h.
     test-elim _ _ h (λ t h. got-elim h (λ x y. f (byte-tag hb t ∙ ap (λ (j : ℕ). got 3 j) y) (sym x))))))
-
--- the same, where the tag is known
-module _ (s : List ℕ) (at : ℕ) {tag p : ℕ} (hb : byteAt s at ≡ got tag p) {v : Argument} {e : ℕ} (h : argumentValueAt s at ≡ got v e) where
-  pub value-text : {C : Type 0} → tag ≡ 1 → ((t : List ℕ) → ruledAt isUtf8 s p ≡ got t e → v ≡ Argument.string t → C) → C
-  value-text i c = argument-value-elim s at h
-      (λ q t hq ht w. both hb hq (λ _ ep. c t (ap (ruledAt isUtf8 s) ep ∙ ht) w))
-      (λ q hq _. both hb hq (λ et _. absurd (omega arith)))
-      (λ hq _. both hb hq (λ et _. absurd (omega arith)))
-
-  pub value-number : {C : Type 0} → tag ≡ 2 → (argumentNumberAt s p ≡ got v e → C) → C
-  value-number i c = argument-value-elim s at h
-      (λ q t hq ht w. both hb hq (λ et _. absurd (omega arith)))
-      (λ q hq hn. both hb hq (λ _ ep. c (ap (argumentNumberAt s) ep ∙ hn)))
-      (λ hq _. both hb hq (λ et _. absurd (omega arith)))
-
-  pub value-nothing : {C : Type 0} → (tag ≡ 1 → ⊥) → (tag ≡ 2 → ⊥) → (p ≡ e → v ≡ Argument.nothing → C) → C
-  value-nothing i j c = argument-value-elim s at h
-      (λ q t hq ht w. both hb hq (λ et _. absurd (i et)))
-      (λ q hq hn. both hb hq (λ et _. absurd (j et)))
-      (λ hq w. both hb hq (λ _ ep. c ep w))
-
-pub value-never : {C : Type 0} (s : List ℕ) (at : ℕ) {v : Argument} {e : ℕ} → byteAt s at ≡ bad → argumentValueAt s at ≡ got v e → C
-value-never s at hb h = argument-value-elim s at h (λ q t hq _ _. never hb hq) (λ q hq _. never hb hq) (λ hq _. never hb hq)
 
 -- an argument: its name, and its value
 pub argument-elim : {C : Type 0} (s : List ℕ) (at : ℕ) {a : List ℕ × Argument} {e : ℕ} → argumentAt s at ≡ got a e

@@ -1,20 +1,15 @@
-// Finding an argument in an image that was checked.
+// Finding an argument, by the lengths that stand in the bytes: an image that was checked is not checked again.
 ghost use mathlib.Core.Path.{_≡_};
-ghost use Prim.Native.Nat.{ℕ};
-ghost use mathlib.Core.List.{List};
-ghost use mathlib.Core.Option.{some};
-ghost use Rattle.records.specs.Got.{got};
-ghost use Rattle.records.specs.Images.{Argument, argumentValueAt, argumentsOf};
-ghost use Rattle.arguments.specs.Arguments.{lastNamed};
-ghost use Rattle.arguments.specs.Relations.Given.{meant, Within, between};
+ghost use Rattle.records.specs.Relations.Answer.{nextOf};
+ghost use Rattle.arguments.specs.Relations.Given.{between};
+ghost use Rattle.arguments.specs.Relations.Outline.{givenBy, givenFrom, valueGiven};
 use crate::Given;
-use crate::number::read_u64;
 use records::Next;
 use records::Num;
 
-// Past a value that was checked; its bytes are not looked at again.
+// Past a value: its tag, and then a Str, ten bytes or nothing.
 fn skip_argument_value(s: &[u8], at: usize) -> Next
-    ensures { λ r. ⌜ ((v : Argument) (e : ℕ) → argumentValueAt (now (s .entry)) at ≡ got v e → r ≡ Next.At e) ⌝ }
+    ensures { λ r. ⌜ r ≡ nextOf (valueGiven (now (s .entry)) at) ⌝ }
 {
     let Num::At(tag, p) = records::read_byte(s, at) else {
         return Next::Bad;
@@ -29,8 +24,8 @@ fn skip_argument_value(s: &[u8], at: usize) -> Next
 }
 
 // The value at a position. Where none stands there: Missing.
-pub fn read_argument_value(s: &[u8], at: usize) -> Given
-    ensures { λ r. ⌜ Within (now (s .entry)) r × ((v : Argument) (e : ℕ) → argumentValueAt (now (s .entry)) at ≡ got v e → meant (now (s .entry)) r ≡ some v) ⌝ }
+fn read_argument_value(s: &[u8], at: usize) -> Given
+    ensures { λ r. ⌜ r ≡ givenFrom (valueGiven (now (s .entry)) at) ⌝ }
 {
     let Num::At(tag, p) = records::read_byte(s, at) else {
         return Given::Missing;
@@ -45,7 +40,7 @@ pub fn read_argument_value(s: &[u8], at: usize) -> Given
         let Num::At(sign, q) = records::read_byte(s, p) else {
             return Given::Missing;
         };
-        let Num::At(digits, r) = read_u64(s, q) else {
+        let Num::At(digits, r) = records::read_u64(s, q) else {
             return Given::Missing;
         };
         if r < s.len() {
@@ -56,9 +51,9 @@ pub fn read_argument_value(s: &[u8], at: usize) -> Given
     Given::Nothing
 }
 
-// What the arguments give for a name: of equal names the last holds.
+// What the arguments give for a name: of equal names the last holds. Where the bytes break off, those before hold.
 pub fn find_argument(args: &[u8], name: &[u8]) -> Given
-    ensures { λ r. ⌜ Within (now (args .entry)) r × ((l : List (List ℕ × Argument)) (e : ℕ) → argumentsOf (now (args .entry)) ≡ got l e → meant (now (args .entry)) r ≡ lastNamed (now (name .entry)) l) ⌝ }
+    ensures { λ r. ⌜ r ≡ givenBy (now (args .entry)) (now (name .entry)) ⌝ }
 {
     let Num::At(count, from) = records::read_u16(args, 5) else {
         return Given::Missing;
@@ -68,12 +63,12 @@ pub fn find_argument(args: &[u8], name: &[u8]) -> Given
     let mut best = Given::Missing;
     while 0 < left {
         let Num::At(p, e) = records::read_str(args, at) else {
-            return Given::Missing;
+            return best;
         };
         let Next::At(f) = skip_argument_value(args, e) else {
-            return Given::Missing;
+            return best;
         };
-        if rules::same_bytes(&args[p..e], name) {
+        if decimals::bytes::same_bytes(&args[p..e], name) {
             best = read_argument_value(args, e);
         }
         at = f;

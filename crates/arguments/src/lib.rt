@@ -4,16 +4,8 @@ pub mod image;
 pub mod number;
 
 pub use find::find_argument;
-pub use find::read_argument_value;
 pub use find::text_of;
-pub use image::check_all_arguments;
-pub use image::check_argument;
-pub use image::check_argument_value;
 pub use image::check_arguments;
-pub use image::check_arguments_at;
-pub use image::check_utf8;
-pub use number::check_argument_number;
-pub use number::read_u64;
 
 // What an arguments image gives for a name. A text is the part of the image from a position up to another; a number is sign, digits and scale.
 pub enum Given {

@@ -4,6 +4,7 @@ ghost use Prim.Native.Nat.{ℕ, _+_, _≤_};
 ghost use lib.ListN.{length, replicate};
 ghost use Rattle.records.specs.Bytes.{part};
 ghost use Rattle.buffers.specs.Relations.Append.{over, appended, movedBack};
+use records::has_bytes;
 use records::write_bytes;
 
 // Past what was written; or there is no room for it, and nothing is written.
@@ -16,16 +17,12 @@ pub enum Wrote {
 pub fn put_bytes(d: &mut [u8], at: usize, src: &[u8]) -> Wrote
     ensures { λ r. ⌜ (r, now (d .exit)) ≡ appended (now (d .entry)) at (now (src .entry)) ⌝ }
 {
-    let n = src.len();
-    if d.len() < n {
-        return Wrote::Full;
+    if has_bytes(d.len(), at, src.len()) {
+        let end = at + src.len();
+        write_bytes(d, at, src);
+        return Wrote::At(end);
     }
-    if d.len() - n < at {
-        return Wrote::Full;
-    }
-    let end = at + n;
-    write_bytes(d, at, src);
-    Wrote::At(end)
+    Wrote::Full
 }
 
 pub fn fill_zero(d: &mut [u8])
@@ -57,11 +54,7 @@ pub fn move_back(w: &mut [u8], from: usize, n: usize, to: usize)
     if to < from {
         return;
     }
-    if w.len() < n {
-        return;
+    if has_bytes(w.len(), to, n) {
+        move_up(w, from, n, to);
     }
-    if w.len() - n < to {
-        return;
-    }
-    move_up(w, from, n, to);
 }

@@ -9,7 +9,7 @@ use lib.Dec.{leb, eqb}
 use borrow.Author.Tests.{leb-true}
 use Rattle.records.specs.Got.{Got, got, bad}
 use Rattle.records.specs.Bytes.{toBe}
-use Rattle.rules.specs.Run.{run}
+use Rattle.decimals.specs.Bytes.{run}
 use Rattle.rules.specs.Rules.{idStep, isId}
 use Rattle.records.specs.Images.{Entry, Item, Store, isSome, maxStore, maxItems, maxLocale, storeOf, resourceOf}
 use Rattle.records.specs.Encode.{encStr, encWhole, encFunction, encItem, encAll, encStore}
@@ -47,7 +47,7 @@ stopped false r s l a f k h = let q : r ≡ k = cc in rw q
 
 -- the item's bytes, in a slice that has room for them
 accept : (s : List ℕ) → Octets s → (v : Store) (used : ℕ) → storeOf s ≡ got v used → (x : Item) → ValidItem x → (b : List ℕ) → encItem x ≡ b → (k : ℕ)
-    → length b ≡ k → hasRoom s used (length (v .items)) k ≡ true → Accepted s (withItem s used (length (v .items)) b) x
+    → length b ≡ k → hasRoom (length s) used (length (v .items)) k ≡ true → Accepted s (withItem s used (length (v .items)) b) x
 accept s oct v used h x ok b e k q room = record {
   store = v;
   used = used;
@@ -71,7 +71,7 @@ module _ (s image : List ℕ) (octets : Octets s) (bytes : Octets image) where
       → AcceptedResource s image (addPlainTo s image l (got v used) (got es e) .slice) Item.plain
   unfolding addPlainTo listed succeed ValidItem encItem
   plain l v used es e p q n h =
-      let room : Bool = hasRoom s used (length (v .items)) (1 + length image) in
+      let room : Bool = hasRoom (length s) used (length (v .items)) (1 + length image) in
       let errors : List Error = repeats (findIn (v .items)) es in
       let s′ : List ℕ = withItem s used (length (v .items)) (1 ∷ image) in
       let fits : Bool = leb (length (encErrors errors)) (length l) in
@@ -91,7 +91,7 @@ module _ (s image : List ℕ) (octets : Octets s) (bytes : Octets image) where
       → AcceptedResource s image (addOverridingTo s image (got v used) (got es e) .slice) Item.overriding
   unfolding addOverridingTo succeed ValidItem encItem
   overrides v used es e p q n h =
-      let room : Bool = hasRoom s used (length (v .items)) (1 + length image) in
+      let room : Bool = hasRoom (length s) used (length (v .items)) (1 + length image) in
       let a = passed room 6 s [] (succeed 0 (withItem s used (length (v .items)) (2 ∷ image)) []) n h in
       let y = resource-sound bytes q in
       record {
@@ -131,13 +131,13 @@ module _ (s id : List ℕ) (octets : Octets s) (code : ℕ) where
   unfolding addFunctionTo succeed encItem
   named v used p n h =
       let end : Added = succeed 0 (withItem s used (length (v .items)) (3 ∷ encFunction id)) [] in
-      let last : Added = orRefuse (hasRoom s used (length (v .items)) (9 + length id)) 6 s [] end in
+      let last : Added = orRefuse (hasRoom (length s) used (length (v .items)) (9 + length id)) 6 s [] end in
       let free : Added = orRefuse (not (isSome (findIn (v .items) id))) 10 s [] last in
       let known : Added = orRefuse (eqb code 1) 9 s [] free in
       let a = passed (isId id) 8 s [] known n h in
       let b = passed (eqb code 1) 9 s [] free n (ap (λ (x : Added). x .answer) (sym (a .1)) ∙ h) in
       let c = passed (not (isSome (findIn (v .items) id))) 10 s [] last n (ap (λ (x : Added). x .answer) (sym (a .1 ∙ b .1)) ∙ h) in
-      let d = passed (hasRoom s used (length (v .items)) (9 + length id)) 6 s [] end n (ap (λ (x : Added). x .answer) (sym (a .1 ∙ b .1 ∙ c .1)) ∙ h) in
+      let d = passed (hasRoom (length s) used (length (v .items)) (9 + length id)) 6 s [] end n (ap (λ (x : Added). x .answer) (sym (a .1 ∙ b .1 ∙ c .1)) ∙ h) in
       rw (a .1 ∙ b .1 ∙ c .1 ∙ d .1) (accept s octets v used p (Item.function id) (id-valid id (a .0)) (3 ∷ encFunction id) refl (9 + length id) (function-length id) (d .0))
 
   -- an accepted function stands behind the other items

@@ -1,20 +1,21 @@
 -- Steps of the additions: each refusal, and what a success leaves.
-use mathlib.Core.Path.{_≡_, refl, ap, sym, _∙_}
+use mathlib.Core.Path.{_≡_, ap, _∙_}
 use mathlib.Core.Bool.{true, false}
 use mathlib.Core.List.{List, [], _∷_}
 use Prim.Native.Nat.{ℕ, _+_, _≤_, _<_}
 use native.Mathlib.Omega.{arith}
 use lib.ListN.{length}
+use lib.Dec.{leb}
 use borrow.Author.Tests.{eq-eqb, ne-eqb, le-leb, lt-leb}
 use Rattle.records.specs.Got.{got, bad}
 use Rattle.rules.specs.Rules.{isId}
 use Rattle.records.specs.Encode.{encFunction}
-use Rattle.records.specs.Errors.{Error, encErrors}
+use Rattle.records.specs.Errors.{encErrors}
 use Rattle.records.specs.Images.{Entry, Store, isSome, storeOf, resourceOf}
 use Rattle.entries.specs.Lookup.{findIn}
 use Rattle.entries.specs.Repeats.{repeats}
 use Rattle.entries.specs.Relations.Marked.{marked}
-use Rattle.growth.specs.Items.{atFront, withItem, hasRoom}
+use Rattle.growth.specs.Items.{atFront, withItem, hasRoom, writtenIf, fileItem}
 use Rattle.listing.specs.declared.Listed.{Listed}
 use Rattle.listing.specs.declared.Listed.the-variants as list
 use Rattle.listing.specs.Relations.Lists.{Lists, lists-all, lists-short}
@@ -25,7 +26,7 @@ use Rattle.bundle.specs.Additions.{refuse, succeed, orRefuse, listed, ad
 use Rattle.bundle.specs.Gives.{answerOf, gave}
 use Rattle.bundle.specs.Relations.Places as places
 use Rattle.bundle.specs.Relations.Places.{ResourcePlace, FunctionPlace}
-use Rattle.bundle.proofs.Placing.{not-refused, resource-placed, function-placed}
+use Rattle.bundle.proofs.Placing.{not-refused, resource-placed, function-placed, resource-item, function-item}
 
 -- a plain addition, by its answers
 module _ (s image l : List ℕ) where
@@ -39,11 +40,11 @@ module _ (s image l : List ℕ) where
     plain-5 h = rw (hs, h)
 
     module _ {es : List Entry} {e : ℕ} (hr : resourceOf image ≡ got es e) where
-      pub plain-6 : hasRoom s u (length (st .items)) (1 + length image) ≡ false → gave (answer.Refused 6) s l ≡ addResource s image l
+      pub plain-6 : hasRoom (length s) u (length (st .items)) (1 + length image) ≡ false → gave (answer.Refused 6) s l ≡ addResource s image l
       unfolding gave answerOf addResource addPlainTo refuse orRefuse
       plain-6 h = rw (hs, hr, h)
 
-      module _ (room : hasRoom s u (length (st .items)) (1 + length image) ≡ true) where
+      module _ (room : hasRoom (length s) u (length (st .items)) (1 + length image) ≡ true) where
         pub plain-7 : length l < length (encErrors (repeats (findIn (st .items)) es)) → gave (answer.Refused 7) s l ≡ addResource s image l
         unfolding gave answerOf addResource addPlainTo refuse orRefuse listed
         plain-7 h = rw (hs, hr, room, lt-leb (length (encErrors (repeats (findIn (st .items)) es))) (length l) h)
@@ -65,11 +66,11 @@ module _ (s image : List ℕ) where
     over-5 h = rw (hs, h)
 
     module _ {es : List Entry} {e : ℕ} (hr : resourceOf image ≡ got es e) where
-      pub over-6 : hasRoom s u (length (st .items)) (1 + length image) ≡ false → gave (answer.Refused 6) s [] ≡ addResourceOverriding s image
+      pub over-6 : hasRoom (length s) u (length (st .items)) (1 + length image) ≡ false → gave (answer.Refused 6) s [] ≡ addResourceOverriding s image
       unfolding gave answerOf addResourceOverriding addOverridingTo refuse orRefuse
       over-6 h = rw (hs, hr, h)
 
-      pub over-done : {s′ : List ℕ} → hasRoom s u (length (st .items)) (1 + length image) ≡ true → s′ ≡ withItem s u (length (st .items)) (2 ∷ image) → gave (answer.Done 0) s′ [] ≡ addResourceOverriding s image
+      pub over-done : {s′ : List ℕ} → hasRoom (length s) u (length (st .items)) (1 + length image) ≡ true → s′ ≡ withItem s u (length (st .items)) (2 ∷ image) → gave (answer.Done 0) s′ [] ≡ addResourceOverriding s image
       unfolding gave answerOf addResourceOverriding addOverridingTo orRefuse succeed
       over-done h es′ = rw (hs, hr, h, es′)
 
@@ -95,11 +96,11 @@ module _ (s id : List ℕ) (code : ℕ) where
         function-10 h = rw (hs, hi, eq-eqb code 1 hc, h)
 
         module _ (hf : isSome (findIn (st .items) id) ≡ false) where
-          pub function-6 : hasRoom s u (length (st .items)) (9 + length id) ≡ false → gave (answer.Refused 6) s [] ≡ addFunction s id code
+          pub function-6 : hasRoom (length s) u (length (st .items)) (9 + length id) ≡ false → gave (answer.Refused 6) s [] ≡ addFunction s id code
           unfolding gave answerOf addFunction addFunctionTo refuse orRefuse
           function-6 h = rw (hs, hi, eq-eqb code 1 hc, hf, h)
 
-          pub function-done : {s′ : List ℕ} → hasRoom s u (length (st .items)) (9 + length id) ≡ true → s′ ≡ withItem s u (length (st .items)) (3 ∷ encFunction id) → gave (answer.Done 0) s′ [] ≡ addFunction s id code
+          pub function-done : {s′ : List ℕ} → hasRoom (length s) u (length (st .items)) (9 + length id) ≡ true → s′ ≡ withItem s u (length (st .items)) (3 ∷ encFunction id) → gave (answer.Done 0) s′ [] ≡ addFunction s id code
           unfolding gave answerOf addFunction addFunctionTo orRefuse succeed
           function-done h es′ = rw (hs, hi, eq-eqb code 1 hc, hf, h, es′)
 
@@ -128,15 +129,15 @@ function-no-place s id code (places.function-6 st u hs hi hc hf room h) e = rw (
 function-no-place s id code (places.function-at st u hs hi hc hf room h) e = absurd (not-refused h e)
 
 -- by the place of the item: a success
-pub over-filed : (s image : List ℕ) {r : Place} {u k : ℕ} {s′ : List ℕ} → ResourcePlace s image r → r ≡ place.At u k → s′ ≡ withItem s u k (2 ∷ image)
+pub over-filed : (s image : List ℕ) {r : Place} {u k : ℕ} {s′ : List ℕ} → ResourcePlace s image r → r ≡ place.At u k → s′ ≡ fileItem s u k (2 ∷ image)
     → gave (answer.Done 0) s′ [] ≡ addResourceOverriding s image
 over-filed s image {u = u} p q w =
-    resource-placed p q (λ st es e hs hr ek room. over-done s image hs hr room (w ∙ ap (λ (j : ℕ). withItem s u j (2 ∷ image)) ek))
+    resource-placed p q (λ st es e hs hr ek room. over-done s image hs hr room (w ∙ resource-item s image 2 p q ∙ ap (λ (j : ℕ). withItem s u j (2 ∷ image)) ek))
 
-pub function-filed : (s id : List ℕ) (code : ℕ) {r : Place} {u k : ℕ} {s′ : List ℕ} → FunctionPlace s id code r → r ≡ place.At u k → s′ ≡ withItem s u k (3 ∷ encFunction id)
+pub function-filed : (s id : List ℕ) (code : ℕ) {r : Place} {u k : ℕ} {s′ : List ℕ} → FunctionPlace s id code r → r ≡ place.At u k → s′ ≡ writtenIf (leb (length id) 255) s (fileItem s u k (3 ∷ encFunction id))
     → gave (answer.Done 0) s′ [] ≡ addFunction s id code
 function-filed s id code {u = u} p q w =
-    function-placed p q (λ st hs hi hc hf ek room. function-done s id code hs hi hc hf room (w ∙ ap (λ (j : ℕ). withItem s u j (3 ∷ encFunction id)) ek))
+    function-placed p q (λ st hs hi hc hf ek room. function-done s id code hs hi hc hf room (w ∙ function-item s id p q ∙ ap (λ (j : ℕ). withItem s u j (3 ∷ encFunction id)) ek))
 
 -- the list of a plain addition
 not-short : {w : Listed} {n : ℕ} → w ≡ list.All n → w ≡ list.Short → ⊥
@@ -149,21 +150,21 @@ module _ (s image l marks : List ℕ) {r : Place} {u k : ℕ} (p : ResourcePlace
     (m : (st : Store) (v : ℕ) (es : List Entry) (f : ℕ) → storeOf s ≡ got st v → resourceOf image ≡ got es f → marked marks 0 es ≡ repeats (findIn (st .items)) es)
     {w : Listed} {l′ : List ℕ} (y : (es : List Entry) (f : ℕ) → resourceOf image ≡ got es f → Lists (marked marks 0 es) l w l′) where
   listing : {C : Type 0} → ((st : Store) (es : List Entry) (e : ℕ) → storeOf s ≡ got st u → resourceOf image ≡ got es e → k ≡ length (st .items)
-      → hasRoom s u (length (st .items)) (1 + length image) ≡ true → Lists (repeats (findIn (st .items)) es) l w l′ → C) → C
+      → hasRoom (length s) u (length (st .items)) (1 + length image) ≡ true → Lists (repeats (findIn (st .items)) es) l w l′ → C) → C
   listing c = resource-placed p q (λ st es e hs hr ek room. c st es e hs hr ek room (rw (← m st u es e hs hr) (y es e hr)))
 
   pub plain-short : w ≡ list.Short → gave (answer.Refused 7) s l′ ≡ addResource s image l
   plain-short h = listing (λ st es e hs hr ek room z. go st es e hs hr room z)
     where
-      go : (st : Store) (es : List Entry) (e : ℕ) → storeOf s ≡ got st u → resourceOf image ≡ got es e → hasRoom s u (length (st .items)) (1 + length image) ≡ true
+      go : (st : Store) (es : List Entry) (e : ℕ) → storeOf s ≡ got st u → resourceOf image ≡ got es e → hasRoom (length s) u (length (st .items)) (1 + length image) ≡ true
           → Lists (repeats (findIn (st .items)) es) l w l′ → gave (answer.Refused 7) s l′ ≡ addResource s image l
       go st es e hs hr room (lists-all a _ _) = absurd (not-short a h)
       go st es e hs hr room (lists-short _ n o) = rw o (plain-7 s image l hs hr room n)
 
-  pub plain-filed : {n : ℕ} {s′ : List ℕ} → w ≡ list.All n → s′ ≡ withItem s u k (1 ∷ image) → gave (answer.Done n) s′ l′ ≡ addResource s image l
+  pub plain-filed : {n : ℕ} {s′ : List ℕ} → w ≡ list.All n → s′ ≡ fileItem s u k (1 ∷ image) → gave (answer.Done n) s′ l′ ≡ addResource s image l
   plain-filed {n} {s′} h i = listing (λ st es e hs hr ek room z. go st es e hs hr ek room z)
     where
-      go : (st : Store) (es : List Entry) (e : ℕ) → storeOf s ≡ got st u → resourceOf image ≡ got es e → k ≡ length (st .items) → hasRoom s u (length (st .items)) (1 + length image) ≡ true
+      go : (st : Store) (es : List Entry) (e : ℕ) → storeOf s ≡ got st u → resourceOf image ≡ got es e → k ≡ length (st .items) → hasRoom (length s) u (length (st .items)) (1 + length image) ≡ true
           → Lists (repeats (findIn (st .items)) es) l w l′ → gave (answer.Done n) s′ l′ ≡ addResource s image l
-      go st es e hs hr ek room (lists-all a o b) = plain-done s image l hs hr room o (known-count h a) (i ∙ ap (λ (j : ℕ). withItem s u j (1 ∷ image)) ek) b
+      go st es e hs hr ek room (lists-all a o b) = plain-done s image l hs hr room o (known-count h a) (i ∙ resource-item s image 1 p q ∙ ap (λ (j : ℕ). withItem s u j (1 ∷ image)) ek) b
       go st es e hs hr ek room (lists-short a _ _) = absurd (not-short h a)

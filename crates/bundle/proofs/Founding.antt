@@ -10,6 +10,8 @@ use borrow.Author.Tests.{le-leb, lt-leb}
 use Rattle.records.specs.Bytes.{toBe}
 use Rattle.records.specs.Encode.{encAll, encCounted, encFlag, encWhole, encStore}
 use Rattle.records.specs.Images.{maxLocale}
+use Rattle.records.specs.Relations.Write.{overFit}
+use Rattle.records.proofs.Writing.{fits-sets}
 use Rattle.buffers.proofs.Place.{sets-over}
 use Rattle.growth.specs.Items.{atFront}
 use Rattle.growth.proofs.Items.{over-front}
@@ -45,9 +47,10 @@ module _ (s : List ℕ) (locale isolating : ℕ) where
     unfolding gave answerOf newBundle orRefuse refuse maxLocale
     new-3 h k = rw (le-leb 9 (length s) l9, le-leb locale 3 h, lt-leb isolating 1 k)
 
-    pub new-done : locale ≤ 3 → isolating ≤ 1 → {a : List ℕ} → a ≡ sets s 0 (toBe 4 9) → gave (answer.Done 0) (set (set (set (set (set a 4 1) 5 locale) 6 isolating) 7 0) 8 0) [] ≡ newBundle s locale isolating
+    pub new-done : locale ≤ 3 → isolating ≤ 1 → {a : List ℕ} → a ≡ overFit s 0 (toBe 4 9) → gave (answer.Done 0) (set (set (set (set (set a 4 1) 5 locale) 6 isolating) 7 0) 8 0) [] ≡ newBundle s locale isolating
     unfolding gave answerOf newBundle orRefuse succeed maxLocale atFront new-bytes toBe
-    new-done h k {a} p =
+    new-done h k {a} q =
+        let p : a ≡ sets s 0 (toBe 4 9) = q ∙ fits-sets s 0 (toBe 4 9) (omega arith) in
         let w : set (set (set (set (set a 4 1) 5 locale) 6 isolating) 7 0) 8 0 ≡ sets s 0 (new-bytes locale isolating) = rw p in
         let f : sets s 0 (new-bytes locale isolating) ≡ new-bytes locale isolating ++ drop 9 s = sets-over s 0 (new-bytes locale isolating) (omega arith) ∙ over-front s (new-bytes locale isolating) 9 refl in
         rw (le-leb 9 (length s) l9, le-leb locale 3 h, le-leb isolating 1 k, new-is locale isolating k, w, f)

@@ -1,13 +1,11 @@
 -- The slice that an addition leaves is the store with one item more.
 use mathlib.Core.Path.{_≡_, refl, ap, sym, subst, _∙_}
 use mathlib.Core.List.{List, [], _∷_, _++_, append-assoc, append-nil}
-use mathlib.Core.Bool.{Bool, true, false, _&&_}
+use mathlib.Core.Bool.{Bool, true, false}
 use Prim.Native.Nat.{ℕ, _+_, _-_, _≤_, _<_}
 use native.Mathlib.Omega.{arith}
 use lib.ListN.{length, take, drop, length-append, length-drop, take-append-drop}
 use lib.Seq.{length-take-le, take-length, take-at, drop-at}
-use lib.Dec.{leb, ltb}
-use borrow.Author.Tests.{leb-true, ltb-true}
 use Rattle.records.specs.Got.{got}
 use Rattle.records.specs.Bytes.{part, toBe}
 use Rattle.records.specs.Images.{Item, Store, maxStore, maxItems, storeOf}
@@ -16,9 +14,10 @@ use Rattle.records.specs.Valid.{All, ValidItem, ValidStore}
 use Rattle.layout.specs.Exact.{Octets}
 use Rattle.layout.proofs.Stands.{octets-part}
 use Rattle.layout.proofs.Numbers.{length-toBe}
-use Rattle.layout.proofs.Octets.{octets-append, and-left, and-right}
+use Rattle.layout.proofs.Octets.{octets-append}
 use Rattle.layout.proofs.Theorems.{store-sound, store-complete, store-octets}
 use Rattle.growth.specs.Items.{atFront, withItem, hasRoom}
+use Rattle.growth.proofs.Items.{room-is}
 use Rattle.bundle.specs.Growth.{withMore, Grown}
 
 all-append : {A : Type 0} (Ok : A → Type 0) (l k : List A) → All Ok l → All Ok k → All Ok (l ++ k)
@@ -73,14 +72,9 @@ record Room (s : List ℕ) (used n k : ℕ) : Type 0 where
   store : used + k ≤ maxStore
   items : n < maxItems
 
-room-parts : (s : List ℕ) (used n k : ℕ) → hasRoom s used n k ≡ true → Room s used n k
-unfolding hasRoom
-room-parts s used n k h =
-    let a : Bool = leb (used + k) (length s) in
-    let b : Bool = leb (used + k) maxStore in
-    let c : Bool = ltb n maxItems in
-    let r : b && c ≡ true = and-right a (b && c) h in
-    record { slice = leb-true _ _ (and-left a (b && c) h); store = leb-true _ _ (and-left b c r); items = ltb-true _ _ (and-right b c r) }
+room-parts : (s : List ℕ) (used n k : ℕ) → hasRoom (length s) used n k ≡ true → Room s used n k
+unfolding maxStore maxItems
+room-parts s used n k h = let r = room-is (length s) used n k h in record { slice = r .0; store = r .1; items = r .2 }
 
 module _ (s : List ℕ) (oct : Octets s) (v : Store) (used : ℕ) (h : storeOf s ≡ got v used) where
   -- the parts of the slice
@@ -135,7 +129,7 @@ module _ (s : List ℕ) (oct : Octets s) (v : Store) (used : ℕ) (h : storeOf s
     with-item = at-front ∙ ap (λ (j : ℕ). encStore (withMore v x) ++ drop j s) more-length
 
     -- one item more
-    pub grown : ValidItem x → hasRoom s used (length (v .items)) (length (encItem x)) ≡ true
+    pub grown : ValidItem x → hasRoom (length s) used (length (v .items)) (length (encItem x)) ≡ true
         → Grown s (withItem s used (length (v .items)) (encItem x)) v used x
     unfolding ValidStore
     grown valid room =

@@ -2,9 +2,10 @@
 use mathlib.Core.Path.{_≡_, refl, ap, sym, subst, _∙_}
 use mathlib.Core.Bool.{true, false}
 use mathlib.Core.List.{List, [], _∷_}
-use Prim.Native.Nat.{ℕ, zero, suc, _+_, _-_, _≤_, _<_}
+use Prim.Native.Nat.{ℕ, zero, suc, _+_, _-_, _≤_}
 use native.Mathlib.Omega.{arith}
 use lib.ListN.{length}
+use lib.Dec.{leb}
 use Rattle.records.specs.declared.Next.{Next}
 use Rattle.records.specs.declared.Next.the-variants as next
 use Rattle.records.specs.Got.{got, bad, Parser}
@@ -12,22 +13,19 @@ use Rattle.records.specs.Relations.Answer.{nextOf}
 use Rattle.records.specs.Bytes.{numberAt}
 use Rattle.rules.specs.Rules.{isId}
 use Rattle.records.specs.Decode.{many}
-use Rattle.records.specs.Images.{Entry, Store, maxImage, maxStore, isSome, storeOf, resourceOf}
+use Rattle.records.specs.Encode.{encFunction}
+use Rattle.records.specs.Images.{Entry, Store, maxImage, isSome, storeOf, resourceOf}
 use Rattle.records.proofs.Views.{both, never, next-is, many-cons, many-nil}
 use Rattle.entries.specs.Lookup.{findIn}
 use Rattle.entries.proofs.Lengths.{short-id}
 use Rattle.entries.proofs.Open.{store-parts, whole-resource}
-use Rattle.growth.specs.Items.{hasRoom}
-use Rattle.growth.proofs.Items.{room-is}
+use Rattle.growth.specs.Items.{withItem, hasRoom, writtenIf, fileItem}
+use Rattle.growth.proofs.Items.{filed-is, short-written, function-length}
 use Rattle.bundle.specs.declared.Place.{Place}
 use Rattle.bundle.specs.declared.Place.the-variants as place
 use Rattle.bundle.specs.Relations.Places.{ResourcePlace, resource-4, resource-5, resource-6, resource-at, FunctionPlace, function-4, function-8, function-9, function-10, function-6, function-at}
 
--- a store that is read, an image that is read
-pub store-used : (s : List ℕ) {r : Next} {u : ℕ} → r ≡ nextOf (storeOf s) → r ≡ next.At u → (9 ≤ u) × (u ≤ 1048576) × (u ≤ length s)
-unfolding maxStore
-store-used s is h = next-is is h (λ st hs. store-parts s hs (λ k _ le _ _ _ lo hi. (lo, le, hi)))
-
+-- an image that is read
 pub image-small : (s : List ℕ) {r : Next} {e : ℕ} → r ≡ nextOf (resourceOf s) → r ≡ next.At e → length s ≤ 65536
 unfolding maxImage
 image-small s is h = next-is is h (λ es hr. whole-resource s hr (λ k _ _ ef le _. omega arith))
@@ -57,10 +55,10 @@ module _ (s image : List ℕ) where
     place-5 h = resource-5 st u hs h refl
 
     module _ {es : List Entry} {e : ℕ} (hr : resourceOf image ≡ got es e) where
-      pub place-6 : hasRoom s u (length (st .items)) (1 + length image) ≡ false → ResourcePlace s image (place.Refused 6)
+      pub place-6 : hasRoom (length s) u (length (st .items)) (1 + length image) ≡ false → ResourcePlace s image (place.Refused 6)
       place-6 h = resource-6 st u es e hs hr h refl
 
-      pub place-at : {n : ℕ} → n ≡ length (st .items) → hasRoom s u (length (st .items)) (1 + length image) ≡ true → ResourcePlace s image (place.At u n)
+      pub place-at : {n : ℕ} → n ≡ length (st .items) → hasRoom (length s) u (length (st .items)) (1 + length image) ≡ true → ResourcePlace s image (place.At u n)
       place-at q h = resource-at st u es e hs hr h (ap (place.At u) q)
 
 -- the place of a function
@@ -81,10 +79,10 @@ module _ (s id : List ℕ) (code : ℕ) where
         named-10 h = function-10 st u hs hi hc h refl
 
         module _ (hf : isSome (findIn (st .items) id) ≡ false) where
-          pub named-6 : hasRoom s u (length (st .items)) (9 + length id) ≡ false → FunctionPlace s id code (place.Refused 6)
+          pub named-6 : hasRoom (length s) u (length (st .items)) (9 + length id) ≡ false → FunctionPlace s id code (place.Refused 6)
           named-6 h = function-6 st u hs hi hc hf h refl
 
-          pub named-at : {n : ℕ} → n ≡ length (st .items) → hasRoom s u (length (st .items)) (9 + length id) ≡ true → FunctionPlace s id code (place.At u n)
+          pub named-at : {n : ℕ} → n ≡ length (st .items) → hasRoom (length s) u (length (st .items)) (9 + length id) ≡ true → FunctionPlace s id code (place.At u n)
           named-at q h = function-at st u hs hi hc hf h (ap (place.At u) q)
 
 -- a place is no refusal
@@ -94,7 +92,7 @@ not-refused h e = let z : _≡_ {A = ℕ} 0 1 = cc in omega arith
 -- what is known of a place that was found
 pub resource-placed : {C : Type 0} {s image : List ℕ} {r : Place} {u k : ℕ} → ResourcePlace s image r → r ≡ place.At u k
     → ((st : Store) (es : List Entry) (e : ℕ) → storeOf s ≡ got st u → resourceOf image ≡ got es e → k ≡ length (st .items)
-    → hasRoom s u (length (st .items)) (1 + length image) ≡ true → C) → C
+    → hasRoom (length s) u (length (st .items)) (1 + length image) ≡ true → C) → C
 resource-placed (resource-4 _ h) q c = absurd (not-refused q h)
 resource-placed (resource-5 _ _ _ _ h) q c = absurd (not-refused q h)
 resource-placed (resource-6 _ _ _ _ _ _ _ h) q c = absurd (not-refused q h)
@@ -105,7 +103,7 @@ resource-placed {s = s} {r = r} {u = u} {k = k} (resource-at st v es e hs hr roo
 
 pub function-placed : {C : Type 0} {s id : List ℕ} {code : ℕ} {r : Place} {u k : ℕ} → FunctionPlace s id code r → r ≡ place.At u k
     → ((st : Store) → storeOf s ≡ got st u → isId id ≡ true → code ≡ 1 → isSome (findIn (st .items) id) ≡ false → k ≡ length (st .items)
-    → hasRoom s u (length (st .items)) (9 + length id) ≡ true → C) → C
+    → hasRoom (length s) u (length (st .items)) (9 + length id) ≡ true → C) → C
 function-placed (function-4 _ h) q c = absurd (not-refused q h)
 function-placed (function-8 _ _ _ _ h) q c = absurd (not-refused q h)
 function-placed (function-9 _ _ _ _ _ h) q c = absurd (not-refused q h)
@@ -116,15 +114,16 @@ function-placed {s = s} {r = r} {u = u} {k = k} (function-at st v hs hi hc hf ro
     let ek : k ≡ length (st .items) = cc in
     c st (rw (← eu) hs) hi hc hf ek (rw (← eu) room)
 
--- a place has room for the item
-abbrev pub Fits : List ℕ → ℕ → ℕ → ℕ → Type 0
-Fits s u k n = (9 ≤ u) × (u + n ≤ length s) × (u + n ≤ 1048576) × (k < 256)
+-- an item is filed at its place
+module _ (s item : List ℕ) {u k n : ℕ} (e : length item ≡ n) {st : Store} (hs : storeOf s ≡ got st u) (ek : k ≡ length (st .items)) (room : hasRoom (length s) u (length (st .items)) n ≡ true) where
+  filed-at : fileItem s u k item ≡ withItem s u k item
+  filed-at = store-parts s hs (λ _ _ _ _ _ _ lo _. filed-is s u k item lo e (ap (λ (j : ℕ). hasRoom (length s) u j n) ek ∙ room))
 
-fits : (s : List ℕ) (n : ℕ) {u k : ℕ} {st : Store} → storeOf s ≡ got st u → k ≡ length (st .items) → hasRoom s u (length (st .items)) n ≡ true → Fits s u k n
-fits s n {u} {k} {st} hs ek room = store-parts s hs (λ _ _ _ _ _ _ lo _. let f = room-is u (length (st .items)) n s room in let f2 = f .2 in (lo, f .0, f .1, omega arith))
+pub resource-item : (s image : List ℕ) (mode : ℕ) {r : Place} {u k : ℕ} → ResourcePlace s image r → r ≡ place.At u k → fileItem s u k (mode ∷ image) ≡ withItem s u k (mode ∷ image)
+resource-item s image mode p q = resource-placed p q (λ st es e hs _ ek room. filed-at s (mode ∷ image) (omega arith) hs ek room)
 
-pub resource-fits : (s image : List ℕ) {r : Place} {u k : ℕ} → ResourcePlace s image r → r ≡ place.At u k → Fits s u k (1 + length image)
-resource-fits s image p q = resource-placed p q (λ st es e hs _ ek room. fits s (1 + length image) hs ek room)
-
-pub function-fits : (s id : List ℕ) {code : ℕ} {r : Place} {u k : ℕ} → FunctionPlace s id code r → r ≡ place.At u k → Fits s u k (9 + length id) × (length id ≤ 255)
-function-fits s id p q = function-placed p q (λ st hs hi _ _ ek room. (fits s (9 + length id) hs ek room, short-id id hi))
+pub function-item : (s id : List ℕ) {code : ℕ} {r : Place} {u k : ℕ} → FunctionPlace s id code r → r ≡ place.At u k
+    → writtenIf (leb (length id) 255) s (fileItem s u k (3 ∷ encFunction id)) ≡ withItem s u k (3 ∷ encFunction id)
+function-item s id p q =
+    function-placed p q (λ st hs hi _ _ ek room.
+    sym (short-written (length id) s _ (short-id id hi) refl) ∙ filed-at s (3 ∷ encFunction id) (function-length id) hs ek room)

@@ -58,7 +58,7 @@ unfoldable pub addPlainTo : List ℕ → List ℕ → List ℕ → Got Store →
 addPlainTo s image l bad r = refuse 4 s l
 addPlainTo s image l (got st used) bad = refuse 5 s l
 addPlainTo s image l (got st used) (got es e) =
-    orRefuse (hasRoom s used (length (st .items)) (1 + length image)) 6 s l
+    orRefuse (hasRoom (length s) used (length (st .items)) (1 + length image)) 6 s l
     (listed s l (repeats (findIn (st .items)) es) (withItem s used (length (st .items)) (1 ∷ image)))
 
 unfoldable pub addResource : List ℕ → List ℕ → List ℕ → Added
@@ -69,7 +69,7 @@ unfoldable pub addOverridingTo : List ℕ → List ℕ → Got Store → Got (Li
 addOverridingTo s image bad r = refuse 4 s []
 addOverridingTo s image (got st used) bad = refuse 5 s []
 addOverridingTo s image (got st used) (got es e) =
-    orRefuse (hasRoom s used (length (st .items)) (1 + length image)) 6 s []
+    orRefuse (hasRoom (length s) used (length (st .items)) (1 + length image)) 6 s []
     (succeed 0 (withItem s used (length (st .items)) (2 ∷ image)) [])
 
 unfoldable pub addResourceOverriding : List ℕ → List ℕ → Added
@@ -82,7 +82,7 @@ addFunctionTo s id code (got st used) =
     orRefuse (isId id) 8 s []
     (orRefuse (eqb code 1) 9 s []
     (orRefuse (not (isSome (findIn (st .items) id))) 10 s []
-    (orRefuse (hasRoom s used (length (st .items)) (9 + length id)) 6 s []
+    (orRefuse (hasRoom (length s) used (length (st .items)) (9 + length id)) 6 s []
     (succeed 0 (withItem s used (length (st .items)) (3 ∷ encFunction id)) []))))
 
 unfoldable pub addFunction : List ℕ → List ℕ → ℕ → Added

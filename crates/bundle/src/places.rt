@@ -26,7 +26,7 @@ fn count_items(s: &[u8]) -> usize
 }
 
 // The place of a resource.
-pub fn resource_place(slice: &[u8], image: &[u8]) -> Place
+pub(crate) fn resource_place(slice: &[u8], image: &[u8]) -> Place
     ensures { λ r. ⌜ ResourcePlace (now (slice .entry)) (now (image .entry)) r ⌝ }
 {
     let Next::At(used) = check_store(slice) else {
@@ -43,7 +43,7 @@ pub fn resource_place(slice: &[u8], image: &[u8]) -> Place
 }
 
 // The place of a function.
-pub fn function_place(slice: &[u8], id: &[u8], code: u8) -> Place
+pub(crate) fn function_place(slice: &[u8], id: &[u8], code: u8) -> Place
     ensures { λ r. ⌜ FunctionPlace (now (slice .entry)) (now (id .entry)) code r ⌝ }
 {
     let Next::At(used) = check_store(slice) else {

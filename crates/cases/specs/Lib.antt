@@ -3,5 +3,6 @@ pub mod Text
 pub mod Case
 pub mod Sentences
 pub mod Misreadings
+pub mod Conditions
 pub mod Refusals
 pub mod Vectors

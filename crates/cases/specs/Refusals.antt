@@ -1,18 +1,18 @@
 -- Document 01, "What each operation refuses": each refusal once, and what the slices hold then.
 use mathlib.Core.Path.{_≡_, refl}
-use mathlib.Core.List.{List, [], _∷_, _++_}
-use mathlib.Core.Bool.{Bool, true}
-use mathlib.Core.Option.{Option, none, some}
+use mathlib.Core.List.{List, [], _∷_}
+use mathlib.Core.Option.{none, some}
 use Prim.Native.Nat.{ℕ}
 use lib.ListN.{replicate}
-use Rattle.records.specs.Tree.{Literal, no-more, Expression, inline, nested, no-inline, and, no-variant}
+use Rattle.records.specs.Tree.{Literal, no-more, inline, nested, no-inline, and, no-variant}
 use Rattle.records.specs.Images.{Entry, Item}
 use Rattle.records.specs.Encode.{encResource, encArgumentsImage}
 use Rattle.bundle.specs.Additions as bundle
 use Rattle.bundle.specs.Additions.{Added, newBundle, addResource, addResourceOverriding, addFunction}
-use Rattle.resolution.specs.Format.{Answer, finished, refusedBefore, refusedRunning, Buffers, Formatted, format}
+use Rattle.resolution.specs.Format.{finished, refusedBefore, refusedRunning, Buffers, Formatted, format}
 use Rattle.cases.specs.Text.{Bytes, ascii}
-use Rattle.cases.specs.Case.{a-message, a-term, say, put, choice, numbered, default, var, numeral, call, whole, filled, lentList, lent, stored, computed}
+use Rattle.resolution.specs.Case.{a-message, a-term, say, put, choice, numbered, default, var, numeral, call, whole, lent}
+use Rattle.cases.specs.Case.{stored, computed}
 
 -- A bundle with NUMBER and four messages: `a = Hello`, `v = { $n }`, `s = { { $n } -> [1] x *[o] y }`, `f = { NUMBER(5, minimumFractionDigits: 20) }`; and
 -- a term `-t = T`.

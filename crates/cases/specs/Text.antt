@@ -1,17 +1,10 @@
--- Text as bytes.
-use mathlib.Core.List.{List, [], _∷_}
+-- Hexadecimal text as bytes.
+use mathlib.Core.List.{[], _∷_}
 use mathlib.Core.Bool.{true, false}
 use Prim.Native.Nat.{ℕ, _+_, _-_, _*_}
 use Prim.Native.String.{String}
 use lib.Dec.{ltb}
 pub use Rattle.decimals.specs.Ascii.{Bytes, ascii}
-
--- "⟨ ⟩ are U+2068, U+2069"
-abbrev pub ⟨ : Bytes
-⟨ = 0xE2 ∷ 0x81 ∷ 0xA8 ∷ []
-
-abbrev pub ⟩ : Bytes
-⟩ = 0xE2 ∷ 0x81 ∷ 0xA9 ∷ []
 
 -- the value of a hexadecimal digit, `0` to `9` or `A` to `F`
 abbrev pub digitValue : ℕ → ℕ

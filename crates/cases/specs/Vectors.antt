@@ -1,15 +1,14 @@
 -- A few of the oracle's formatting vectors: the bundle's bytes, the arguments image and the answer as they stand there. Text and list are the Rust's own;
 -- of the last two, where the Rust panics, they are document 01's. No byte is lent that is not needed.
 use mathlib.Core.Path.{_≡_, refl}
-use mathlib.Core.List.{List, [], _∷_, _++_}
-use mathlib.Core.Option.{Option, none, some}
+use mathlib.Core.List.{[], _++_}
+use mathlib.Core.Option.{none}
 use Prim.Native.Nat.{ℕ}
-use Prim.Native.String.{String}
 use lib.ListN.{length, replicate}
-use Rattle.resolution.specs.Format.{Answer, finished, Buffers, Formatted, format}
+use Rattle.resolution.specs.Format.{finished, Formatted, format}
 use Rattle.cases.specs.Opened.{opened}
-use Rattle.cases.specs.Text.{Bytes, ascii, hex, ⟨, ⟩}
-use Rattle.cases.specs.Case.{filled}
+use Rattle.resolution.specs.Case.{⟨, ⟩, filled}
+use Rattle.cases.specs.Text.{Bytes, ascii, hex}
 
 -- Given: the bundle, the message, the arguments image, the lengths of the three buffers. Expected: the text, the error list with its header and how many
 -- records it has, placeables begun, lookups unfound, workspace bytes.

@@ -7,15 +7,16 @@ use Prim.Native.Nat.{ℕ, zero, suc, _+_, _-_, _*_, _/_, _%_, _^_, _≤_, _<_}
 use native.Mathlib.Numerals.{add-one}
 use native.Mathlib.Omega.{arith}
 use native.Mathlib.Nat.{pow-succ', div-le-self}
-use lib.ListN.{length, take, replicate, length-append, length-replicate}
+use lib.ListN.{length, take, drop, replicate, length-append, length-replicate, take-append-drop}
+use lib.Seq.{drop-drop, take-append-seam}
 use lib.Dec.{ltb, leb}
 use borrow.Author.Tests.{ltb-true, ltb-false, leb-true, lt-ltb, le-ltb}
 use Rattle.decimals.specs.declared.types.NumberText.{NumberText}
 use Rattle.decimals.specs.Decimal.{Options, Number, shortest, orZero, digitsLimit}
-use Rattle.decimals.specs.Text.{digitsOf, width, decimal, signText, fractionText, decimalText, numberText, textLimit, inRange, rangedText}
+use Rattle.decimals.specs.Text.{digitsOf, width, decimal, signText, fractionText, decimalText, numberText, textLimit, inRange, rangedText, padded}
 use Rattle.decimals.specs.declared.types.Count.{Count}
 use Rattle.decimals.specs.declared.types.Count.the-variants.{Unset, Set}
-use Rattle.decimals.specs.Relations.Shown.{textOf, toldCount}
+use Rattle.decimals.specs.Relations.Shown.{textOf, toldCount, heldText}
 use Rattle.decimals.specs.Relations.Adds.{Adds}
 use Rattle.decimals.proofs.Shortest.{shortest-le}
 use Rattle.decimals.proofs.Tests.{and-true}
@@ -178,10 +179,17 @@ padded-none m d s {k} e h =
 
 -- what is added to a text, one after the other
 pub adds-none : (t : NumberText) → Adds t [] t
-adds-none t = record { text = sym (append-nil (textOf t)); len = omega arith; size = λ h. h }
+adds-none t = record { text = sym (append-nil (textOf t)); len = omega arith; rest = refl; size = refl }
 
 pub adds-then : {t u v : NumberText} {a b : List ℕ} → Adds t a u → Adds u b v → Adds t (a ++ b) v
-adds-then {t} {u} {v} {a} {b} x y = record { text = y .text ∙ ap (λ (l : List ℕ). l ++ b) (x .text) ∙ append-assoc (textOf t) a b; len = omega (arith, x .len, y .len, length-append a b); size = λ h. y .size (x .size h) }
+adds-then {t} {u} {v} {a} {b} x y =
+    record { text = y .text ∙ ap (λ (l : List ℕ). l ++ b) (x .text) ∙ append-assoc (textOf t) a b; len = omega (arith, x .len, y .len, length-append a b); rest = y .rest ∙ past; size = y .size ∙ x .size }
+  where
+    behind : (l : List ℕ) → drop (v .len) l ≡ drop (length b) (drop (u .len) l)
+    behind l = ap (λ (n : ℕ). drop n l) (y .len) ∙ sym (drop-drop (length b) (u .len) l)
+
+    past : drop (v .len) (u .bytes) ≡ drop (v .len) (t .bytes)
+    past = behind (u .bytes) ∙ ap (drop (length b)) (x .rest) ∙ sym (behind (t .bytes))
 
 pub adds-same : {t r : NumberText} {a b : List ℕ} → a ≡ b → Adds t a r → Adds t b r
 adds-same e x = rw e at x
@@ -202,6 +210,45 @@ pub zeros-more : {t u r : NumberText} (n : ℕ) → (n ≡ 0 → ⊥) → Adds t
 zeros-more zero h x y = absurd (h refl)
 zeros-more (suc n) h x y = let e : suc n - 1 ≡ n = omega arith in adds-then x (rw e at y)
 
--- a text from nothing
-pub from-none : {e r : NumberText} {a b : List ℕ} → textOf e ≡ [] → e .len ≡ 0 → length (e .bytes) ≡ textLimit → Adds e a r → a ≡ b → (textOf r ≡ b) × (r .len ≡ length b) × (length (r .bytes) ≡ textLimit)
-from-none {e} {r} {a} {b} x y z h p = (h .text ∙ ap (λ (l : List ℕ). l ++ a) x ∙ p, omega (arith, h .len, y, ap length p), h .size z)
+zeros-behind : (m n : ℕ) → drop {A = ℕ} n (replicate m 0) ≡ replicate (m - n) 0
+zeros-behind m zero = let e : m - 0 ≡ m = omega arith in ap (λ (k : ℕ). replicate k 0) (sym e)
+zeros-behind zero (suc n) = let e : 0 - suc n ≡ 0 = omega arith in ap (λ (k : ℕ). replicate k 0) (sym e)
+zeros-behind (suc m) (suc n) = let e : suc m - suc n ≡ m - n = omega arith in zeros-behind m n ∙ ap (λ (k : ℕ). replicate k 0) (sym e)
+
+pub held-none : {e : NumberText} → e ≡ heldText [] → e .len ≡ 0
+held-none x = ap (λ (t : NumberText). t .len) x
+
+abbrev holds : List ℕ → ℕ → NumberText
+holds l n = record { bytes = l; len = n }
+
+-- a text from nothing: its bytes, and behind them the zeros of the empty text
+pub from-none : {e r : NumberText} {a b : List ℕ} → e ≡ heldText [] → Adds e a r → a ≡ b → r ≡ heldText b
+unfolding padded
+from-none {e} {r} {a} {b} x h p = ap (λ (l : List ℕ). holds l (r .len)) bytes ∙ ap (λ (n : ℕ). holds (b ++ replicate (textLimit - length b) 0) n) lens
+  where
+    lens : r .len ≡ length b
+    lens = omega (arith, h .len, held-none x, ap length p)
+
+    front : take (r .len) (r .bytes) ≡ b
+    front = h .text ∙ ap (λ (t : NumberText). textOf t ++ a) x ∙ p
+
+    behind : drop (r .len) (r .bytes) ≡ replicate (textLimit - length b) 0
+    behind = h .rest ∙ ap (λ (t : NumberText). drop (r .len) (t .bytes)) x ∙ zeros-behind textLimit (r .len) ∙ ap (λ (n : ℕ). replicate (textLimit - n) 0) lens
+
+    bytes : r .bytes ≡ b ++ replicate (textLimit - length b) 0
+    bytes = sym (take-append-drop (r .len) (r .bytes)) ∙ ap (λ (l : List ℕ). l ++ drop (r .len) (r .bytes)) front ∙ ap (λ (l : List ℕ). b ++ l) behind
+
+-- what callers read off a text that holds bytes: its length, its bytes, and that it has textLimit bytes in all
+pub held-text : (t : List ℕ) → length t ≤ textLimit → textOf (heldText t) ≡ t
+unfolding padded
+held-text t h = take-append-seam t (replicate (textLimit - length t) 0)
+
+pub held-size : (t : List ℕ) → length t ≤ textLimit → length (padded textLimit t) ≡ textLimit
+unfolding padded
+held-size t h = length-append t (replicate (textLimit - length t) 0) ∙ omega (arith, length-replicate {A = ℕ} (textLimit - length t) 0)
+
+-- a number's text, in its bytes
+pub text-held : (n : Number) {r : NumberText} → r ≡ heldText (rangedText n) → (textOf r ≡ rangedText n) × (r .len ≡ length (rangedText n)) × (length (r .bytes) ≡ textLimit)
+text-held n e =
+    let fits = ranged-length n in
+    (ap textOf e ∙ held-text (rangedText n) fits, ap (λ (t : NumberText). t .len) e, ap (λ (t : NumberText). length (t .bytes)) e ∙ held-size (rangedText n) fits)

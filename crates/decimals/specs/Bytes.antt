@@ -11,14 +11,19 @@ sameBytes [] (y ∷ ys) = false
 sameBytes (x ∷ xs) [] = false
 sameBytes (x ∷ xs) (y ∷ ys) = eqb x y && sameBytes xs ys
 
--- an automaton over bytes
+-- an automaton over bytes: its state after each byte, from a state on
 unfoldable pub run : (ℕ → ℕ → ℕ) → ℕ → List ℕ → ℕ
 run f q [] = q
 run f q (b ∷ bs) = run f (f q b) bs
 
+-- a choice by a test: of numbers, and of anything
 abbrev pub choose : Bool → ℕ → ℕ → ℕ
 choose true a b = a
 choose false a b = b
+
+abbrev pub given : {A : Type 0} → Bool → A → A → A
+given true a b = a
+given false a b = b
 
 abbrev pub within : ℕ → ℕ → ℕ → Bool
 within lo hi b = leb lo b && leb b hi

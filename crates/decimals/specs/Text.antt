@@ -3,7 +3,7 @@ use Prim.Native.Nat.{ℕ, zero, suc, _+_, _-_, _/_, _%_, _^_}
 use mathlib.Core.List.{List, [], _∷_, _++_}
 use mathlib.Core.Bool.{Bool, true, false, _&&_}
 use mathlib.Core.Option.{Option, none, some}
-use lib.ListN.{replicate}
+use lib.ListN.{length, replicate}
 use lib.Dec.{ltb, leb}
 use Rattle.decimals.specs.Ascii.{ascii}
 use Rattle.decimals.specs.Decimal.{Options, Number, shortest, orZero, digitsLimit, scaleLimit, fractionLimit}
@@ -52,3 +52,7 @@ inRange n = ltb (n .digits) digitsLimit && (leb (n .scale) scaleLimit && leb (or
 -- the text of a number in range, and none of any other
 unfoldable pub rangedText : Number → List ℕ
 rangedText n = elim (inRange n) [ true ↦ numberText n | false ↦ [] ]
+
+-- a text in so many bytes: behind it stand zeros
+unfoldable pub padded : ℕ → List ℕ → List ℕ
+padded w t = t ++ replicate (w - length t) 0

@@ -12,7 +12,7 @@ ghost use mathlib.Core.List.{[], _∷_};
 ghost use lib.ListN.{length, replicate};
 ghost use Rattle.decimals.specs.Decimal.{shortest as shortestOf};
 ghost use Rattle.decimals.specs.Text.{digitsOf, decimal, signText, fractionText, textLimit, inRange, rangedText};
-ghost use Rattle.decimals.specs.Relations.Shown.{told, toldCount, textOf};
+ghost use Rattle.decimals.specs.Relations.Shown.{told, toldCount, heldText};
 ghost use Rattle.decimals.specs.Relations.Adds.{Adds};
 
 // A decimal without sign and options.
@@ -137,7 +137,7 @@ fn push_fraction(t: NumberText, m: Count, d: u64, s: u64) -> NumberText
 }
 
 fn empty() -> NumberText
-    ensures { λ r. ⌜ (textOf r ≡ []) × (r .len ≡ 0) × (length (r .bytes) ≡ textLimit) ⌝ }
+    ensures { λ r. ⌜ r ≡ heldText [] ⌝ }
 {
     NumberText {
         bytes: [0u8; 36],
@@ -162,9 +162,9 @@ fn in_range(n: Number) -> bool
     }
 }
 
-// The text of a number in range; no bytes for any other.
+// The text of a number in range, no bytes for any other; behind it zeros.
 pub fn number_text(n: Number) -> NumberText
-    ensures { λ r. ⌜ (textOf r ≡ rangedText (told n)) × (r .len ≡ length (rangedText (told n))) × (length (r .bytes) ≡ textLimit) ⌝ }
+    ensures { λ r. ⌜ r ≡ heldText (rangedText (told n)) ⌝ }
 {
     if in_range(n) {
         let q = shortest(n.digits, n.scale);

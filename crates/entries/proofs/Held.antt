@@ -1,185 +1,151 @@
--- Steps of the lookup: the kind of an entry, of two holders the first, what holds an id after an item, and after all items.
-use mathlib.Core.Path.{_≡_, refl, ap, subst, _∙_}
-use mathlib.Core.Bool.{true, false}
-use mathlib.Core.List.{List, [], _∷_}
-use mathlib.Core.Option.{Option, none}
+-- Steps of the lookup, on any bytes: the code's answers and what they say, the kind of an entry, what an id has after an item, and after all items.
+use mathlib.Core.Path.{_≡_, refl, ap, sym, _∙_}
+use mathlib.Core.Bool.{Bool}
+use mathlib.Core.List.{List}
+use mathlib.Core.Option.{Option, some, none}
 use Prim.Native.Nat.{ℕ, _-_, _≤_, _<_}
 use native.Mathlib.Omega.{arith}
+use lib.ListN.{length, getD, List·getD-eq-default}
+use lib.Dec.{eqb}
+use borrow.Author.Tests.{eq-eqb, ne-eqb}
 use Rattle.records.specs.declared.Next.{Next}
+use Rattle.records.specs.declared.Num.{Num}
 use Rattle.records.specs.declared.Next.the-variants as next
-use Rattle.records.specs.Got.{got, bad}
-use Rattle.records.specs.Bytes.{part, byteAt, numberAt, spanAt}
-use Rattle.rules.specs.Same.{sameBytes}
-use Rattle.records.specs.Decode.{many}
-use Rattle.records.specs.Images.{Entry, Item, Store, entryAt, resourceAt, functionAt, itemAt, storeOf, isSome}
-use Rattle.records.proofs.Views.{both, never, many-cons, many-nil}
+use Rattle.records.specs.declared.Num.the-variants as num
+use Rattle.records.specs.Got.{Got, got, bad, after}
+use Rattle.records.specs.Relations.Answer.{nextOf, numOf}
+use Rattle.records.specs.Bytes.{byteAt, bytesAt, numberAt}
+use Rattle.records.specs.Images.{isSome}
+use Rattle.decimals.specs.Bytes.{sameBytes}
+use Rattle.records.proofs.Laws.{after-is, after-elim, bytes-inv}
+use Rattle.records.proofs.Views.{num-is, num-none, next-is, next-none}
 use Rattle.entries.specs.declared.Found.{Found}
 use Rattle.entries.specs.declared.Found.the-variants as found
-use Rattle.entries.specs.Lookup.{Holder, orElse, onlyNamed, firstEntry, lastEntry, holderAfter, findFrom, findIn}
-use Rattle.entries.specs.Relations.Meets.{Passes, behind, EntryAt, entry-at, no-entry, HolderAt, message-at, term-at, function-at, nothing-at}
-use Rattle.entries.proofs.Open.{entry-kind, resource-parts, function-parts, item-cases, store-parts}
-use Rattle.entries.proofs.Walk.{not-read, end-of}
+use Rattle.entries.specs.Lookup.{firstNamed}
+use Rattle.records.specs.Names.{lastNamed}
+use Rattle.records.specs.Optional.{orElse, optionOf}
+use Rattle.entries.specs.Outline.{listAfter, readable, Location, kindAs, Ids, entriesIn, functionIn, idsBy, itemHead, itemOutline, itemsIn, locatedAfter, locateFrom, locate}
+use Rattle.entries.specs.Relations.Meets.{foundOf, heldBy, afterIds}
+use Rattle.entries.proofs.Walk.{list-none, list-bad, list-stuck, list-next, or-none}
+use Rattle.entries.proofs.Open.{byte-in}
 
--- the kind of an entry that was found
-module _ (s : List ℕ) where
-  pub no-kind : {r : Next} {x : Found} → r ≡ next.Bad → x ≡ found.Nothing → (o : Option Holder) → EntryAt s o r → HolderAt s o x
-  no-kind {r} {x} h v o k = go k
-    where
-      go : EntryAt s o r → HolderAt s o x
-      go (entry-at q e f i _ _) = let z : _≡_ {A = ℕ} 0 1 = cc in absurd (omega arith)
-      go (no-entry _ w) = nothing-at v w
+-- answers and what they say
+pub found-held : (r : Found) → foundOf (heldBy r) ≡ r
+unfolding foundOf heldBy
+found-held (found.Message q) = refl
+found-held (found.Term q) = refl
+found-held found.Function = refl
+found-held found.Nothing = refl
 
-  module _ (q : ℕ) {r : Next} (h : r ≡ next.At q) where
-    pub kind-bad : {x : Found} → byteAt s q ≡ bad → (o : Option Holder) → EntryAt s o r → HolderAt s o x
-    kind-bad {x} b o k = go k
-      where
-        go : EntryAt s o r → HolderAt s o x
-        go (entry-at q′ e f i _ he) =
-            let eq : q ≡ q′ = cc in
-            entry-kind s q′ he (λ p hb _. never (subst (λ (z : ℕ). byteAt s z ≡ bad) eq b) hb) (λ p hb _. never (subst (λ (z : ℕ). byteAt s z ≡ bad) eq b) hb)
-        go (no-entry i _) = let z : _≡_ {A = ℕ} 0 1 = cc in absurd (omega arith)
+pub held-found : (o : Option Location) → heldBy (foundOf o) ≡ o
+unfolding foundOf heldBy
+held-found none = refl
+held-found (some (Location.message q)) = refl
+held-found (some (Location.term q)) = refl
+held-found (some Location.function) = refl
 
-    module _ (t p : ℕ) (b : byteAt s q ≡ got t p) where
-      pub is-message : t ≡ 1 → (o : Option Holder) → EntryAt s o r → HolderAt s o (found.Message q)
-      is-message y o k = go k
-        where
-          go : EntryAt s o r → HolderAt s o (found.Message q)
-          go (entry-at q′ e f i w he) =
-              let eq : q ≡ q′ = cc in
-              let b′ : byteAt s q′ ≡ got t p = subst (λ (z : ℕ). byteAt s z ≡ got t p) eq b in
-              entry-kind s q′ he (λ _ hb ek. message-at q′ e f (ap found.Message eq) w ek he) (λ _ hb _. both b′ hb (λ et _. absurd (omega arith)))
-          go (no-entry i _) = let z : _≡_ {A = ℕ} 0 1 = cc in absurd (omega arith)
+pub none-found : {o : Option Location} → o ≡ none → found.Nothing ≡ foundOf o
+unfolding foundOf
+none-found h = rw h
 
-      pub is-term : (t ≡ 1 → ⊥) → (o : Option Holder) → EntryAt s o r → HolderAt s o (found.Term q)
-      is-term n o k = go k
-        where
-          go : EntryAt s o r → HolderAt s o (found.Term q)
-          go (entry-at q′ e f i w he) =
-              let eq : q ≡ q′ = cc in
-              let b′ : byteAt s q′ ≡ got t p = subst (λ (z : ℕ). byteAt s z ≡ got t p) eq b in
-              entry-kind s q′ he (λ _ hb _. both b′ hb (λ et _. absurd (n et))) (λ _ hb ek. term-at q′ e f (ap found.Term eq) w ek he)
-          go (no-entry i _) = let z : _≡_ {A = ℕ} 0 1 = cc in absurd (omega arith)
+pub is-found : {o : Option Location} {r : Found} → o ≡ heldBy r → r ≡ foundOf o
+is-found {o} {r} h = sym (found-held r) ∙ ap foundOf (sym h)
+
+pub says-held : {o : Option Location} {r : Found} → r ≡ foundOf o → heldBy r ≡ o
+says-held {o} h = ap heldBy h ∙ held-found o
+
+pub is-held : (o : Option Location) {r x : Found} → r ≡ foundOf o → r ≡ x → isSome (heldBy x) ≡ isSome o
+is-held o h e = ap isSome (ap heldBy (sym e) ∙ says-held h)
+
+-- the kind of an entry
+module _ (s : List ℕ) (at : ℕ) where
+  pub kind-one : getD s at 0 ≡ 1 → found.Message at ≡ foundOf (some (kindAs (eqb (getD s at 0) 1) at))
+  unfolding foundOf kindAs
+  kind-one h = rw (eq-eqb (getD s at 0) 1 h)
+
+  pub kind-other : (getD s at 0 ≡ 1 → ⊥) → found.Term at ≡ foundOf (some (kindAs (eqb (getD s at 0) 1) at))
+  unfolding foundOf kindAs
+  kind-other h = rw (ne-eqb (getD s at 0) 1 h)
+
+  pub kind-none : length s ≤ at → found.Term at ≡ foundOf (some (kindAs (eqb (getD s at 0) 1) at))
+  kind-none h = kind-other (λ k. let z : getD s at 0 ≡ 0 = List·getD-eq-default s 0 h in omega arith)
+
+-- one among the entries of an id, or the last one so far
+pub last-found : (o : Option Location) {r : Found} → orElse o (heldBy found.Nothing) ≡ heldBy r → r ≡ foundOf o
+unfolding heldBy
+last-found o h = is-found (sym (or-none o) ∙ h)
+
+pub later-held : (t i : List ℕ) (x : Location) (o : Option Location) {last : Found} {b : Bool} → b ≡ sameBytes t i → last ≡ foundOf (orElse (optionOf b x) o) → orElse (optionOf (sameBytes t i) x) o ≡ heldBy last
+later-held t i x o e h = ap (λ (c : Bool). orElse (optionOf c x) o) (sym e) ∙ sym (says-held h)
 
 -- of two holders the first
-pub or-held : {s : List ℕ} {o : Option Holder} {x y : Found} (p : Option Holder) → HolderAt s o x → (x ≡ found.Nothing → ⊥) → y ≡ x → HolderAt s (orElse o p) y
+pub or-held : {x : Found} (o : Option Location) (y : Location) → heldBy x ≡ some y → x ≡ foundOf (orElse (heldBy x) o)
 unfolding orElse
-or-held p (message-at q e f h w k he) n v = message-at q e f (v ∙ h) (rw w) k he
-or-held p (term-at q e f h w k he) n v = term-at q e f (v ∙ h) (rw w) k he
-or-held p (function-at h w) n v = function-at (v ∙ h) (rw w)
-or-held p (nothing-at h w) n v = absurd (n h)
+or-held {x} o y h = is-found (rw h)
 
-pub or-other : {s : List ℕ} {o p : Option Holder} {x y : Found} → HolderAt s o x → x ≡ found.Nothing → HolderAt s p y → HolderAt s (orElse o p) y
-unfolding orElse
-or-other {s} {o} {p} {x} {y} (message-at q e f h w k he) n v = let z : _≡_ {A = ℕ} 0 1 = cc in absurd (omega arith)
-or-other {s} {o} {p} {x} {y} (term-at q e f h w k he) n v = let z : _≡_ {A = ℕ} 0 1 = cc in absurd (omega arith)
-or-other {s} {o} {p} {x} {y} (function-at h w) n v = let z : _≡_ {A = ℕ} 0 1 = cc in absurd (omega arith)
-or-other {s} {o} {p} {x} {y} (nothing-at h w) n v = rw w v
-
-pub message-held : {x : Found} {q : ℕ} → x ≡ found.Message q → x ≡ found.Nothing → ⊥
-message-held h k = let z : _≡_ {A = ℕ} 0 1 = cc in omega arith
-
-pub term-held : {x : Found} {q : ℕ} → x ≡ found.Term q → x ≡ found.Nothing → ⊥
-term-held h k = let z : _≡_ {A = ℕ} 0 1 = cc in omega arith
-
-pub function-held : {x : Found} → x ≡ found.Function → x ≡ found.Nothing → ⊥
-function-held h k = let z : _≡_ {A = ℕ} 0 1 = cc in omega arith
-
--- a resource's entries
-module _ (s : List ℕ) (at : ℕ) (g : List Entry → Option Holder) {x : Found} where
-  pub resource-bad : behind 5 (numberAt 2) s at ≡ bad → (es : List Entry) (f : ℕ) → resourceAt s at ≡ got es f → HolderAt s (g es) x
-  resource-bad h es f q = resource-parts s at q (λ n i k r _ _ _ hk _ _ _. never h hk)
-
-  pub resource-start : {k r : ℕ} → behind 5 (numberAt 2) s at ≡ got k r → ((es : List Entry) (f : ℕ) → many [] _∷_ k entryAt s r ≡ got es f → HolderAt s (g es) x) → (es : List Entry) (f : ℕ) → resourceAt s at ≡ got es f → HolderAt s (g es) x
-  resource-start h w es f q = resource-parts s at q (λ n i k r _ _ _ hk _ hm _. both h hk (λ ek er. w es f (rw (ek, er) hm)))
-
--- a function record's Id
-module _ (s : List ℕ) (at : ℕ) (id : List ℕ) where
-  abbrev pub NamedAt : Found → Type 0
-  NamedAt r = (n : List ℕ) (f : ℕ) → functionAt s at ≡ got n f → HolderAt s (onlyNamed (sameBytes n id) Holder.function) r
-
-  pub function-bad : {r : Found} → behind 6 spanAt s at ≡ bad → NamedAt r
-  function-bad h n f q = function-parts s at q (λ m i a _ _ hs _ _. never h hs)
-
-  module _ (a e : ℕ) (h : behind 6 spanAt s at ≡ got a e) where
-    pub function-here : sameBytes (part s a (e - a)) id ≡ true → NamedAt found.Function
-    unfolding onlyNamed
-    function-here y n f q = function-parts s at q (λ m i a′ _ _ hs ei _. both h hs (λ ea ee. function-at refl (rw (ei, ← ea, ← ee, y))))
-
-    pub function-other : sameBytes (part s a (e - a)) id ≡ false → NamedAt found.Nothing
-    unfolding onlyNamed
-    function-other y n f q = function-parts s at q (λ m i a′ _ _ hs ei _. both h hs (λ ea ee. nothing-at refl (rw (ei, ← ea, ← ee, y))))
+pub or-other : {x : Found} (o : Option Location) {r : Found} → x ≡ found.Nothing → r ≡ foundOf o → r ≡ foundOf (orElse (heldBy x) o)
+unfolding heldBy orElse
+or-other o e h = rw e h
 
 -- what an id has after an item
-module _ (s : List ℕ) (at : ℕ) (id : List ℕ) where
-  abbrev pub AfterItem : Found → Found → Type 0
-  AfterItem before r = (x : Item) (f : ℕ) (o : Option Holder) → itemAt s at ≡ got x f → HolderAt s o before → HolderAt s (holderAfter x id o) r
+module _ (s : List ℕ) (at : ℕ) (id : List ℕ) {m : Num} (is : m ≡ numOf (byteAt s at)) (held : Found) where
+  abbrev afterItem : Option Location
+  afterItem = afterIds (itemHead s at) id (heldBy held)
 
-  pub after-bad : {before r : Found} → byteAt s at ≡ bad → AfterItem before r
-  after-bad h x f o q k = item-cases s at q (λ p es hb _ _. never h hb) (λ p es hb _ _. never h hb) (λ p i hb _ _. never h hb)
+  pub after-bad : m ≡ num.Bad → held ≡ foundOf afterItem
+  unfolding itemHead after afterIds
+  after-bad h = is-found (rw (num-none is h))
 
-  module _ (m p : ℕ) (h : byteAt s at ≡ got m p) {before r : Found} where
-    pub after-overriding : m ≡ 2 → ((es : List Entry) (f : ℕ) (o : Option Holder) → resourceAt s p ≡ got es f → HolderAt s o before → HolderAt s (orElse (lastEntry id es) o) r) → AfterItem before r
-    unfolding holderAfter
-    after-overriding e w x f o q k =
-        item-cases s at q (λ p′ es hb _ _. both h hb (λ em _. absurd (omega arith)))
-        (λ p′ es hb hr ex. both h hb (λ _ ep. rw ex (w es f o (rw ep hr) k)))
-        (λ p′ i hb _ _. both h hb (λ em _. absurd (omega arith)))
+  module _ (b p : ℕ) (h : m ≡ num.At b p) {r : Found} where
+    pub after-last : {l : Found} → b ≡ 2 → l ≡ foundOf (lastNamed id (entriesIn s p)) → r ≡ foundOf (orElse (heldBy l) (heldBy held)) → r ≡ foundOf afterItem
+    unfolding itemHead after afterIds idsBy locatedAfter
+    after-last e w q = rw (num-is is h, eq-eqb b 2 e) (q ∙ ap (λ (o : Option Location). foundOf (orElse o (heldBy held))) (says-held w))
 
-    pub after-plain : m ≡ 1 → ((es : List Entry) (f : ℕ) (o : Option Holder) → resourceAt s p ≡ got es f → HolderAt s o before → HolderAt s (orElse o (firstEntry id es)) r) → AfterItem before r
-    unfolding holderAfter
-    after-plain e w x f o q k =
-        item-cases s at q (λ p′ es hb hr ex. both h hb (λ _ ep. rw ex (w es f o (rw ep hr) k)))
-        (λ p′ es hb _ _. both h hb (λ em _. absurd (omega arith)))
-        (λ p′ i hb _ _. both h hb (λ em _. absurd (omega arith)))
+    pub after-function : {l : Found} → (b ≡ 2 → ⊥) → b ≡ 3 → l ≡ foundOf (firstNamed id (functionIn s p)) → r ≡ foundOf (orElse (heldBy held) (heldBy l)) → r ≡ foundOf afterItem
+    unfolding itemHead after afterIds idsBy locatedAfter
+    after-function n2 e w q = rw (num-is is h, ne-eqb b 2 n2, eq-eqb b 3 e) (q ∙ ap (λ (o : Option Location). foundOf (orElse (heldBy held) o)) (says-held w))
 
-    pub after-function : (m ≡ 1 → ⊥) → (m ≡ 2 → ⊥)
-        → ((n : List ℕ) (f : ℕ) (o : Option Holder) → functionAt s p ≡ got n f → HolderAt s o before → HolderAt s (orElse o (onlyNamed (sameBytes n id) Holder.function)) r) → AfterItem before r
-    unfolding holderAfter
-    after-function n1 n2 w x f o q k =
-        item-cases s at q (λ p′ es hb _ _. both h hb (λ em _. absurd (n1 em)))
-        (λ p′ es hb _ _. both h hb (λ em _. absurd (n2 em)))
-        (λ p′ i hb hr ex. both h hb (λ _ ep. rw ex (w i f o (rw ep hr) k)))
+    pub after-first : (b ≡ 2 → ⊥) → (b ≡ 3 → ⊥) → r ≡ foundOf (orElse (heldBy held) (firstNamed id (entriesIn s p))) → r ≡ foundOf afterItem
+    unfolding itemHead after afterIds idsBy locatedAfter
+    after-first n2 n3 q = rw (num-is is h, ne-eqb b 2 n2, ne-eqb b 3 n3) q
 
 -- what an id has after the items from a position on
 module _ (s id : List ℕ) where
-  abbrev pub HoldersFrom : ℕ → ℕ → Found → Found → Type 0
-  HoldersFrom n at before r = (o : Option Holder) → HolderAt s o before → (xs : List Item) (f : ℕ) → many [] _∷_ n itemAt s at ≡ got xs f → HolderAt s (findFrom xs id o) r
+  abbrev pub HeldFrom : ℕ → ℕ → Found → Option Location
+  HeldFrom n at held = locateFrom (readable n itemHead itemOutline s at) id (heldBy held)
 
-  pub holders-none : (n at : ℕ) (before : Found) → n ≤ 0 → HoldersFrom n at before before
-  unfolding findFrom
-  holders-none n at before z o ho l f q = many-nil [] _∷_ itemAt s n at z q (λ el _. rw el ho)
+  pub from-none : (n at : ℕ) (held : Found) → n ≤ 0 → HeldFrom n at held ≡ heldBy held
+  unfolding locateFrom
+  from-none n at held z = ap (λ (l : List Ids). locateFrom l id (heldBy held)) (list-none itemHead itemOutline s n at z)
 
-  pub holders-stuck : (n at : ℕ) (before : Found) {r : Found} → 0 < n → Passes (itemAt s at) next.Bad → HoldersFrom n at before r
-  holders-stuck n at before z w o ho l f q = many-cons [] _∷_ itemAt s n at z q (λ x e r hx _ _. not-read w x e hx)
+  module _ (n at : ℕ) (held : Found) (z : 0 < n) {now : Found} (a : now ≡ foundOf (afterIds (itemHead s at) id (heldBy held))) {r : Next} (is : r ≡ nextOf (itemOutline s at)) where
+    pub from-stuck : r ≡ next.Bad → HeldFrom n at held ≡ heldBy now
+    unfolding locateFrom afterIds
+    from-stuck b = go (itemHead s at) refl
+      where
+        go : (g : Got Ids) → itemHead s at ≡ g → HeldFrom n at held ≡ heldBy now
+        go (got x e) h = ap (λ (l : List Ids). locateFrom l id (heldBy held)) (list-stuck itemHead itemOutline s n at z h (next-none is b)) ∙ ap (λ (g : Got Ids). afterIds g id (heldBy held)) (sym h) ∙ sym (says-held a)
+        go bad h = ap (λ (l : List Ids). locateFrom l id (heldBy held)) (list-bad itemHead itemOutline s n at h) ∙ ap (λ (g : Got Ids). afterIds g id (heldBy held)) (sym h) ∙ sym (says-held a)
 
-  pub holders-next : (n at : ℕ) (before : Found) {i : ℕ} {now r : Found} → 0 < n → AfterItem s at id before now → Passes (itemAt s at) (next.At i) → HoldersFrom (n - 1) i now r → HoldersFrom n at before r
-  unfolding findFrom
-  holders-next n at before z a w k o ho l f q =
-      many-cons [] _∷_ itemAt s n at z q (λ x j t hx hl el.
-      let ej = end-of w x j hx in
-      rw el (k (holderAfter x id o) (a x j o hx ho) t f (rw (← ej) hl)))
+    pub from-next : {i : ℕ} → r ≡ next.At i → HeldFrom n at held ≡ HeldFrom (n - 1) i now
+    unfolding locateFrom afterIds itemHead itemOutline
+    from-next {i} b =
+        next-is is b (λ x w.
+        after-elim (bytesAt 1 s at) _ w (λ bs p hb _.
+        let k = bytes-inv s at 1 hb in
+        let k0 = k .0 in
+        let hd = after-is (byteAt s at) _ (byte-in s at (omega arith)) in
+        ap (λ (l : List Ids). locateFrom l id (heldBy held)) (list-next itemHead itemOutline s n at z hd w)
+        ∙ ap (locateFrom (readable (n - 1) itemHead itemOutline s i) id) (ap (λ (g : Got Ids). afterIds g id (heldBy held)) (sym hd) ∙ sym (says-held a))))
 
-  abbrev pub HoldersIn : Found → Type 0
-  HoldersIn r = (st : Store) (f : ℕ) → storeOf s ≡ got st f → HolderAt s (findIn (st .items) id) r
+  pub from-start : (n at : ℕ) {r : Found} → HeldFrom n at found.Nothing ≡ heldBy r → r ≡ foundOf (locateFrom (readable n itemHead itemOutline s at) id none)
+  unfolding heldBy
+  from-start n at h = is-found h
 
-  pub holders-bad : {r : Found} → numberAt 2 s 7 ≡ bad → HoldersIn r
-  holders-bad h st f q = store-parts s q (λ k _ _ hk _ _ _ _. never h hk)
+  pub locate-bad : {r : Num} → r ≡ numOf (numberAt 2 s 7) → r ≡ num.Bad → locate s id ≡ none
+  unfolding locate itemsIn listAfter locateFrom
+  locate-bad is h = rw (num-none is h)
 
-  pub holders-start : {k p : ℕ} {r : Found} → numberAt 2 s 7 ≡ got k p → HoldersFrom k p found.Nothing r → HoldersIn r
-  unfolding findIn
-  holders-start h w st f q = store-parts s q (λ k _ _ hk _ hm _ _. both h hk (λ ek ep. w none (nothing-at refl refl) (st .items) f (rw (ek, ep) hm)))
-
--- is an id held?
-pub held-is : {s : List ℕ} {o : Option Holder} {r : Found} → HolderAt s o r → (r ≡ found.Nothing → ⊥) → true ≡ isSome o
-unfolding isSome
-held-is (message-at q e f h w k he) n = rw w
-held-is (term-at q e f h w k he) n = rw w
-held-is (function-at h w) n = rw w
-held-is (nothing-at h w) n = absurd (n h)
-
-pub held-not : {s : List ℕ} {o : Option Holder} {r : Found} → HolderAt s o r → r ≡ found.Nothing → false ≡ isSome o
-unfolding isSome
-held-not {r = r} (message-at q e f h w k he) n = let z : _≡_ {A = ℕ} 0 1 = cc in absurd (omega arith)
-held-not {r = r} (term-at q e f h w k he) n = let z : _≡_ {A = ℕ} 0 1 = cc in absurd (omega arith)
-held-not {r = r} (function-at h w) n = let z : _≡_ {A = ℕ} 0 1 = cc in absurd (omega arith)
-held-not (nothing-at h w) n = rw w
+  pub locate-start : {r : Num} {k p : ℕ} → r ≡ numOf (numberAt 2 s 7) → r ≡ num.At k p → locate s id ≡ locateFrom (readable k itemHead itemOutline s p) id none
+  unfolding locate itemsIn listAfter
+  locate-start is h = rw (num-is is h)

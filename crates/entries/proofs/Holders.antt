@@ -4,7 +4,8 @@ use mathlib.Core.List.{List, [], _∷_, _++_}
 use mathlib.Core.Option.{Option, none, some}
 use Prim.Native.Nat.{ℕ}
 use Rattle.records.specs.Images.{Item}
-use Rattle.entries.specs.Lookup.{Holder, Find, orElse, holderAfter, findFrom, findIn}
+use Rattle.entries.specs.Lookup.{Holder, Find, holderAfter, findFrom, findIn}
+use Rattle.records.specs.Optional.{orElse}
 
 -- every id that something holds in the one, the same holds in the other
 abbrev pub Extends : Find → Find → Type 0

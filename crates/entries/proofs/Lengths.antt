@@ -10,13 +10,13 @@ use lib.Dec.{eqb, leb}
 use borrow.Author.Tests.{leb-true}
 use Rattle.records.specs.Got.{got}
 use Rattle.records.specs.Bytes.{part, bytesAt, numberAt, spanAt}
-use Rattle.rules.specs.Run.{run}
+use Rattle.decimals.specs.Bytes.{run}
 use Rattle.rules.specs.Rules.{isId, idStep}
 use Rattle.records.specs.Decode.{optionalAt, entryPatternAt}
 use Rattle.records.specs.Images.{Entry, attributesAt, entryAt}
 use Rattle.records.proofs.Laws.{after-elim, got-elim, bytes-inv, number2, number-inv}
 use Rattle.records.proofs.Views.{both, optional-elim, attributes-elim, entry-elim, id-elim}
-use Rattle.entries.specs.Relations.Meets.{behind}
+use Rattle.entries.specs.Outline.{behind}
 use Rattle.entries.proofs.Inside.{entry-pattern-stays, many-stays, attribute-stays}
 use Rattle.entries.proofs.Open.{byte-end, entry-parts}
 

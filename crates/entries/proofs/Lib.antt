@@ -2,9 +2,11 @@
 pub mod Inside
 pub mod Open
 pub mod Walk
-pub mod Held
-pub mod Parts
 pub mod Headers
+pub mod Held
+pub mod Decoded
+pub mod Located
+pub mod Parts
 pub mod Lengths
 pub mod Holders
 pub mod Sizes

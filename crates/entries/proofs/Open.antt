@@ -1,17 +1,17 @@
 -- What is known where a resource, a function record, an item or a store was read; and that each lies in the bytes.
 use mathlib.Core.Path.{_≡_, ap, sym, subst, _∙_}
 use mathlib.Core.List.{List, [], _∷_}
-use Prim.Native.Nat.{ℕ, _+_, _-_, _≤_}
+use Prim.Native.Nat.{ℕ, _+_, _-_, _≤_, _<_}
 use native.Mathlib.Omega.{arith}
-use lib.ListN.{length}
-use borrow.Author.Tests.{eqb-true, ltb-true, leb-true}
-use Rattle.records.specs.Got.{got, Parser}
+use lib.ListN.{length, getD}
+use borrow.Author.Tests.{eqb-true, ltb-true, leb-true, lt-ltb}
+use Rattle.records.specs.Got.{got, Parser, test}
 use Rattle.records.specs.Bytes.{part, byteAt, bytesAt, numberAt, spanAt}
 use Rattle.records.specs.Decode.{many, flagAt, optionalAt, idAt, entryPatternAt}
 use Rattle.records.specs.Images.{Kind, Entry, Item, Store, maxImage, maxStore, maxItems, oneAt, attributesAt, entryAt, resourceAt, functionAt, itemAt, localeAt, storeOf, wholeOf, resourceOf}
 use Rattle.records.proofs.Laws.{after-is, after-elim, test-elim, got-elim, bytes-in, bytes-inv, number-inv}
 use Rattle.records.proofs.Views.{pick-elim, as-elim, byte-tag, kind-elim, one-elim, id-elim, flag-elim, entry-elim}
-use Rattle.entries.specs.Relations.Meets.{behind}
+use Rattle.entries.specs.Outline.{behind}
 use Rattle.entries.proofs.Inside.{Within, further, Stays, byte-stays, id-stays, many-stays, entry-stays}
 
 -- a byte, as one of any bytes
@@ -22,10 +22,14 @@ byte-bytes s at {b} {e} h =
     let k = ltb-true at (length s) t in
     bytes-in s at 1 (omega arith) ∙ ap (λ (j : ℕ). got (part s at 1) j) w))
 
+pub byte-in : (s : List ℕ) (at : ℕ) → at < length s → byteAt s at ≡ got (getD s at 0) (at + 1)
+unfolding byteAt test
+byte-in s at h = simp (lt-ltb _ _ h)
+
 pub byte-end : (s : List ℕ) (at : ℕ) {b e : ℕ} → byteAt s at ≡ got b e → (at + 1 ≤ length s) × (e ≡ at + 1)
 byte-end s at h = let k = bytes-inv s at 1 (byte-bytes s at h) in (k .0, k .2)
 
-pub behind-is : (n : ℕ) (p : Parser ℕ) (s : List ℕ) (at : ℕ) {bs : List ℕ} {i : ℕ} → bytesAt n s at ≡ got bs i → behind n p s at ≡ p s i
+pub behind-is : {A : Type 0} (n : ℕ) (p : Parser A) (s : List ℕ) (at : ℕ) {bs : List ℕ} {i : ℕ} → bytesAt n s at ≡ got bs i → behind n p s at ≡ p s i
 unfolding behind
 behind-is n p s at h = after-is (bytesAt n s at) _ h
 

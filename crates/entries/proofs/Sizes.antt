@@ -7,12 +7,13 @@ use Prim.Native.Nat.{ℕ, _+_, _≤_}
 use native.Mathlib.Omega.{arith}
 use lib.ListN.{length, length-append}
 use Rattle.records.specs.Bytes.{toBe}
-use Rattle.rules.specs.Same.{sameBytes}
+use Rattle.decimals.specs.Bytes.{sameBytes}
 use Rattle.records.specs.Tree.{Pattern}
 use Rattle.records.specs.Images.{Attribute, Entry, Item, maxImage}
 use Rattle.records.specs.Encode.{encStr, encOptional, encAll, encCounted, encWhole, encPattern, encAttribute, encEntry, encResource}
 use Rattle.records.specs.Valid.{All, ValidResource, ValidItem}
-use Rattle.entries.specs.Lookup.{Holder, orElse, onlyNamed, firstEntry, lastEntry, holderAfter, findFrom, findIn, attributeOf, partOf}
+use Rattle.entries.specs.Lookup.{Holder, firstEntry, lastEntry, holderAfter, findFrom, findIn, firstNamed, partOf}
+use Rattle.records.specs.Optional.{orElse, optionOf}
 
 -- what holds an id is no longer than an image
 abbrev HolderFits : Option Holder → Type 0
@@ -25,8 +26,8 @@ unfolding orElse
 or-fits none b h k = k
 or-fits (some x) b h k = h
 
-named-fits : (c : Bool) (e : Entry) → length (encEntry e) ≤ maxImage → HolderFits (onlyNamed c (Holder.entry e))
-unfolding onlyNamed
+named-fits : (c : Bool) (e : Entry) → length (encEntry e) ≤ maxImage → HolderFits (optionOf c (Holder.entry e))
+unfolding optionOf
 named-fits true e h = h
 named-fits false e h = tt
 
@@ -51,12 +52,12 @@ entries-fit es h =
     omega (arith, h .1, length-append (toBe 4 (4 + length (1 ∷ r))) (1 ∷ r), length-append (toBe 2 (length es)) (encAll encEntry es))
 
 after-fits : (x : Item) → ValidItem x → (i : List ℕ) (o : Option Holder) → HolderFits o → HolderFits (holderAfter x i o)
-unfolding holderAfter ValidItem onlyNamed
+unfolding holderAfter ValidItem optionOf
 after-fits (Item.plain es) v i o h = or-fits o _ h (first-fits i es (entries-fit es v))
 after-fits (Item.overriding es) v i o h = or-fits _ o (last-fits i es (entries-fit es v)) h
 after-fits (Item.function n) v i o h = or-fits o _ h (go (sameBytes n i))
   where
-    go : (c : Bool) → HolderFits (onlyNamed c Holder.function)
+    go : (c : Bool) → HolderFits (optionOf c Holder.function)
     go true = tt
     go false = tt
 
@@ -73,13 +74,13 @@ entry-size xs v i e h = subst HolderFits h (from-fits xs v i none tt)
 pub no-some : {A : Type 0} {a : A} → none ≡ some a → ⊥
 no-some h = let z : _≡_ {A = ℕ} 0 1 = cc in omega arith
 
-attribute-size : (a : List ℕ) (l : List Attribute) (p : Pattern) → attributeOf a l ≡ some p → length (encPattern p) ≤ length (encAll encAttribute l)
-unfolding attributeOf orElse onlyNamed encAll encAttribute
+attribute-size : (a : List ℕ) (l : List Attribute) (p : Pattern) → firstNamed a l ≡ some p → length (encPattern p) ≤ length (encAll encAttribute l)
+unfolding firstNamed orElse optionOf encAll encAttribute
 attribute-size a [] p h = absurd (no-some h)
 attribute-size a (x ∷ l) p h = go (sameBytes (x .0) a) h (attribute-size a l p)
   where
-    go : (c : Bool) → orElse (onlyNamed c (x .1)) (attributeOf a l) ≡ some p
-        → (attributeOf a l ≡ some p → length (encPattern p) ≤ length (encAll encAttribute l))
+    go : (c : Bool) → orElse (optionOf c (x .1)) (firstNamed a l) ≡ some p
+        → (firstNamed a l ≡ some p → length (encPattern p) ≤ length (encAll encAttribute l))
         → length (encPattern p) ≤ length (encAll encAttribute (x ∷ l))
     go true q ih =
         let e : x .1 ≡ p = cc in

@@ -1,27 +1,29 @@
--- Steps of the walkers: what each answer says of what a decoder reads there, and what a turn of a loop leaves to be found.
-use mathlib.Core.Path.{_≡_, refl, ap, sym, subst, _∙_}
-use mathlib.Core.Bool.{Bool, true, false}
+-- Steps of the walkers, on any bytes: what is read behind a head; of a list that goes as far as its records can be read, what stands first and what is left.
+use mathlib.Core.Path.{_≡_, refl, ap, sym, _∙_}
+use mathlib.Core.Bool.{true, false}
 use mathlib.Core.List.{List, [], _∷_}
 use mathlib.Core.Option.{Option, some, none}
-use Prim.Native.Nat.{ℕ, _+_, _-_, _≤_, _<_}
+use Prim.Native.Nat.{ℕ, zero, suc, _-_, _≤_, _<_}
 use native.Mathlib.Omega.{arith}
-use lib.ListN.{length}
+use lib.ListN.{length, getD}
+use lib.Dec.{eqb}
 use Rattle.records.specs.declared.Next.{Next}
 use Rattle.records.specs.declared.Num.{Num}
 use Rattle.records.specs.declared.Next.the-variants as next
 use Rattle.records.specs.declared.Num.the-variants as num
 use Rattle.records.specs.Got.{Got, got, bad, Parser, after}
 use Rattle.records.specs.Relations.Answer.{nextOf, numOf}
-use Rattle.records.specs.Bytes.{part, byteAt, bytesAt, numberAt, spanAt, strAt}
-use Rattle.rules.specs.Same.{sameBytes}
-use Rattle.records.specs.Decode.{many, optionalAt, entryPatternAt, expression, maxDepth}
-use Rattle.records.specs.Images.{Entry, attributeAt, attributesAt, entryAt, itemAt}
-use Rattle.records.proofs.Laws.{after-elim, bytes-in, number-inv, span-in}
-use Rattle.records.proofs.Views.{both, never, num-is, next-is, next-none, next-of, pattern-elim, optional-elim, attribute-elim, attributes-elim, many-cons, many-nil, id-str}
-use Rattle.entries.specs.Lookup.{Holder, orElse, onlyNamed, firstEntry, lastEntry}
-use Rattle.entries.specs.Relations.Meets.{Passes, behind, EntryAt, entry-at, no-entry, laterOf}
-use Rattle.entries.proofs.Inside.{entry-pattern-stays}
-use Rattle.entries.proofs.Open.{byte-bytes, behind-is, entry-parts, item-record}
+use Rattle.records.specs.Bytes.{part, bytesAt, spanAt, strAt}
+use Rattle.decimals.specs.Bytes.{sameBytes}
+use Rattle.records.proofs.Laws.{after-is, after-elim, next-stop, next-end, span-in}
+use Rattle.records.proofs.Views.{num-is, num-none, next-is, next-none}
+use Rattle.entries.specs.Lookup.{firstNamed}
+use Rattle.records.specs.Names.{lastNamed}
+use Rattle.records.specs.Optional.{orElse, optionOf}
+use Rattle.entries.specs.Outline.{behind, listAfter, readable, kindAs, entryHead, attributeHead, attributeOutline}
+use Rattle.walks.specs.Outline.{sizedAt, patternOutline}
+use Rattle.walks.specs.Relations.Passes.{Passes}
+use Rattle.entries.proofs.Open.{behind-is}
 
 -- behind a head
 module _ (n : ℕ) (p : Parser ℕ) (s : List ℕ) (at : ℕ) {r : Next} (is : r ≡ nextOf (bytesAt n s at)) where
@@ -37,6 +39,19 @@ pub behind-in : (n : ℕ) (s : List ℕ) (at : ℕ) {r : Num} {a e : ℕ} → r 
 unfolding behind
 behind-in n s at is h = after-elim (bytesAt n s at) _ (num-is is h) (λ bs i _ q. span-in s i q)
 
+-- its bytes
+pub behind-str : (n : ℕ) (s : List ℕ) (at : ℕ) {a e : ℕ} → behind n spanAt s at ≡ got a e → behind n strAt s at ≡ got (part s a (e - a)) e
+unfolding behind strAt
+behind-str n s at h = after-elim (bytesAt n s at) _ h (λ bs i hb q. after-is (bytesAt n s at) _ hb ∙ after-is (spanAt s i) _ q)
+
+pub behind-no-str : (n : ℕ) (s : List ℕ) (at : ℕ) → behind n spanAt s at ≡ bad → behind n strAt s at ≡ bad
+unfolding behind after strAt
+behind-no-str n s at h = go (bytesAt n s at) h
+  where
+    go : (g : Got (List ℕ)) → after g (λ bs i. spanAt s i) ≡ bad → after g (λ bs i. strAt s i) ≡ bad
+    go (got bs i) q = rw q
+    go bad q = refl
+
 -- an answer that holds whatever is asked, as nothing is read there
 pub not-read : {A C : Type 0} {g : Got A} → Passes g next.Bad → (a : A) (f : ℕ) → g ≡ got a f → C
 not-read h a f q = let w = h a f q in let z : _≡_ {A = ℕ} 0 1 = cc in absurd (omega arith)
@@ -47,150 +62,130 @@ end-of h a f q = let w = h a f q in cc
 pub told : {A : Type 0} {g : Got A} {r x : Next} → Passes g r → r ≡ x → Passes g x
 told {g = g} h e = rw e at h
 
--- patterns, values, attributes
-module _ (s : List ℕ) (at : ℕ) {r : Next} where
-  pub pattern-bad : numberAt 4 s at ≡ bad → Passes (entryPatternAt s at) r
-  unfolding entryPatternAt
-  pattern-bad h x f q = pattern-elim (expression maxDepth) s at q (λ n p k i es hn _ _ _ _ _. never h hn)
+-- as far as they can be read
+module _ {A B : Type 0} (head : Parser A) (whole : Parser B) (s : List ℕ) where
+  pub list-none : (n at : ℕ) → n ≤ 0 → readable n head whole s at ≡ []
+  unfolding readable
+  list-none zero at z = refl
+  list-none (suc n) at z = absurd (omega arith)
 
-  pub pattern-passes : {n p : ℕ} → numberAt 4 s at ≡ got n p → r ≡ nextOf (bytesAt n s p) → Passes (entryPatternAt s at) r
-  unfolding entryPatternAt
-  pattern-passes {n} {p} h is x f q =
-      let i = number-inv s 4 at h in let i0 = i .0 in
-      let w = entry-pattern-stays s at x f (omega arith) q in
-      let le = w .end in
-      pattern-elim (expression maxDepth) s at q (λ n′ p′ k j es hn _ _ _ ef _.
-      both h hn (λ en ep.
-      let e : p + n ≡ f = omega arith in
-      next-of is (bytes-in s p n (omega arith)) ∙ ap next.At e))
+  pub list-bad : (n at : ℕ) → head s at ≡ bad → readable n head whole s at ≡ []
+  unfolding readable listAfter
+  list-bad zero at h = refl
+  list-bad (suc n) at h = rw h
 
-  pub value-bad : byteAt s at ≡ bad → Passes (optionalAt entryPatternAt s at) r
-  value-bad h x f q = optional-elim entryPatternAt s at q (λ hb _. never h hb) (λ i a hb _ _. never h hb)
+  pub list-first : (n at : ℕ) {a : A} {e : ℕ} → 0 < n → head s at ≡ got a e → (l : List A) × (readable n head whole s at ≡ a ∷ l)
+  unfolding readable listAfter
+  list-first zero at z h = absurd (omega arith)
+  list-first (suc n) at z h = (listAfter (whole s at) (λ b f. readable n head whole s f), rw h)
 
-  pub value-some : {b p : ℕ} → byteAt s at ≡ got b p → (b ≡ 0 → ⊥) → Passes (entryPatternAt s p) r → Passes (optionalAt entryPatternAt s at) r
-  value-some h nz k x f q =
-      optional-elim entryPatternAt s at q (λ hb _. both h hb (λ eb _. absurd (nz eb)))
-      (λ i a hb ha _. both h hb (λ _ ei. k a f (rw ei ha)))
+  pub list-stuck : (n at : ℕ) {a : A} {e : ℕ} → 0 < n → head s at ≡ got a e → whole s at ≡ bad → readable n head whole s at ≡ a ∷ []
+  unfolding readable listAfter
+  list-stuck zero at z h w = absurd (omega arith)
+  list-stuck (suc n) at z h w = rw (h, w)
 
-  pub attributes-bad : numberAt 2 s at ≡ bad → Passes (attributesAt s at) r
-  attributes-bad h x f q = attributes-elim s at q (λ k p hk _. never h hk)
+  pub list-next : (n at : ℕ) {a : A} {e i : ℕ} {b : B} → 0 < n → head s at ≡ got a e → whole s at ≡ got b i → readable n head whole s at ≡ a ∷ readable (n - 1) head whole s i
+  unfolding readable listAfter
+  list-next zero at z h w = absurd (omega arith)
+  list-next (suc n) at {a = a} {i = i} z h w =
+      let m : n ≡ suc n - 1 = omega arith in
+      rw (h, w) (ap (λ (k : ℕ). a ∷ readable k head whole s i) m)
 
-  pub attributes-start : {k p : ℕ} → numberAt 2 s at ≡ got k p → Passes (many [] _∷_ k attributeAt s p) r → Passes (attributesAt s at) r
-  attributes-start h w x f q = attributes-elim s at q (λ k p hk hm. both h hk (λ ek ep. w x f (rw (ek, ep) hm)))
+-- of things with a name
+module _ {A : Type 0} (i : List ℕ) where
+  pub named-here : (x : List ℕ × A) (l : List (List ℕ × A)) → sameBytes (x .0) i ≡ true → firstNamed i (x ∷ l) ≡ some (x .1)
+  unfolding firstNamed orElse optionOf
+  named-here x l h = rw h
 
-  pub attribute-bad : strAt s at ≡ bad → Passes (attributeAt s at) r
-  attribute-bad h x f q = attribute-elim s at q (λ n p y hn _ _. never h (id-str s at hn))
+  pub named-past : (x : List ℕ × A) (l : List (List ℕ × A)) → sameBytes (x .0) i ≡ false → firstNamed i (x ∷ l) ≡ firstNamed i l
+  unfolding firstNamed orElse optionOf
+  named-past x l h = rw h
 
-  pub attribute-step : {t : List ℕ} {p : ℕ} → strAt s at ≡ got t p → Passes (entryPatternAt s p) r → Passes (attributeAt s at) r
-  attribute-step h w x f q = attribute-elim s at q (λ n p y hn hy _. both h (id-str s at hn) (λ _ ep. w y f (rw ep hy)))
-
-  pub entry-bad : behind 1 spanAt s at ≡ bad → Passes (entryAt s at) r
-  entry-bad h x f q = entry-parts s at q (λ a e i hi _ _ _. never h hi)
-
-  pub entry-stuck : {a e : ℕ} → behind 1 spanAt s at ≡ got a e → Passes (optionalAt entryPatternAt s e) next.Bad → Passes (entryAt s at) r
-  entry-stuck h w x f q = entry-parts s at q (λ a e i hi _ hv _. both h hi (λ _ ee. not-read w (x .value) i (rw ee hv)))
-
-  pub entry-passes : {a e p : ℕ} → behind 1 spanAt s at ≡ got a e → Passes (optionalAt entryPatternAt s e) (next.At p) → Passes (attributesAt s p) r → Passes (entryAt s at) r
-  entry-passes h w k x f q = entry-parts s at q (λ a e i hi _ hv ha. both h hi (λ _ ee. let ei = end-of w (x .value) i (rw ee hv) in k (x .attributes) f (rw (← ei) ha)))
-
-  pub item-bad : bytesAt 1 s at ≡ bad → Passes (itemAt s at) r
-  item-bad h x f q = item-record s at q (λ m p n i hb _ _ _. never h (byte-bytes s at hb))
-
-  pub item-no-length : {b : List ℕ} {p : ℕ} → bytesAt 1 s at ≡ got b p → numberAt 4 s p ≡ bad → Passes (itemAt s at) r
-  item-no-length h k x f q = item-record s at q (λ m p n i hb hn _ _. both h (byte-bytes s at hb) (λ _ ep. never (subst (λ (z : ℕ). numberAt 4 s z ≡ bad) ep k) hn))
-
-  pub item-passes : {b : List ℕ} {p n i : ℕ} → bytesAt 1 s at ≡ got b p → numberAt 4 s p ≡ got n i → r ≡ nextOf (bytesAt n s p) → Passes (itemAt s at) r
-  item-passes {b} {p} {n} h k is x f q =
-      item-record s at q (λ m p′ n′ i′ hb hn ef w.
-      both h (byte-bytes s at hb) (λ _ ep. both k (subst (λ (z : ℕ). numberAt 4 s z ≡ got n′ i′) (sym ep) hn) (λ en _.
-      let le = w .end in
-      let e : p + n ≡ f = omega arith in
-      next-of is (bytes-in s p n (omega arith)) ∙ ap next.At e)))
-
-pub value-none : (s : List ℕ) (at : ℕ) {b p : ℕ} → byteAt s at ≡ got b p → b ≡ 0 → Passes (optionalAt entryPatternAt s at) (next.At p)
-value-none s at h z x f q =
-    optional-elim entryPatternAt s at q (λ hb _. both h hb (λ _ ep. ap next.At ep))
-    (λ i a hb _ _. both h hb (λ eb _. absurd (omega arith)))
-
--- of many
-module _ {A : Type 0} (p : Parser A) (s : List ℕ) (n at : ℕ) where
-  pub many-ends : n ≤ 0 → Passes (many [] _∷_ n p s at) (next.At at)
-  many-ends z x f q = many-nil [] _∷_ p s n at z q (λ _ ef. ap next.At (sym ef))
-
-  pub many-stuck : {r : Next} → 0 < n → Passes (p s at) next.Bad → Passes (many [] _∷_ n p s at) r
-  many-stuck z w x f q = many-cons [] _∷_ p s n at z q (λ a e l ha _ _. not-read w a e ha)
-
-  pub many-goes : {i : ℕ} {r : Next} → 0 < n → Passes (p s at) (next.At i) → Passes (many [] _∷_ (n - 1) p s i) r → Passes (many [] _∷_ n p s at) r
-  many-goes z w k x f q = many-cons [] _∷_ p s n at z q (λ a e l ha hl _. let ei = end-of w a e ha in k l f (rw (← ei) hl))
-
--- the first entry with an id, and the last
-module _ (s id : List ℕ) where
-  abbrev pub FirstFrom : ℕ → ℕ → Next → Type 0
-  FirstFrom n at r = (es : List Entry) (f : ℕ) → many [] _∷_ n entryAt s at ≡ got es f → EntryAt s (firstEntry id es) r
-
-  pub first-none : (n at : ℕ) → n ≤ 0 → FirstFrom n at next.Bad
-  unfolding firstEntry
-  first-none n at z l f q = many-nil [] _∷_ entryAt s n at z q (λ el _. no-entry refl (rw el))
-
-  module _ (n at : ℕ) (z : 0 < n) where
-    pub first-bad : {r : Next} → behind 1 spanAt s at ≡ bad → FirstFrom n at r
-    first-bad h l f q = many-cons [] _∷_ entryAt s n at z q (λ x e r hx _ _. entry-parts s at hx (λ a i j hi _ _ _. never h hi))
-
-    pub first-stuck : {r : Next} → Passes (entryAt s at) next.Bad → FirstFrom n at r
-    first-stuck w l f q = many-cons [] _∷_ entryAt s n at z q (λ x e r hx _ _. not-read w x e hx)
-
-    module _ (a e : ℕ) (h : behind 1 spanAt s at ≡ got a e) where
-      id-is : {x : Entry} {f : ℕ} → entryAt s at ≡ got x f → x .id ≡ part s a (e - a)
-      id-is hx = entry-parts s at hx (λ a′ e′ j hi ei _ _. both h hi (λ ea ee. rw (ea, ee) ei))
-
-      pub first-here : sameBytes (part s a (e - a)) id ≡ true → FirstFrom n at (next.At at)
-      unfolding firstEntry onlyNamed orElse
-      first-here y l f q = many-cons [] _∷_ entryAt s n at z q (λ x i r hx _ w. entry-at at x i refl (rw (w, id-is hx, y)) hx)
-
-      pub first-next : {i : ℕ} {r : Next} → sameBytes (part s a (e - a)) id ≡ false → Passes (entryAt s at) (next.At i) → FirstFrom (n - 1) i r → FirstFrom n at r
-      unfolding firstEntry onlyNamed orElse
-      first-next y w k l f q =
-          many-cons [] _∷_ entryAt s n at z q (λ x j r hx hl el.
-          let ej = end-of w x j hx in
-          rw (el, id-is hx, y) (k r f (rw (← ej) hl)))
-
-  -- with the one found so far
-  abbrev pub LastFrom : ℕ → ℕ → Next → Next → Type 0
-  LastFrom n at last r = (o : Option Holder) → EntryAt s o last → (es : List Entry) (f : ℕ) → many [] _∷_ n entryAt s at ≡ got es f → EntryAt s (orElse (lastEntry id es) o) r
-
-  pub last-none : (n at : ℕ) (last : Next) → n ≤ 0 → LastFrom n at last last
-  unfolding lastEntry orElse
-  last-none n at last z o ho l f q = many-nil [] _∷_ entryAt s n at z q (λ el _. rw el ho)
-
-  or-none : (o : Option Holder) → orElse o none ≡ o
-  unfolding orElse
-  or-none none = refl
-  or-none (some x) = refl
-
-  or-or : (a b c : Option Holder) → orElse (orElse a b) c ≡ orElse a (orElse b c)
+  or-or : (a b c : Option A) → orElse (orElse a b) c ≡ orElse a (orElse b c)
   unfolding orElse
   or-or none b c = refl
   or-or (some x) b c = refl
 
-  pub last-start : (n at : ℕ) {r : Next} → LastFrom n at next.Bad r → (es : List Entry) (f : ℕ) → many [] _∷_ n entryAt s at ≡ got es f → EntryAt s (lastEntry id es) r
-  last-start n at h es f q = rw or-none at (h none (no-entry refl refl) es f q)
+  pub last-more : (x : List ℕ × A) (l : List (List ℕ × A)) (o : Option A) → orElse (lastNamed i (x ∷ l)) o ≡ orElse (lastNamed i l) (orElse (optionOf (sameBytes (x .0) i) (x .1)) o)
+  unfolding lastNamed
+  last-more x l o = or-or (lastNamed i l) (optionOf (sameBytes (x .0) i) (x .1)) o
 
-  module _ (n at : ℕ) (last : Next) (z : 0 < n) where
-    pub last-bad : {r : Next} → behind 1 spanAt s at ≡ bad → LastFrom n at last r
-    last-bad h o ho l f q = many-cons [] _∷_ entryAt s n at z q (λ x e r hx _ _. entry-parts s at hx (λ a i j hi _ _ _. never h hi))
+pub or-none : {A : Type 0} (o : Option A) → orElse o none ≡ o
+unfolding orElse
+or-none none = refl
+or-none (some x) = refl
 
-    pub last-stuck : {r : Next} → Passes (entryAt s at) next.Bad → LastFrom n at last r
-    last-stuck w o ho l f q = many-cons [] _∷_ entryAt s n at z q (λ x e r hx _ _. not-read w x e hx)
+-- the first of a name, and the last, among those that can be read
+module _ {A B : Type 0} (head : Parser (List ℕ × A)) (whole : Parser B) (s i : List ℕ) where
+  abbrev pub FirstOf : ℕ → ℕ → Option A
+  FirstOf n at = firstNamed i (readable n head whole s at)
 
-    pub last-next : {a e i : ℕ} {b : Bool} {last′ r : Next} → behind 1 spanAt s at ≡ got a e → b ≡ sameBytes (part s a (e - a)) id → last′ ≡ laterOf b at last
-        → Passes (entryAt s at) (next.At i) → LastFrom (n - 1) i last′ r → LastFrom n at last r
-    unfolding lastEntry laterOf onlyNamed orElse
-    last-next {a} {e} {i} {b} {last′} {r} h y u w k o ho l f q =
-        many-cons [] _∷_ entryAt s n at z q (λ x j t hx hl el.
-        let ej = end-of w x j hx in
-        let ex : sameBytes (x .id) id ≡ b = ap (λ (t : List ℕ). sameBytes t id) (id-is n at z a e h hx) ∙ sym y in
-        rw (el, ex, or-or) (k _ (held x j hx b u) t f (rw (← ej) hl)))
-      where
-        held : (x : Entry) (j : ℕ) → entryAt s at ≡ got x j → (b′ : Bool) → last′ ≡ laterOf b′ at last → EntryAt s (orElse (onlyNamed b′ (Holder.entry x)) o) last′
-        held x j hx true v = entry-at at x j v refl hx
-        held x j hx false v = rw v ho
+  pub first-none : (n at : ℕ) → n ≤ 0 → FirstOf n at ≡ none
+  unfolding firstNamed
+  first-none n at z = ap (firstNamed i) (list-none head whole s n at z)
+
+  pub first-bad : (n at : ℕ) → head s at ≡ bad → FirstOf n at ≡ none
+  unfolding firstNamed
+  first-bad n at h = ap (firstNamed i) (list-bad head whole s n at h)
+
+  module _ (n at : ℕ) (z : 0 < n) {x : List ℕ × A} {e : ℕ} (h : head s at ≡ got x e) where
+    pub first-here : sameBytes (x .0) i ≡ true → FirstOf n at ≡ some (x .1)
+    first-here y = let w = list-first head whole s n at z h in ap (firstNamed i) (w .1) ∙ named-here i x (w .0) y
+
+    pub first-stuck : {r : Next} → sameBytes (x .0) i ≡ false → r ≡ nextOf (whole s at) → r ≡ next.Bad → FirstOf n at ≡ none
+    unfolding firstNamed
+    first-stuck y is b = ap (firstNamed i) (list-stuck head whole s n at z h (next-none is b)) ∙ named-past i x [] y
+
+    pub first-next : {r : Next} {f : ℕ} → sameBytes (x .0) i ≡ false → r ≡ nextOf (whole s at) → r ≡ next.At f → FirstOf n at ≡ FirstOf (n - 1) f
+    first-next {f = f} y is k = next-is is k (λ b w. ap (firstNamed i) (list-next head whole s n at z h w) ∙ named-past i x (readable (n - 1) head whole s f) y)
+
+  -- with the one found so far
+  abbrev pub LastOf : ℕ → ℕ → Option A → Option A
+  LastOf n at o = orElse (lastNamed i (readable n head whole s at)) o
+
+  pub last-none : (n at : ℕ) (o : Option A) → n ≤ 0 → LastOf n at o ≡ o
+  unfolding lastNamed orElse
+  last-none n at o z = ap (λ (l : List (List ℕ × A)). orElse (lastNamed i l) o) (list-none head whole s n at z)
+
+  pub last-bad : (n at : ℕ) (o : Option A) → head s at ≡ bad → LastOf n at o ≡ o
+  unfolding lastNamed orElse
+  last-bad n at o h = ap (λ (l : List (List ℕ × A)). orElse (lastNamed i l) o) (list-bad head whole s n at h)
+
+  module _ (n at : ℕ) (o : Option A) (z : 0 < n) {x : List ℕ × A} {e : ℕ} (h : head s at ≡ got x e) where
+    pub last-stuck : {r : Next} → r ≡ nextOf (whole s at) → r ≡ next.Bad → LastOf n at o ≡ orElse (optionOf (sameBytes (x .0) i) (x .1)) o
+    unfolding lastNamed orElse
+    last-stuck is b = ap (λ (l : List (List ℕ × A)). orElse (lastNamed i l) o) (list-stuck head whole s n at z h (next-none is b)) ∙ last-more i x [] o
+
+    pub last-next : {r : Next} {f : ℕ} → r ≡ nextOf (whole s at) → r ≡ next.At f → LastOf n at o ≡ LastOf (n - 1) f (orElse (optionOf (sameBytes (x .0) i) (x .1)) o)
+    last-next {f = f} is k =
+        next-is is k (λ b w.
+        ap (λ (l : List (List ℕ × A)). orElse (lastNamed i l) o) (list-next head whole s n at z h w) ∙ last-more i x (readable (n - 1) head whole s f) o)
+
+-- the heads, from what the code reads
+pub entry-head : (s : List ℕ) (at : ℕ) {r : Num} {a e : ℕ} → r ≡ numOf (behind 1 spanAt s at) → r ≡ num.At a e → entryHead s at ≡ got (part s a (e - a), kindAs (eqb (getD s at 0) 1) at) e
+unfolding entryHead
+entry-head s at is h = after-is (behind 1 strAt s at) _ (behind-str 1 s at (num-is is h))
+
+pub entry-no-head : (s : List ℕ) (at : ℕ) {r : Num} → r ≡ numOf (behind 1 spanAt s at) → r ≡ num.Bad → entryHead s at ≡ bad
+unfolding entryHead after
+entry-no-head s at is h = rw (behind-no-str 1 s at (num-none is h))
+
+pub attribute-head : (s : List ℕ) (at : ℕ) {t : List ℕ} {e : ℕ} → strAt s at ≡ got t e → attributeHead s at ≡ got (t, e) e
+unfolding attributeHead
+attribute-head s at h = after-is (strAt s at) _ h
+
+pub attribute-no-head : (s : List ℕ) (at : ℕ) → strAt s at ≡ bad → attributeHead s at ≡ bad
+unfolding attributeHead after
+attribute-no-head s at h = rw h
+
+pub attribute-past : (s : List ℕ) (at : ℕ) {t : List ℕ} {e : ℕ} {r : Next} → strAt s at ≡ got t e → r ≡ nextOf (sizedAt 4 s e) → r ≡ nextOf (attributeOutline s at)
+unfolding attributeOutline patternOutline
+attribute-past s at {e = e} h q = next-end (λ b. tt) (sizedAt 4 s e) q ∙ ap nextOf (sym (after-is (strAt s at) _ h))
+
+module _ (s : List ℕ) (at : ℕ) {r : Next} (is : r ≡ nextOf (strAt s at)) where
+  pub attribute-stop : r ≡ next.Bad → next.Bad ≡ nextOf (attributeOutline s at)
+  unfolding attributeOutline
+  attribute-stop h = next-stop (strAt s at) _ is h
+
+  pub attribute-step : {p : ℕ} {x : Next} → r ≡ next.At p → x ≡ nextOf (sizedAt 4 s p) → x ≡ nextOf (attributeOutline s at)
+  attribute-step h q = next-is is h (λ t w. attribute-past s at w q)

@@ -1,3 +1,4 @@
 pub mod Lookup
+pub mod Outline
 pub mod Repeats
 pub mod Relations

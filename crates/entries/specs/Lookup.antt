@@ -3,9 +3,10 @@ use mathlib.Core.Bool.{Bool, true, false}
 use mathlib.Core.List.{List, [], _∷_}
 use mathlib.Core.Option.{Option, some, none}
 use Prim.Native.Nat.{ℕ}
-use Rattle.rules.specs.Same.{sameBytes}
+use Rattle.decimals.specs.Bytes.{sameBytes}
 use Rattle.records.specs.Tree.{Pattern}
-use Rattle.records.specs.Images.{Attribute, Entry, Item}
+use Rattle.records.specs.Images.{Entry, Item}
+use Rattle.records.specs.Optional.{optionOf, orElse}
 
 -- "Messages, terms and functions share one name space": what holds an id
 pub data Holder : Type 0 where
@@ -15,28 +16,25 @@ pub data Holder : Type 0 where
 abbrev pub Find : Type 0
 Find = List ℕ → Option Holder
 
-unfoldable pub orElse : {A : Type 0} → Option A → Option A → Option A
-orElse none b = b
-orElse (some a) b = some a
-
-unfoldable pub onlyNamed : {A : Type 0} → Bool → A → Option A
-onlyNamed true a = some a
-onlyNamed false a = none
+-- of things with a name, the first of a name
+unfoldable pub firstNamed : {A : Type 0} → List ℕ → List (List ℕ × A) → Option A
+firstNamed i [] = none
+firstNamed i (x ∷ xs) = orElse (optionOf (sameBytes (x .0) i) (x .1)) (firstNamed i xs)
 
 -- the first entry of an image that has an id, and the last
 unfoldable pub firstEntry : List ℕ → List Entry → Option Holder
 firstEntry i [] = none
-firstEntry i (e ∷ es) = orElse (onlyNamed (sameBytes (e .id) i) (Holder.entry e)) (firstEntry i es)
+firstEntry i (e ∷ es) = orElse (optionOf (sameBytes (e .id) i) (Holder.entry e)) (firstEntry i es)
 
 unfoldable pub lastEntry : List ℕ → List Entry → Option Holder
 lastEntry i [] = none
-lastEntry i (e ∷ es) = orElse (lastEntry i es) (onlyNamed (sameBytes (e .id) i) (Holder.entry e))
+lastEntry i (e ∷ es) = orElse (lastEntry i es) (optionOf (sameBytes (e .id) i) (Holder.entry e))
 
 -- "Plain additions and functions: first wins. Overriding: last wins."
 unfoldable pub holderAfter : Item → List ℕ → Option Holder → Option Holder
 holderAfter (Item.plain es) i o = orElse o (firstEntry i es)
 holderAfter (Item.overriding es) i o = orElse (lastEntry i es) o
-holderAfter (Item.function n) i o = orElse o (onlyNamed (sameBytes n i) Holder.function)
+holderAfter (Item.function n) i o = orElse o (optionOf (sameBytes n i) Holder.function)
 
 unfoldable pub findFrom : List Item → List ℕ → Option Holder → Option Holder
 findFrom [] i o = o
@@ -46,12 +44,7 @@ findFrom (x ∷ xs) i o = findFrom xs i (holderAfter x i o)
 unfoldable pub findIn : List Item → Find
 findIn items i = findFrom items i none
 
--- the pattern of the first attribute of a name (the Rust's `find_map` over attributes)
-unfoldable pub attributeOf : List ℕ → List Attribute → Option Pattern
-attributeOf a [] = none
-attributeOf a (x ∷ xs) = orElse (onlyNamed (sameBytes (x .0) a) (x .1)) (attributeOf a xs)
-
--- the pattern that a reference to an entry names: its value, or an attribute
+-- the pattern that a reference to an entry names: its value, or the first attribute of a name (the Rust's `find_map` over attributes)
 unfoldable pub partOf : Option (List ℕ) → Entry → Option Pattern
 partOf none e = e .value
-partOf (some a) e = attributeOf a (e .attributes)
+partOf (some a) e = firstNamed a (e .attributes)

@@ -3,66 +3,45 @@ use crate::Found;
 use crate::resource::find_first;
 use crate::resource::find_last;
 use crate::resource::read_str_behind;
+use crate::resource::read_u16_behind;
 use crate::resource::skip_item;
-use reader::read_header;
+use decimals::bytes::same_bytes;
 use records::Next;
 use records::Num;
 use records::read_byte;
 use records::read_u16;
-use rules::same_bytes;
 ghost use mathlib.Core.Path.{_≡_};
-ghost use Prim.Native.Nat.{ℕ};
-ghost use mathlib.Core.List.{List};
-ghost use mathlib.Core.Option.{Option};
-ghost use Rattle.records.specs.Got.{got};
-ghost use Rattle.rules.specs.Same.{sameBytes};
-ghost use Rattle.records.specs.Images.{isSome, Entry, Item, Store, resourceAt, functionAt, itemAt, storeOf};
-ghost use Rattle.entries.specs.Lookup.{Holder, orElse, onlyNamed, firstEntry, lastEntry, holderAfter, findIn};
-ghost use Rattle.entries.specs.Relations.Meets.{EntryAt, HolderAt};
-
-// The kind of an entry that was found.
-fn entry_found(s: &[u8], at: Next) -> Found
-    ensures { λ r. ⌜ ((o : Option Holder) → EntryAt (now (s .entry)) o at → HolderAt (now (s .entry)) o r) ⌝ }
-{
-    let Next::At(q) = at else {
-        return Found::Nothing;
-    };
-    let Num::At(kind, _) = read_byte(s, q) else {
-        return Found::Nothing;
-    };
-    if kind == 1 {
-        return Found::Message(q);
-    }
-    Found::Term(q)
-}
+ghost use mathlib.Core.Option.{none};
+ghost use Rattle.records.specs.Images.{isSome};
+ghost use Rattle.entries.specs.Lookup.{firstNamed};
+ghost use Rattle.records.specs.Names.{lastNamed};
+ghost use Rattle.records.specs.Optional.{orElse};
+ghost use Rattle.entries.specs.Outline.{readable, entriesIn, functionIn, itemHead, itemOutline, locateFrom, locate};
+ghost use Rattle.entries.specs.Relations.Meets.{foundOf, heldBy, afterIds};
 
 // What an id has in the resource at a position, of equal ids the first.
-pub fn first_in(s: &[u8], at: usize, id: &[u8]) -> Found
-    ensures { λ r. ⌜ ((es : List Entry) (f : ℕ) → resourceAt (now (s .entry)) at ≡ got es f → HolderAt (now (s .entry)) (firstEntry (now (id .entry)) es) r) ⌝ }
+pub(crate) fn first_in(s: &[u8], at: usize, id: &[u8]) -> Found
+    ensures { λ r. ⌜ r ≡ foundOf (firstNamed (now (id .entry)) (entriesIn (now (s .entry)) at)) ⌝ }
 {
-    let header = read_header(s, at);
-    let entries = header.third;
-    let Num::At(count, start) = entries else {
+    let Num::At(count, start) = read_u16_behind(s, at, 5) else {
         return Found::Nothing;
     };
-    entry_found(s, find_first(s, start, count, id))
+    find_first(s, start, count, id)
 }
 
 // The same, of equal ids the last.
-pub fn last_in(s: &[u8], at: usize, id: &[u8]) -> Found
-    ensures { λ r. ⌜ ((es : List Entry) (f : ℕ) → resourceAt (now (s .entry)) at ≡ got es f → HolderAt (now (s .entry)) (lastEntry (now (id .entry)) es) r) ⌝ }
+pub(crate) fn last_in(s: &[u8], at: usize, id: &[u8]) -> Found
+    ensures { λ r. ⌜ r ≡ foundOf (lastNamed (now (id .entry)) (entriesIn (now (s .entry)) at)) ⌝ }
 {
-    let header = read_header(s, at);
-    let entries = header.third;
-    let Num::At(count, start) = entries else {
+    let Num::At(count, start) = read_u16_behind(s, at, 5) else {
         return Found::Nothing;
     };
-    entry_found(s, find_last(s, start, count, id))
+    find_last(s, start, count, id)
 }
 
 // Whether the function record at a position has the id.
-pub fn function_in(s: &[u8], at: usize, id: &[u8]) -> Found
-    ensures { λ r. ⌜ ((n : List ℕ) (f : ℕ) → functionAt (now (s .entry)) at ≡ got n f → HolderAt (now (s .entry)) (onlyNamed (sameBytes n (now (id .entry))) Holder.function) r) ⌝ }
+pub(crate) fn function_in(s: &[u8], at: usize, id: &[u8]) -> Found
+    ensures { λ r. ⌜ r ≡ foundOf (firstNamed (now (id .entry)) (functionIn (now (s .entry)) at)) ⌝ }
 {
     let Num::At(a, e) = read_str_behind(s, at, 6) else {
         return Found::Nothing;
@@ -75,7 +54,7 @@ pub fn function_in(s: &[u8], at: usize, id: &[u8]) -> Found
 
 // What an id has after a plain resource: what it had, or else its first entry there.
 fn first_unless(s: &[u8], at: usize, id: &[u8], held: Found) -> Found
-    ensures { λ r. ⌜ ((es : List Entry) (f : ℕ) (o : Option Holder) → resourceAt (now (s .entry)) at ≡ got es f → HolderAt (now (s .entry)) o held → HolderAt (now (s .entry)) (orElse o (firstEntry (now (id .entry)) es)) r) ⌝ }
+    ensures { λ r. ⌜ r ≡ foundOf (orElse (heldBy held) (firstNamed (now (id .entry)) (entriesIn (now (s .entry)) at))) ⌝ }
 {
     match held {
         Found::Message(q) => Found::Message(q),
@@ -87,7 +66,7 @@ fn first_unless(s: &[u8], at: usize, id: &[u8], held: Found) -> Found
 
 // Of two holders the first, if it is one.
 fn or_else(one: Found, other: Found) -> Found
-    ensures { λ r. ⌜ ((s : List ℕ) (o p : Option Holder) → HolderAt s o one → HolderAt s p other → HolderAt s (orElse o p) r) ⌝ }
+    ensures { λ r. ⌜ r ≡ foundOf (orElse (heldBy one) (heldBy other)) ⌝ }
 {
     match one {
         Found::Message(q) => Found::Message(q),
@@ -99,34 +78,31 @@ fn or_else(one: Found, other: Found) -> Found
 
 // What an id has after an item, where it had `held` before it.
 fn after_item(s: &[u8], at: usize, id: &[u8], held: Found) -> Found
-    ensures { λ r. ⌜ ((x : Item) (f : ℕ) (o : Option Holder) → itemAt (now (s .entry)) at ≡ got x f → HolderAt (now (s .entry)) o held → HolderAt (now (s .entry)) (holderAfter x (now (id .entry)) o) r) ⌝ }
+    ensures { λ r. ⌜ r ≡ foundOf (afterIds (itemHead (now (s .entry)) at) (now (id .entry)) (heldBy held)) ⌝ }
 {
     let Num::At(mode, p) = read_byte(s, at) else {
-        return Found::Nothing;
+        return held;
     };
     if mode == 2 {
         return or_else(last_in(s, p, id), held);
     }
-    if mode == 1 {
-        return first_unless(s, p, id, held);
+    if mode == 3 {
+        return or_else(held, function_in(s, p, id));
     }
-    or_else(held, function_in(s, p, id))
+    first_unless(s, p, id, held)
 }
 
-// What holds an id in a store: one walk over its items.
-pub fn find_holder(s: &[u8], id: &[u8]) -> Found
-    ensures { λ r. ⌜ ((st : Store) (f : ℕ) → storeOf (now (s .entry)) ≡ got st f → HolderAt (now (s .entry)) (findIn (st .items) (now (id .entry))) r) ⌝ }
+// What holds an id in `count` items: one walk over them.
+fn find_in_items(s: &[u8], from: usize, count: usize, id: &[u8]) -> Found
+    ensures { λ r. ⌜ r ≡ foundOf (locateFrom (readable count itemHead itemOutline (now (s .entry)) from) (now (id .entry)) none) ⌝ }
 {
-    let Num::At(count, start) = read_u16(s, 7) else {
-        return Found::Nothing;
-    };
-    let mut at = start;
+    let mut at = from;
     let mut left = count;
     let mut found = Found::Nothing;
     while 0 < left {
         found = after_item(s, at, id, found);
         let Next::At(next) = skip_item(s, at) else {
-            return Found::Nothing;
+            return found;
         };
         at = next;
         left -= 1;
@@ -134,9 +110,19 @@ pub fn find_holder(s: &[u8], id: &[u8]) -> Found
     found
 }
 
+// What holds an id in a store.
+pub fn find_holder(s: &[u8], id: &[u8]) -> Found
+    ensures { λ r. ⌜ r ≡ foundOf (locate (now (s .entry)) (now (id .entry))) ⌝ }
+{
+    match read_u16(s, 7) {
+        Num::At(count, start) => find_in_items(s, start, count, id),
+        Num::Bad => Found::Nothing,
+    }
+}
+
 // Whether an id has an entry in a store.
 pub fn has_holder(s: &[u8], id: &[u8]) -> bool
-    ensures { λ r. ⌜ ((st : Store) (f : ℕ) → storeOf (now (s .entry)) ≡ got st f → r ≡ isSome (findIn (st .items) (now (id .entry)))) ⌝ }
+    ensures { λ r. ⌜ r ≡ isSome (locate (now (s .entry)) (now (id .entry))) ⌝ }
 {
     match find_holder(s, id) {
         Found::Message(_) => true,

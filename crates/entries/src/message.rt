@@ -1,25 +1,22 @@
 // The parts of an entry: its value, and its attributes by name.
 use crate::resource::read_str_behind;
-use crate::resource::skip_pattern;
 use crate::resource::skip_value;
+use decimals::bytes::same_bytes;
 use records::Next;
 use records::Num;
 use records::read_byte;
 use records::read_str;
 use records::read_u16;
-use rules::same_bytes;
+use walks::skip_pattern;
 ghost use mathlib.Core.Path.{_≡_};
-ghost use Prim.Native.Nat.{ℕ};
-ghost use mathlib.Core.List.{List, [], _∷_};
-ghost use Rattle.records.specs.Got.{got};
-ghost use Rattle.records.specs.Decode.{many};
-ghost use Rattle.records.specs.Images.{Attribute, Entry, attributeAt, entryAt};
-ghost use Rattle.entries.specs.Lookup.{attributeOf, partOf};
-ghost use Rattle.entries.specs.Relations.Meets.{PartAt, asked};
+ghost use Rattle.entries.specs.Lookup.{firstNamed};
+ghost use Rattle.entries.specs.Outline.{readable, attributeHead, attributeOutline, attributesIn, valueIn, positionOf, partIn};
+ghost use Rattle.entries.specs.Relations.Meets.{atPosition};
+ghost use Rattle.records.specs.Optional.{optionOf};
 
 // The pattern of an entry's value.
-pub fn find_value(s: &[u8], at: usize) -> Next
-    ensures { λ r. ⌜ ((x : Entry) (f : ℕ) → entryAt (now (s .entry)) at ≡ got x f → PartAt (now (s .entry)) (x .value) r) ⌝ }
+pub(crate) fn find_value(s: &[u8], at: usize) -> Next
+    ensures { λ r. ⌜ r ≡ atPosition (positionOf (valueIn (now (s .entry)) at)) ⌝ }
 {
     let Num::At(_, e) = read_str_behind(s, at, 1) else {
         return Next::Bad;
@@ -34,8 +31,8 @@ pub fn find_value(s: &[u8], at: usize) -> Next
 }
 
 // The pattern of the first of `count` attributes that has the name.
-pub fn find_named(s: &[u8], from: usize, count: usize, name: &[u8]) -> Next
-    ensures { λ r. ⌜ ((l : List Attribute) (f : ℕ) → many [] _∷_ count attributeAt (now (s .entry)) from ≡ got l f → PartAt (now (s .entry)) (attributeOf (now (name .entry)) l) r) ⌝ }
+pub(crate) fn find_named(s: &[u8], from: usize, count: usize, name: &[u8]) -> Next
+    ensures { λ r. ⌜ r ≡ atPosition (firstNamed (now (name .entry)) (readable count attributeHead attributeOutline (now (s .entry)) from)) ⌝ }
 {
     let mut at = from;
     let mut left = count;
@@ -56,8 +53,8 @@ pub fn find_named(s: &[u8], from: usize, count: usize, name: &[u8]) -> Next
 }
 
 // The pattern of an entry's first attribute of a name.
-pub fn find_attribute(s: &[u8], at: usize, name: &[u8]) -> Next
-    ensures { λ r. ⌜ ((x : Entry) (f : ℕ) → entryAt (now (s .entry)) at ≡ got x f → PartAt (now (s .entry)) (attributeOf (now (name .entry)) (x .attributes)) r) ⌝ }
+pub(crate) fn find_attribute(s: &[u8], at: usize, name: &[u8]) -> Next
+    ensures { λ r. ⌜ r ≡ atPosition (firstNamed (now (name .entry)) (attributesIn (now (s .entry)) at)) ⌝ }
 {
     let Num::At(_, e) = read_str_behind(s, at, 1) else {
         return Next::Bad;
@@ -73,7 +70,7 @@ pub fn find_attribute(s: &[u8], at: usize, name: &[u8]) -> Next
 
 // The pattern that is asked for: of an attribute, or of the value.
 pub fn find_part(s: &[u8], at: usize, named: bool, attribute: &[u8]) -> Next
-    ensures { λ r. ⌜ ((x : Entry) (f : ℕ) → entryAt (now (s .entry)) at ≡ got x f → PartAt (now (s .entry)) (partOf (asked named (now (attribute .entry))) x) r) ⌝ }
+    ensures { λ r. ⌜ r ≡ atPosition (partIn (optionOf named (now (attribute .entry))) (now (s .entry)) at) ⌝ }
 {
     if named {
         return find_attribute(s, at, attribute);

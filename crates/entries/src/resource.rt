@@ -1,4 +1,6 @@
 // A resource's bytes: reading behind a head, skipping, the first and the last entry of an id.
+use crate::Found;
+use decimals::bytes::same_bytes;
 use records::Next;
 use records::Num;
 use records::read_byte;
@@ -7,19 +9,20 @@ use records::read_u16;
 use records::read_u32;
 use records::skip_bytes;
 use records::skip_str;
-use rules::same_bytes;
+use walks::skip_pattern;
 ghost use mathlib.Core.Path.{_≡_};
-ghost use Prim.Native.Nat.{ℕ};
-ghost use mathlib.Core.List.{List, [], _∷_};
-ghost use Rattle.records.specs.Got.{got};
-ghost use Rattle.records.specs.Relations.Answer.{numOf};
+ghost use mathlib.Core.Option.{some};
+ghost use lib.ListN.{getD};
+ghost use lib.Dec.{eqb};
+ghost use Rattle.records.specs.Relations.Answer.{nextOf, numOf};
 ghost use Rattle.records.specs.Bytes.{spanAt, numberAt};
-ghost use Rattle.records.specs.Decode.{many, optionalAt, entryPatternAt};
-ghost use Rattle.records.specs.Images.{Entry, attributesAt, entryAt, itemAt};
-ghost use Rattle.entries.specs.Lookup.{firstEntry, lastEntry};
-ghost use Rattle.entries.specs.Relations.Meets.{Passes, behind, EntryAt, laterOf};
+ghost use Rattle.entries.specs.Lookup.{firstNamed};
+ghost use Rattle.records.specs.Names.{lastNamed};
+ghost use Rattle.records.specs.Optional.{orElse, optionOf};
+ghost use Rattle.entries.specs.Outline.{behind, valueOutline, attributesOutline, entryOutline, kindAs, entryHead, itemOutline, readable};
+ghost use Rattle.entries.specs.Relations.Meets.{foundOf, heldBy};
 
-// The walkers go over checked bytes: they skip patterns by their length, and their contracts speak of the bytes at which the decoders of `records` read.
+// The walkers take any bytes, and go by the lengths that stand there: what they answer is said by the outline.
 
 // A Str behind n bytes: where its bytes stand.
 pub fn read_str_behind(s: &[u8], at: usize, n: usize) -> Num
@@ -41,19 +44,9 @@ pub fn read_u16_behind(s: &[u8], at: usize, n: usize) -> Num
     read_u16(s, p)
 }
 
-// Past a pattern, by its length.
-pub fn skip_pattern(s: &[u8], at: usize) -> Next
-    ensures { λ r. ⌜ Passes (entryPatternAt (now (s .entry)) at) r ⌝ }
-{
-    let Num::At(n, p) = read_u32(s, at) else {
-        return Next::Bad;
-    };
-    skip_bytes(s, p, n)
-}
-
 // Past a value Flag, and the pattern that it announces.
-pub fn skip_value(s: &[u8], at: usize) -> Next
-    ensures { λ r. ⌜ Passes (optionalAt entryPatternAt (now (s .entry)) at) r ⌝ }
+pub(crate) fn skip_value(s: &[u8], at: usize) -> Next
+    ensures { λ r. ⌜ r ≡ nextOf (valueOutline (now (s .entry)) at) ⌝ }
 {
     let Num::At(flag, p) = read_byte(s, at) else {
         return Next::Bad;
@@ -65,8 +58,8 @@ pub fn skip_value(s: &[u8], at: usize) -> Next
 }
 
 // Past the attributes of an entry, from their count on.
-pub fn skip_attributes(s: &[u8], from: usize) -> Next
-    ensures { λ r. ⌜ Passes (attributesAt (now (s .entry)) from) r ⌝ }
+pub(crate) fn skip_attributes(s: &[u8], from: usize) -> Next
+    ensures { λ r. ⌜ r ≡ nextOf (attributesOutline (now (s .entry)) from) ⌝ }
 {
     let Num::At(count, start) = read_u16(s, from) else {
         return Next::Bad;
@@ -88,7 +81,7 @@ pub fn skip_attributes(s: &[u8], from: usize) -> Next
 
 // Past an entry.
 pub fn skip_entry(s: &[u8], at: usize) -> Next
-    ensures { λ r. ⌜ Passes (entryAt (now (s .entry)) at) r ⌝ }
+    ensures { λ r. ⌜ r ≡ nextOf (entryOutline (now (s .entry)) at) ⌝ }
 {
     let Num::At(_, e) = read_str_behind(s, at, 1) else {
         return Next::Bad;
@@ -101,7 +94,7 @@ pub fn skip_entry(s: &[u8], at: usize) -> Next
 
 // Past an item, by the length of its record.
 pub fn skip_item(s: &[u8], at: usize) -> Next
-    ensures { λ r. ⌜ Passes (itemAt (now (s .entry)) at) r ⌝ }
+    ensures { λ r. ⌜ r ≡ nextOf (itemOutline (now (s .entry)) at) ⌝ }
 {
     let Next::At(p) = skip_bytes(s, at, 1) else {
         return Next::Bad;
@@ -112,48 +105,64 @@ pub fn skip_item(s: &[u8], at: usize) -> Next
     skip_bytes(s, p, n)
 }
 
+// The entry at a position, by its kind byte.
+fn entry_found(s: &[u8], at: usize) -> Found
+    ensures { λ r. ⌜ r ≡ foundOf (some (kindAs (eqb (getD (now (s .entry)) at 0) 1) at)) ⌝ }
+{
+    if at < s.len() {
+        if s[at] == 1 {
+            return Found::Message(at);
+        }
+    }
+    Found::Term(at)
+}
+
 // The first of `count` entries that has the id.
-pub fn find_first(s: &[u8], from: usize, count: usize, id: &[u8]) -> Next
-    ensures { λ r. ⌜ ((es : List Entry) (f : ℕ) → many [] _∷_ count entryAt (now (s .entry)) from ≡ got es f → EntryAt (now (s .entry)) (firstEntry (now (id .entry)) es) r) ⌝ }
+pub fn find_first(s: &[u8], from: usize, count: usize, id: &[u8]) -> Found
+    ensures { λ r. ⌜ r ≡ foundOf (firstNamed (now (id .entry)) (readable count entryHead entryOutline (now (s .entry)) from)) ⌝ }
 {
     let mut at = from;
     let mut left = count;
     while 0 < left {
         let Num::At(a, e) = read_str_behind(s, at, 1) else {
-            return Next::Bad;
+            return Found::Nothing;
         };
         if same_bytes(&s[a..e], id) {
-            return Next::At(at);
+            return entry_found(s, at);
         }
         let Next::At(next) = skip_entry(s, at) else {
-            return Next::Bad;
+            return Found::Nothing;
         };
         at = next;
         left -= 1;
     }
-    Next::Bad
+    Found::Nothing
 }
 
-fn later(same: bool, at: usize, last: Next) -> Next
-    ensures { λ r. ⌜ r ≡ laterOf same at last ⌝ }
+// The entry at a position if it has the id, else the last one so far.
+fn later(s: &[u8], same: bool, at: usize, last: Found) -> Found
+    ensures { λ r. ⌜ r ≡ foundOf (orElse (optionOf same (kindAs (eqb (getD (now (s .entry)) at 0) 1) at)) (heldBy last)) ⌝ }
 {
-    if same { Next::At(at) } else { last }
+    if same {
+        return entry_found(s, at);
+    }
+    last
 }
 
 // The last of `count` entries that has the id.
-pub fn find_last(s: &[u8], from: usize, count: usize, id: &[u8]) -> Next
-    ensures { λ r. ⌜ ((es : List Entry) (f : ℕ) → many [] _∷_ count entryAt (now (s .entry)) from ≡ got es f → EntryAt (now (s .entry)) (lastEntry (now (id .entry)) es) r) ⌝ }
+pub(crate) fn find_last(s: &[u8], from: usize, count: usize, id: &[u8]) -> Found
+    ensures { λ r. ⌜ r ≡ foundOf (lastNamed (now (id .entry)) (readable count entryHead entryOutline (now (s .entry)) from)) ⌝ }
 {
     let mut at = from;
     let mut left = count;
-    let mut last = Next::Bad;
+    let mut last = Found::Nothing;
     while 0 < left {
         let Num::At(a, e) = read_str_behind(s, at, 1) else {
-            return Next::Bad;
+            return last;
         };
-        last = later(same_bytes(&s[a..e], id), at, last);
+        last = later(s, same_bytes(&s[a..e], id), at, last);
         let Next::At(next) = skip_entry(s, at) else {
-            return Next::Bad;
+            return last;
         };
         at = next;
         left -= 1;

@@ -3,40 +3,26 @@
 use mathlib.Core.Path.{_≡_, sym, ap, _∙_}
 use mathlib.Core.List.{List}
 use Prim.Native.Nat.{ℕ}
-use Rattle.bundle.specs.Additions as additions
 use Rattle.bundle.specs.Additions.{Added}
 use Rattle.bundle.specs.Gives.{answerOf, gave}
 use Rattle.bundle.specs.declared.Answer.{Answer}
 use Rattle.bundle.specs.declared.Answer.the-variants as answer
 use Rattle.exports.specs.Numbers.{numberOf, countOf}
 
--- the parts of what an operation gave
-pub answer-is : (r : Answer) (s l : List ℕ) {x : Added} → gave r s l ≡ x → answerOf r ≡ x .answer
-unfolding gave
-answer-is r s l h = ap (λ (a : Added). a .answer) h
-
-pub slice-is : (r : Answer) (s l : List ℕ) {x : Added} → gave r s l ≡ x → s ≡ x .slice
-unfolding gave
-slice-is r s l h = ap (λ (a : Added). a .slice) h
-
-pub list-is : (r : Answer) (s l : List ℕ) {x : Added} → gave r s l ≡ x → l ≡ x .list
-unfolding gave
-list-is r s l h = ap (λ (a : Added). a .list) h
+-- the number n, the slice s, the list l and the count k′ are those of what an operation gave, over the count k
+abbrev Told : ℕ → List ℕ → List ℕ → ℕ → ℕ → Added → Type 0
+Told n s l k k′ x = (n ≡ numberOf (x .answer)) × ((s ≡ x .slice) × ((l ≡ x .list) × (k′ ≡ countOf (x .answer) k)))
 
 -- done: the number is 0, and the count the answer's
-pub done-number : {r : Answer} {n : ℕ} {x : additions.Answer} → r ≡ answer.Done n → answerOf r ≡ x → 0 ≡ numberOf x
-unfolding answerOf numberOf
-done-number told h = ap numberOf (sym (ap answerOf told) ∙ h)
-
-pub done-count : {r : Answer} {n : ℕ} {x : additions.Answer} (k : ℕ) → r ≡ answer.Done n → answerOf r ≡ x → n ≡ countOf x k
-unfolding answerOf countOf
-done-count k told h = ap (λ (a : additions.Answer). countOf a k) (sym (ap answerOf told) ∙ h)
+pub done-told : {r : Answer} {n : ℕ} {s l : List ℕ} {x : Added} (k : ℕ) → gave r s l ≡ x → r ≡ answer.Done n → Told 0 s l k n x
+unfolding gave answerOf numberOf countOf
+done-told {s = s} {l = l} k h is =
+    let e : gave (answer.Done _) s l ≡ _ = sym (ap (λ (r : Answer). gave r s l) is) ∙ h in
+    (ap (λ (a : Added). numberOf (a .answer)) e, (ap (λ (a : Added). a .slice) e, (ap (λ (a : Added). a .list) e, ap (λ (a : Added). countOf (a .answer) k) e)))
 
 -- refused: the number is the refusal's, and the count as before
-pub refused-number : {r : Answer} {n : ℕ} {x : additions.Answer} → r ≡ answer.Refused n → answerOf r ≡ x → n ≡ numberOf x
-unfolding answerOf numberOf
-refused-number told h = ap numberOf (sym (ap answerOf told) ∙ h)
-
-pub refused-count : {r : Answer} {n : ℕ} {x : additions.Answer} (k : ℕ) → r ≡ answer.Refused n → answerOf r ≡ x → k ≡ countOf x k
-unfolding answerOf countOf
-refused-count k told h = ap (λ (a : additions.Answer). countOf a k) (sym (ap answerOf told) ∙ h)
+pub refused-told : {r : Answer} {n : ℕ} {s l : List ℕ} {x : Added} (k : ℕ) → gave r s l ≡ x → r ≡ answer.Refused n → Told n s l k k x
+unfolding gave answerOf numberOf countOf
+refused-told {s = s} {l = l} k h is =
+    let e : gave (answer.Refused _) s l ≡ _ = sym (ap (λ (r : Answer). gave r s l) is) ∙ h in
+    (ap (λ (a : Added). numberOf (a .answer)) e, (ap (λ (a : Added). a .slice) e, (ap (λ (a : Added). a .list) e, ap (λ (a : Added). countOf (a .answer) k) e)))

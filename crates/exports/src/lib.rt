@@ -5,9 +5,9 @@ use bundle::Answer;
 use resolver::format::Answer as Formatted;
 ghost use mathlib.Core.Path.{_≡_};
 ghost use Rattle.bundle.specs.Additions.{newBundle, addResource, addResourceOverriding, addFunction};
-ghost use Rattle.texts.specs.Optional.{optionOf};
-ghost use Rattle.exports.specs.Numbers.{numberOf, countOf};
-ghost use Rattle.exports.specs.Formatted.{FormatsTo};
+ghost use Rattle.records.specs.Optional.{optionOf};
+ghost use Rattle.resolution.specs.Format.{format};
+ghost use Rattle.exports.specs.Numbers.{numberOf, countOf, handed};
 
 // A new bundle at the front of a slice. Refusals: 1, 2, 3.
 #[no_mangle]
@@ -70,12 +70,12 @@ pub extern "C" fn weszlagyo_add_function(slice: &mut [u8], id: &[u8], code: u8) 
 // Formats the message `id`, or its attribute where `has` is set, with an arguments image, and writes the formatting's five figures. Refusals:
 // 4, 8, 11, 12, 13 and 7, which change nothing; then 15, 7, 16, 17, which clear the three buffers.
 #[no_mangle]
-pub extern "C" fn weszlagyo_format(
-    store: &[u8],
+pub extern "C" fn weszlagyo_format<'a>(
+    store: &'a [u8],
     id: &[u8],
     has: bool,
     attribute: &[u8],
-    arguments: &[u8],
+    arguments: &'a [u8],
     text: &mut [u8],
     list: &mut [u8],
     work: &mut [u8],
@@ -85,11 +85,14 @@ pub extern "C" fn weszlagyo_format(
     unfound: &mut u64,
     used: &mut usize,
 ) -> u8
-    ensures { λ r. ⌜ FormatsTo (now (store .entry)) (now (id .entry)) (optionOf has (now (attribute .entry))) (now (arguments .entry))
-        (record { text = now (text .entry); list = now (list .entry); work = now (work .entry) })
-        (record { text = now (text .exit); list = now (list .exit); work = now (work .exit) })
+    ensures { λ r. ⌜ handed (format (now (store .entry)) (now (id .entry)) (optionOf has (now (attribute .entry))) (now (arguments .entry))
+        (record { text = now (text .entry); list = now (list .entry); work = now (work .entry) }))
         (record { written = now (written .entry); errors = now (errors .entry); begun = now (begun .entry); unfound = now (unfound .entry); used = now (used .entry) })
-        (record { written = now (written .exit); errors = now (errors .exit); begun = now (begun .exit); unfound = now (unfound .exit); used = now (used .exit) }) r ⌝ }
+        ≡ record {
+          number = r;
+          figures = record { written = now (written .exit); errors = now (errors .exit); begun = now (begun .exit); unfound = now (unfound .exit); used = now (used .exit) };
+          buffers = record { text = now (text .exit); list = now (list .exit); work = now (work .exit) };
+        } ⌝ }
 {
     match resolver::format::format(store, id, has, attribute, arguments, text, list, work) {
         Formatted::Finished(f) => {

@@ -5,30 +5,47 @@ use mathlib.Core.List.{List, [], _∷_, _++_, append-assoc}
 use Prim.Native.Nat.{ℕ, _+_, _-_, _≤_, _<_}
 use native.Mathlib.Omega.{arith}
 use lib.ListN.{length, set, take, drop, length-append, length-set, length-drop}
-use lib.Seq.{sets, paste, length-sets, length-take-le, take-append-le, drop-append-le, drop-at, take-append-add, drop-append-add, drop-drop, take-add, take-take}
+use lib.Seq.{length-take-le, take-append-le, drop-append-le, drop-at, take-append-add, drop-append-add, drop-drop, take-add, take-take}
 use lib.Dec.{ltb, leb}
-use borrow.Author.Tests.{le-leb, lt-leb, leb-true, ltb-true, not-true, not-false}
+use borrow.Author.Tests.{le-leb, lt-leb, leb-true, leb-false, ltb-true, not-true, not-false}
 use Rattle.records.specs.Bytes.{part, toBe}
 use Rattle.records.specs.Encode.{encStr, encWhole, encFunction}
 use Rattle.records.specs.Images.{maxStore, maxItems}
 use Rattle.buffers.specs.Relations.Append.{over}
-use Rattle.buffers.proofs.Place.{paste-over, sets-over, set-over, length-over, then-over, then-set}
+use Rattle.records.specs.Relations.Write.{overFit}
+use Rattle.records.proofs.Writing.{fits-over, length-fit}
+use Rattle.buffers.proofs.Place.{set-over, length-over, then-over, then-set}
 use Rattle.texts.proofs.Recording.{length-u16, length-u32, length-str}
-use Rattle.growth.specs.Items.{atFront, withItem, hasRoom}
+use Rattle.growth.specs.Items.{atFront, withItem, hasRoom, writtenIf, fileItem}
+
+-- n bytes behind others, within a limit
+pub fits-not : (limit used n : ℕ) → limit < used → false ≡ leb (used + n) limit
+fits-not limit used n h = sym (lt-leb (used + n) limit (omega arith))
+
+pub fits-below : (limit used n : ℕ) → used ≤ limit → leb n (limit - used) ≡ leb (used + n) limit
+fits-below limit used n h = go (leb n (limit - used)) refl
+  where
+    go : (b : Bool) → leb n (limit - used) ≡ b → leb n (limit - used) ≡ leb (used + n) limit
+    go true e = let k = leb-true n (limit - used) e in e ∙ sym (le-leb (used + n) limit (omega arith))
+    go false e = let k = leb-false n (limit - used) e in e ∙ sym (lt-leb (used + n) limit (omega arith))
 
 -- room for an item
-module _ (used count n : ℕ) where
-  pub room-no-slice : {size : ℕ} → size < used + n → (s : List ℕ) → length s ≡ size → false ≡ hasRoom s used count n
+module _ (size used count n : ℕ) where
+  pub room-no-slice : {r : Bool} → r ≡ leb (used + n) size → not r ≡ true → false ≡ hasRoom size used count n
   unfolding hasRoom
-  room-no-slice h s e = rw (lt-leb (used + n) (length s) (omega arith))
+  room-no-slice {r} h k = rw (sym h ∙ not-true r k)
 
-  pub room-no-store : {size : ℕ} → used + n ≤ size → 1048576 < used + n → (s : List ℕ) → length s ≡ size → false ≡ hasRoom s used count n
-  unfolding hasRoom maxStore
-  room-no-store h k s e = rw (le-leb (used + n) (length s) (omega arith), lt-leb (used + n) 1048576 k)
+  module _ {r : Bool} (h : r ≡ leb (used + n) size) (k : not r ≡ false) where
+    in-slice : leb (used + n) size ≡ true
+    in-slice = sym h ∙ not-false r k
 
-  pub room-items : {size : ℕ} {r : Bool} → used + n ≤ size → used + n ≤ 1048576 → r ≡ ltb count 256 → (s : List ℕ) → length s ≡ size → r ≡ hasRoom s used count n
-  unfolding hasRoom maxStore maxItems
-  room-items h k e s q = rw (le-leb (used + n) (length s) (omega arith), le-leb (used + n) 1048576 k) e
+    pub room-no-store : {t : Bool} → t ≡ leb (used + n) 1048576 → not t ≡ true → false ≡ hasRoom size used count n
+    unfolding hasRoom maxStore
+    room-no-store {t} e z = rw (in-slice, sym e ∙ not-true t z)
+
+    pub room-items : {t x : Bool} → t ≡ leb (used + n) 1048576 → not t ≡ false → x ≡ ltb count 256 → x ≡ hasRoom size used count n
+    unfolding hasRoom maxStore maxItems
+    room-items {t} e z q = rw (in-slice, sym e ∙ not-false t z) q
 
   and-left : (a b : Bool) → a && b ≡ true → a ≡ true
   and-left true b h = refl
@@ -38,17 +55,18 @@ module _ (used count n : ℕ) where
   and-right true b h = h
   and-right false b h = let z : _≡_ {A = ℕ} 0 1 = cc in absurd (omega arith)
 
-  pub room-is : (s : List ℕ) → hasRoom s used count n ≡ true → (used + n ≤ length s) × (used + n ≤ 1048576) × (count < 256)
+  pub room-is : hasRoom size used count n ≡ true → (used + n ≤ size) × (used + n ≤ 1048576) × (count < 256)
   unfolding hasRoom maxStore maxItems
-  room-is s h =
-      let r = and-right (leb (used + n) (length s)) _ h in
-      (leb-true (used + n) (length s) (and-left (leb (used + n) (length s)) _ h), leb-true (used + n) 1048576 (and-left (leb (used + n) 1048576) _ r), ltb-true count 256 (and-right (leb (used + n) 1048576) _ r))
+  room-is h =
+      let r = and-right (leb (used + n) size) _ h in
+      (leb-true (used + n) size (and-left (leb (used + n) size) _ h), leb-true (used + n) 1048576 (and-left (leb (used + n) 1048576) _ r), ltb-true count 256 (and-right (leb (used + n) 1048576) _ r))
 
 -- the bytes of an item
-pub resource-written : (d : List ℕ) (at mode : ℕ) (image : List ℕ) {e f : List ℕ} → at + (1 + length image) ≤ length d → e ≡ set d at mode → f ≡ paste e (at + 1) image (length image) → f ≡ over d at (mode ∷ image)
+pub resource-written : (d : List ℕ) (at mode : ℕ) (image : List ℕ) {e f : List ℕ} → at + (1 + length image) ≤ length d → e ≡ set d at mode → f ≡ overFit e (at + 1) image → f ≡ over d at (mode ∷ image)
 resource-written d at mode image {e} {f} h p q =
     let a : e ≡ over d at (mode ∷ []) = p ∙ set-over d at mode (omega arith) in
-    q ∙ paste-over e (at + 1) image ∙ then-over d at (mode ∷ []) image a (omega arith) (omega arith)
+    let l : length e ≡ length d = ap length p ∙ length-set d at mode in
+    q ∙ fits-over e (at + 1) image (omega arith) ∙ then-over d at (mode ∷ []) image a (omega arith) (omega arith)
 
 -- a function record behind its mode
 module _ (d : List ℕ) (at : ℕ) (id : List ℕ) (h : at + (9 + length id) ≤ length d) where
@@ -58,8 +76,8 @@ module _ (d : List ℕ) (at : ℕ) (id : List ℕ) (h : at + (9 + length id) ≤
       let e : 8 + length id ≡ 4 + length (1 ∷ 1 ∷ toBe 2 (length id) ++ id) = omega (arith, length-append (toBe 2 (length id)) id) in
       ap (λ (n : ℕ). 3 ∷ toBe 4 n ++ (1 ∷ 1 ∷ toBe 2 (length id) ++ id)) e
 
-  pub function-written : {d1 d2 d3 d4 d5 d6 : List ℕ} → d1 ≡ set d at 3 → d2 ≡ sets d1 (at + 1) (toBe 4 (8 + length id)) → d3 ≡ set d2 (at + 5) 1 → d4 ≡ set d3 (at + 6) 1
-      → d5 ≡ sets d4 (at + 7) (toBe 2 (length id)) → d6 ≡ paste d5 (at + 9) id (length id) → d6 ≡ over d at (3 ∷ encFunction id)
+  pub function-written : {d1 d2 d3 d4 d5 d6 : List ℕ} → d1 ≡ set d at 3 → d2 ≡ overFit d1 (at + 1) (toBe 4 (8 + length id)) → d3 ≡ set d2 (at + 5) 1 → d4 ≡ set d3 (at + 6) 1
+      → d5 ≡ overFit d4 (at + 7) (toBe 2 (length id)) → d6 ≡ overFit d5 (at + 9) id → d6 ≡ over d at (3 ∷ encFunction id)
   function-written {d1} {d2} {d3} {d4} {d5} {d6} p1 p2 p3 p4 p5 p6 =
       let l4 = length-u32 (8 + length id) in
       let l2 = length-u16 (length id) in
@@ -67,7 +85,7 @@ module _ (d : List ℕ) (at : ℕ) (id : List ℕ) (h : at + (9 + length id) ≤
       let n1 : length d1 ≡ length d = ap length x1 ∙ length-over d at (3 ∷ []) (omega arith) in
       let a2 : List ℕ = (3 ∷ []) ++ toBe 4 (8 + length id) in
       let m2 : length a2 ≡ 5 = length-append (3 ∷ []) (toBe 4 (8 + length id)) ∙ omega arith in
-      let x2 : d2 ≡ over d at a2 = p2 ∙ sets-over d1 (at + 1) (toBe 4 (8 + length id)) (omega arith) ∙ then-over d at (3 ∷ []) (toBe 4 (8 + length id)) x1 (omega arith) (omega arith) in
+      let x2 : d2 ≡ over d at a2 = p2 ∙ fits-over d1 (at + 1) (toBe 4 (8 + length id)) (omega arith) ∙ then-over d at (3 ∷ []) (toBe 4 (8 + length id)) x1 (omega arith) (omega arith) in
       let a3 : List ℕ = a2 ++ (1 ∷ []) in
       let m3 : length a3 ≡ 6 = length-append a2 (1 ∷ []) ∙ omega arith in
       let x3 : d3 ≡ over d at a3 = p3 ∙ then-set d at a2 1 x2 (omega arith) (omega arith) in
@@ -77,8 +95,9 @@ module _ (d : List ℕ) (at : ℕ) (id : List ℕ) (h : at + (9 + length id) ≤
       let n4 : length d4 ≡ length d = ap length x4 ∙ length-over d at a4 (omega arith) in
       let a5 : List ℕ = a4 ++ toBe 2 (length id) in
       let m5 : length a5 ≡ 9 = length-append a4 (toBe 2 (length id)) ∙ omega arith in
-      let x5 : d5 ≡ over d at a5 = p5 ∙ sets-over d4 (at + 7) (toBe 2 (length id)) (omega arith) ∙ then-over d at a4 (toBe 2 (length id)) x4 (omega arith) (omega arith) in
-      p6 ∙ paste-over d5 (at + 9) id ∙ then-over d at a5 id x5 (omega arith) (omega arith) ∙ ap (over d at) function-is
+      let x5 : d5 ≡ over d at a5 = p5 ∙ fits-over d4 (at + 7) (toBe 2 (length id)) (omega arith) ∙ then-over d at a4 (toBe 2 (length id)) x4 (omega arith) (omega arith) in
+      let n5 : length d5 ≡ length d = ap length p5 ∙ length-fit d4 (at + 7) (toBe 2 (length id)) ∙ n4 in
+      p6 ∙ fits-over d5 (at + 9) id (omega arith) ∙ then-over d at a5 id x5 (omega arith) (omega arith) ∙ ap (over d at) function-is
 
 drop-part : (s : List ℕ) (a u : ℕ) → a ≤ u → u ≤ length s → drop a (take u s) ≡ take (u - a) (drop a s)
 drop-part s a u h k =
@@ -148,12 +167,30 @@ module _ (s : List ℕ) (used count : ℕ) (item : List ℕ) (lo : 9 ≤ used) (
       q ∙ over-is a 7 B ∙ ap (λ (l : List ℕ). l ++ (B ++ drop (7 + length B) a)) t7 ∙ ap (λ (l : List ℕ). (A ++ part s 4 3) ++ (B ++ l)) d9 ∙ last ∙ sym item-end
 
 -- what the code's answer on room says
-module _ (s : List ℕ) (used count n : ℕ) {r : Bool} where
-  pub no-room : {k : ℕ} → count ≡ k → r ≡ hasRoom s used count n → not r ≡ true → hasRoom s used k n ≡ false
-  no-room e h t = ap (λ (j : ℕ). hasRoom s used j n) (sym e) ∙ sym h ∙ not-true r t
+module _ (size used count n : ℕ) {r : Bool} where
+  pub no-room : {k : ℕ} → count ≡ k → r ≡ hasRoom size used count n → not r ≡ true → hasRoom size used k n ≡ false
+  no-room e h t = ap (λ (j : ℕ). hasRoom size used j n) (sym e) ∙ sym h ∙ not-true r t
 
-  pub has-room-is : {k : ℕ} → count ≡ k → r ≡ hasRoom s used count n → not r ≡ false → hasRoom s used k n ≡ true
-  has-room-is e h t = ap (λ (j : ℕ). hasRoom s used j n) (sym e) ∙ sym h ∙ not-false r t
+  pub has-room-is : {k : ℕ} → count ≡ k → r ≡ hasRoom size used count n → not r ≡ false → hasRoom size used k n ≡ true
+  has-room-is e h t = ap (λ (j : ℕ). hasRoom size used j n) (sym e) ∙ sym h ∙ not-false r t
+
+-- an item that is filed, or not
+module _ (s : List ℕ) (used count : ℕ) (item : List ℕ) where
+  pub filed-low : used < 9 → s ≡ fileItem s used count item
+  unfolding fileItem writtenIf
+  filed-low h = rw (lt-leb 9 used h)
+
+  and-false : (a : Bool) → a && false ≡ false
+  and-false true = refl
+  and-false false = refl
+
+  pub filed-not : {n : ℕ} {r : Bool} → length item ≡ n → r ≡ hasRoom (length s) used count n → not r ≡ true → s ≡ fileItem s used count item
+  unfolding fileItem writtenIf
+  filed-not {n} {r} e h k = rw (e, sym h ∙ not-true r k, and-false (leb 9 used))
+
+  pub filed-is : {n : ℕ} → 9 ≤ used → length item ≡ n → hasRoom (length s) used count n ≡ true → fileItem s used count item ≡ withItem s used count item
+  unfolding fileItem writtenIf
+  filed-is h e k = rw (le-leb 9 used h, e, k)
 
 -- an item, and the counts over it
 pub item-put : (s : List ℕ) (used count : ℕ) (item : List ℕ) {k w : ℕ} {a b : List ℕ} → 9 ≤ used → used + length item ≤ length s → count ≡ k → w ≡ used + length item
@@ -171,17 +208,17 @@ function-length id =
     omega arith
 
 -- the used length and the count, each over the bytes that stood there
-pub counts-over : (d : List ℕ) (used count : ℕ) {a b : List ℕ} → 9 ≤ length d → a ≡ sets d 0 (toBe 4 used) → b ≡ sets a 7 (toBe 2 count) → b ≡ over (over d 0 (toBe 4 used)) 7 (toBe 2 count)
+pub counts-over : (d : List ℕ) (used count : ℕ) {a b : List ℕ} → 9 ≤ length d → a ≡ overFit d 0 (toBe 4 used) → b ≡ overFit a 7 (toBe 2 count) → b ≡ over (over d 0 (toBe 4 used)) 7 (toBe 2 count)
 counts-over d used count {a} {b} h p q =
     let l4 = length-u32 used in
     let l2 = length-u16 count in
-    let x : a ≡ over d 0 (toBe 4 used) = p ∙ sets-over d 0 (toBe 4 used) (omega arith) in
+    let x : a ≡ over d 0 (toBe 4 used) = p ∙ fits-over d 0 (toBe 4 used) (omega arith) in
     let l : length a ≡ length d = ap length x ∙ length-over d 0 (toBe 4 used) (omega arith) in
-    q ∙ sets-over a 7 (toBe 2 count) (omega arith) ∙ ap (λ (t : List ℕ). over t 7 (toBe 2 count)) x
+    q ∙ fits-over a 7 (toBe 2 count) (omega arith) ∙ ap (λ (t : List ℕ). over t 7 (toBe 2 count)) x
 
 -- writing keeps the length
-pub written-length : (d : List ℕ) (p x i : ℕ) (vs : List ℕ) {e : List ℕ} → e ≡ sets (set d p x) i vs → length e ≡ length d
-written-length d p x i vs h = ap length h ∙ length-sets (set d p x) i vs ∙ length-set d p x
+pub written-length : (d : List ℕ) (p x i : ℕ) (vs : List ℕ) {e : List ℕ} → e ≡ overFit (set d p x) i vs → length e ≡ length d
+written-length d p x i vs h = ap length h ∙ length-fit (set d p x) i vs ∙ length-set d p x
 
 pub resource-length : (d : List ℕ) (at mode : ℕ) (image : List ℕ) {f : List ℕ} → at + (1 + length image) ≤ length d → f ≡ over d at (mode ∷ image) → length f ≡ length d
 resource-length d at mode image h p = ap length p ∙ length-over d at (mode ∷ image) (omega arith)
@@ -189,5 +226,10 @@ resource-length d at mode image h p = ap length p ∙ length-over d at (mode ∷
 pub function-put-length : (d : List ℕ) (at : ℕ) (id : List ℕ) {f : List ℕ} → at + (9 + length id) ≤ length d → f ≡ over d at (3 ∷ encFunction id) → length f ≡ length d
 function-put-length d at id h p = let z = function-length id in ap length p ∙ length-over d at (3 ∷ encFunction id) (omega arith)
 
-pub function-head-length : (d : List ℕ) (at : ℕ) (id : List ℕ) {d2 d5 : List ℕ} → d2 ≡ sets (set d at 3) (at + 1) (toBe 4 (8 + length id)) → d5 ≡ sets (set (set d2 (at + 5) 1) (at + 6) 1) (at + 7) (toBe 2 (length id)) → length d5 ≡ length d
-function-head-length d at id {d2} p q = written-length (set d2 (at + 5) 1) (at + 6) 1 (at + 7) (toBe 2 (length id)) q ∙ length-set d2 (at + 5) 1 ∙ written-length d at 3 (at + 1) (toBe 4 (8 + length id)) p
+pub short-written : (n : ℕ) (s t : List ℕ) {r : List ℕ} → n ≤ 255 → r ≡ t → r ≡ writtenIf (leb n 255) s t
+unfolding writtenIf
+short-written n s t h e = rw (le-leb n 255 h) e
+
+pub long-not : (n : ℕ) (s t : List ℕ) → 255 < n → s ≡ writtenIf (leb n 255) s t
+unfolding writtenIf
+long-not n s t h = rw (lt-leb n 255 h)

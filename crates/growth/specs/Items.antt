@@ -1,5 +1,5 @@
 -- One item more in a store's bytes.
-use mathlib.Core.Bool.{Bool, _&&_}
+use mathlib.Core.Bool.{Bool, true, false, _&&_}
 use mathlib.Core.List.{List, _++_}
 use Prim.Native.Nat.{ℕ, _+_, _-_}
 use lib.ListN.{length, drop}
@@ -16,6 +16,14 @@ unfoldable pub withItem : List ℕ → ℕ → ℕ → List ℕ → List ℕ
 withItem s used count item =
     atFront (toBe 4 (used + length item) ++ (part s 4 3 ++ (toBe 2 (count + 1) ++ (part s 9 (used - 9) ++ item)))) s
 
--- "6 used length plus item above the slice or 1,048,576, or 256 items present"
-unfoldable pub hasRoom : List ℕ → ℕ → ℕ → ℕ → Bool
-hasRoom s used count n = leb (used + n) (length s) && (leb (used + n) maxStore && ltb count maxItems)
+-- "6 used length plus item above the slice or 1,048,576, or 256 items present": room for n bytes in a slice of `size`
+unfoldable pub hasRoom : ℕ → ℕ → ℕ → ℕ → Bool
+hasRoom size used count n = leb (used + n) size && (leb (used + n) maxStore && ltb count maxItems)
+
+unfoldable pub writtenIf : Bool → List ℕ → List ℕ → List ℕ
+writtenIf true s s′ = s′
+writtenIf false s s′ = s
+
+-- an item filed: where it has room behind the header and the other items; else nothing changes
+unfoldable pub fileItem : List ℕ → ℕ → ℕ → List ℕ → List ℕ
+fileItem s used count item = writtenIf (leb 9 used && hasRoom (length s) used count (length item)) s (withItem s used count item)

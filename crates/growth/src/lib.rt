@@ -1,29 +1,37 @@
 // One item more in a store's bytes: whether there is room, the item behind the others, the used length and the count.
+use records::MAX_ITEMS;
+use records::MAX_STORE;
 use records::write_bytes;
 use records::write_u16;
 use records::write_u32;
 ghost use mathlib.Core.Path.{_≡_};
-ghost use Prim.Native.Nat.{ℕ, _+_, _≤_, _<_};
-ghost use mathlib.Core.List.{List, _∷_};
+ghost use Prim.Native.Nat.{_+_, _≤_, _<_};
+ghost use mathlib.Core.List.{_∷_};
 ghost use lib.ListN.{length};
+ghost use lib.Dec.{leb};
 ghost use Rattle.records.specs.Bytes.{toBe};
 ghost use Rattle.records.specs.Encode.{encFunction};
 ghost use Rattle.buffers.specs.Relations.Append.{over};
-ghost use Rattle.growth.specs.Items.{hasRoom, withItem};
+ghost use Rattle.growth.specs.Items.{hasRoom, writtenIf, fileItem};
 
-const MAX_STORE: usize = 1048576;
-
-const MAX_ITEMS: usize = 256;
+// Whether n bytes behind `used` others stay within a limit.
+fn within(limit: usize, used: usize, n: usize) -> bool
+    ensures { λ r. ⌜ r ≡ leb (used + n) limit ⌝ }
+{
+    if limit < used {
+        return false;
+    }
+    n <= limit - used
+}
 
 // Whether a slice of `size` bytes, of which `used` are used by `count` items, has room for an item of n bytes.
 pub fn has_room(size: usize, used: usize, count: usize, n: usize) -> bool
-    requires { ⌜ (used ≤ 1048576) × (n ≤ 65537) ⌝ }
-    ensures { λ r. ⌜ ((s : List ℕ) → length s ≡ size → r ≡ hasRoom s used count n) ⌝ }
+    ensures { λ r. ⌜ r ≡ hasRoom size used count n ⌝ }
 {
-    if size < used + n {
+    if !within(size, used, n) {
         return false;
     }
-    if MAX_STORE < used + n {
+    if !within(MAX_STORE, used, n) {
         return false;
     }
     count < MAX_ITEMS
@@ -60,20 +68,33 @@ fn put_counts(slice: &mut [u8], used: usize, count: usize)
     write_u16(slice, 7, count);
 }
 
-// Files a resource behind the others: its item, and the used length and the count over it.
+// Files a resource behind the others, where it has room: its item, and the used length and the count over it.
 pub fn file_resource(slice: &mut [u8], used: usize, count: usize, mode: u8, image: &[u8])
-    requires { ⌜ (9 ≤ used) × (used + (1 + length (now image)) ≤ length (now slice)) × (used + (1 + length (now image)) ≤ 1048576) × (count < 256) ⌝ }
-    ensures { λ _. ⌜ now (slice .exit) ≡ withItem (now (slice .entry)) used count (mode ∷ now (image .entry)) ⌝ }
+    ensures { λ _. ⌜ now (slice .exit) ≡ fileItem (now (slice .entry)) used count (mode ∷ now (image .entry)) ⌝ }
 {
+    if used < 9 {
+        return;
+    }
+    if !has_room(slice.len(), used, count, 1 + image.len()) {
+        return;
+    }
     put_resource(slice, used, mode, image);
     put_counts(slice, used + (1 + image.len()), count + 1);
 }
 
-// Files a function behind the others.
+// Files a function behind the others, where it has room and its Id is no longer than one may be.
 pub fn file_function(slice: &mut [u8], used: usize, count: usize, id: &[u8])
-    requires { ⌜ (9 ≤ used) × (used + (9 + length (now id)) ≤ length (now slice)) × (used + (9 + length (now id)) ≤ 1048576) × (count < 256) × (length (now id) ≤ 255) ⌝ }
-    ensures { λ _. ⌜ now (slice .exit) ≡ withItem (now (slice .entry)) used count (3 ∷ encFunction (now (id .entry))) ⌝ }
+    ensures { λ _. ⌜ now (slice .exit) ≡ writtenIf (leb (length (now (id .entry))) 255) (now (slice .entry)) (fileItem (now (slice .entry)) used count (3 ∷ encFunction (now (id .entry)))) ⌝ }
 {
+    if 255 < id.len() {
+        return;
+    }
+    if used < 9 {
+        return;
+    }
+    if !has_room(slice.len(), used, count, 9 + id.len()) {
+        return;
+    }
     put_function(slice, used, id);
     put_counts(slice, used + (9 + id.len()), count + 1);
 }

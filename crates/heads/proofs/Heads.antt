@@ -1,12 +1,12 @@
 -- What the first bytes of a record say of it: a store's locale byte and isolating Flag, an expression's tag.
-use mathlib.Core.Path.{_≡_, refl, ap, sym, subst, _∙_}
-use mathlib.Core.List.{List, [], _∷_}
-use mathlib.Core.Bool.{Bool, true, false, _||_}
-use Prim.Native.Nat.{ℕ, zero, suc, _+_, _-_, _≤_, _<_}
+use mathlib.Core.Path.{_≡_, refl, ap, sym, _∙_}
+use mathlib.Core.List.{List}
+use mathlib.Core.Bool.{Bool, true, false, _||_, _&&_, not}
+use Prim.Native.Nat.{ℕ, _+_, _-_, _≤_}
 use native.Mathlib.Omega.{arith}
-use lib.ListN.{length, getD}
-use lib.Dec.{eqb}
-use Rattle.records.specs.Got.{Got, got, bad}
+use lib.ListN.{length, getD, List·getD-eq-default}
+use lib.Dec.{eqb, ltb}
+use Rattle.records.specs.Got.{got, bad, test}
 use Rattle.records.specs.Bytes.{byteAt}
 use Rattle.records.specs.Tree.{Expression, Inline}
 use Rattle.records.specs.Decode.{expression, inline}
@@ -15,52 +15,87 @@ use Rattle.records.proofs.Views.{both, never, flag-elim, select-elim, term-elim
 use Rattle.records.proofs.Laws.{byte-inv}
 use Rattle.images.proofs.Views.{store-elim}
 use Rattle.resolution.specs.Resolve.{bare, bareInline}
-use Rattle.heads.specs.Tags.{textTag}
-use borrow.Author.Tests.{eqb-true}
+use Rattle.heads.specs.Header.{localeByte, isolated}
+use Rattle.heads.specs.Tags.{textTag, bareTag, bareAt, marksAt}
+use borrow.Author.Tests.{eqb-true, ltb-false}
+
+-- no byte is read past the end
+byte-out : (s : List ℕ) (at : ℕ) → byteAt s at ≡ bad → length s ≤ at
+unfolding byteAt test
+byte-out s at h = go (ltb at (length s)) refl h
+  where
+    go : (b : Bool) → ltb at (length s) ≡ b → test b (got (getD s at 0) (at + 1)) ≡ bad → length s ≤ at
+    go true e g = never g refl
+    go false e g = ltb-false at (length s) e
 
 -- a store: its sixth byte is its locale, its seventh its isolating Flag
 module _ (s : List ℕ) {x : Store} {e : ℕ} (h : storeOf s ≡ got x e) where
-  pub locale-there : {C : Type 0} → length s ≤ 5 → C
-  locale-there g = store-elim s h (λ _ _ _ _ hb _ _ _ _ _. let i = byte-inv s 5 hb .0 in absurd (omega arith))
+  locale-byte : getD s 5 0 ≡ x .locale
+  locale-byte = store-elim s h (λ _ _ _ _ hb _ _ _ _ _. sym (byte-inv s 5 hb .1))
 
-  pub locale-is : getD s 5 0 ≡ x .locale
-  locale-is = store-elim s h (λ _ _ _ _ hb _ _ _ _ _. sym (byte-inv s 5 hb .1))
-
-  pub flag-there : {C : Type 0} → length s ≤ 6 → C
-  flag-there g =
-      store-elim s h (λ _ _ _ _ _ _ hf _ _ _. flag-elim s 6 hf
-      (λ hb _. let i = byte-inv s 6 hb .0 in absurd (omega arith))
-      (λ hb _. let i = byte-inv s 6 hb .0 in absurd (omega arith)))
-
-  pub flag-is : eqb (getD s 6 0) 1 ≡ x .isolating
-  flag-is =
+  isolating-byte : eqb (getD s 6 0) 1 ≡ x .isolating
+  isolating-byte =
       store-elim s h (λ _ _ _ _ _ _ hf _ _ _. flag-elim s 6 hf
       (λ hb w. let v : 0 ≡ getD s 6 0 = byte-inv s 6 hb .1 in ap (λ (j : ℕ). eqb j 1) (sym v) ∙ sym w)
       (λ hb w. let v : 1 ≡ getD s 6 0 = byte-inv s 6 hb .1 in ap (λ (j : ℕ). eqb j 1) (sym v) ∙ sym w))
 
--- which expressions stand bare, by their tags
-unfoldable pub bareTag : ℕ → Bool
-bareTag t = eqb t 1 || (eqb t 4 || eqb t 5)
+pub locale-is : (s : List ℕ) {r : ℕ} → r ≡ localeByte s → (x : Store) (e : ℕ) → storeOf s ≡ got x e → r ≡ x .locale
+unfolding localeByte
+locale-is s is x e h = is ∙ locale-byte s h
+
+pub isolating-is : (s : List ℕ) (n : ℕ) {r : Bool} → r ≡ isolated s n → (x : Store) (e : ℕ) → storeOf s ≡ got x e → r ≡ (ltb 1 n && x .isolating)
+unfolding isolated
+isolating-is s n is x e h = is ∙ ap (λ (b : Bool). ltb 1 n && b) (isolating-byte s h)
+
+-- a slice too short for the Flag
+pub isolated-short : (s : List ℕ) (n : ℕ) → length s ≤ 6 → false ≡ isolated s n
+unfolding isolated
+isolated-short s n g = rw (List·getD-eq-default s 0 g) (go (ltb 1 n))
+  where
+    go : (b : Bool) → false ≡ (b && false)
+    go true = refl
+    go false = refl
+
+-- an expression: the byte that stands there is its tag
+module _ (s : List ℕ) (at : ℕ) where
+  pub bare-none : byteAt s at ≡ bad → false ≡ bareAt s at
+  unfolding bareAt bareTag
+  bare-none g = rw (List·getD-eq-default s 0 (byte-out s at g))
+
+  pub bare-tag : {tag p : ℕ} {b : Bool} → byteAt s at ≡ got tag p → b ≡ bareTag tag → b ≡ bareAt s at
+  unfolding bareAt
+  bare-tag g e = e ∙ ap bareTag (byte-inv s at g .1)
 
 module _ (s : List ℕ) (at d : ℕ) {x : Expression} {f : ℕ} (h : expression d s at ≡ got x f) where
-  pub bare-bad : {b : Bool} → byteAt s at ≡ bad → b ≡ bare x
-  bare-bad g = expression-elim s at d h (λ p hb _ _. never g hb) (λ tag p i hb _ _ _ _. never g hb)
-
-  pub bare-is : (tag p : ℕ) {b : Bool} → byteAt s at ≡ got tag p → b ≡ bareTag tag → b ≡ bare x
+  tag-bare : (tag p : ℕ) → byteAt s at ≡ got tag p → bareTag tag ≡ bare x
   unfolding bare bareInline bareTag
-  bare-is tag p {b} g e =
+  tag-bare tag p g =
       expression-elim s at d h
-      (λ p′ hb _ hs. select-elim _ _ s p′ hs (λ i _ _ _ vs _ _ _ _ w. both g hb (λ et _. rw w (rw et at e))))
-      (λ _ _ i _ _ _ w hi. rw w (inline-elim s at d hi (λ tag′ p′ hb _ b. both g hb (λ et _. body i tag′ p′ b (rw et at e)))))
+      (λ p′ hb _ hs. select-elim _ _ s p′ hs (λ i _ _ _ vs _ _ _ _ w. both g hb (λ et _. rw (w, et))))
+      (λ _ _ i _ _ _ w hi. rw w (inline-elim s at d hi (λ tag′ p′ hb _ b. both g hb (λ et _. rw et (body i tag′ p′ b)))))
     where
-      body : (i : Inline) (t q : ℕ) → Body (expression (d - 1)) (inline (d - 1)) s q t i f → b ≡ bareTag t → b ≡ bareInline i
-      body i t q (is-string _ u _ w) e = rw w (rw u at e)
-      body i t q (is-number _ u _ w) e = rw w (rw u at e)
-      body i t q (is-function _ _ _ u _ _ w) e = rw w (rw u at e)
-      body i t q (is-message _ _ _ u _ _ w) e = rw w (rw u at e)
-      body i t q (is-term u ht) e = term-elim _ s q ht (λ _ _ _ _ _ _ _ _ w. rw w (rw u at e))
-      body i t q (is-variable _ u _ w) e = rw w (rw u at e)
-      body i t q (is-nested _ u _ w) e = rw w (rw u at e)
+      body : (i : Inline) (t q : ℕ) → Body (expression (d - 1)) (inline (d - 1)) s q t i f → bareTag t ≡ bareInline i
+      body i t q (is-string _ u _ w) = rw (w, u)
+      body i t q (is-number _ u _ w) = rw (w, u)
+      body i t q (is-function _ _ _ u _ _ w) = rw (w, u)
+      body i t q (is-message _ _ _ u _ _ w) = rw (w, u)
+      body i t q (is-term u ht) = term-elim _ s q ht (λ _ _ _ _ _ _ _ _ w. rw (w, u))
+      body i t q (is-variable _ u _ w) = rw (w, u)
+      body i t q (is-nested _ u _ w) = rw (w, u)
+
+  bare-at : bareAt s at ≡ bare x
+  unfolding bareAt
+  bare-at =
+      expression-elim s at d h
+      (λ p hb _ _. ap bareTag (sym (byte-inv s at hb .1)) ∙ tag-bare _ p hb)
+      (λ tag p i hb _ _ _ _. ap bareTag (sym (byte-inv s at hb .1)) ∙ tag-bare tag p hb)
+
+pub bare-is : (s : List ℕ) (at : ℕ) {r : Bool} → r ≡ bareAt s at → (d : ℕ) (x : Expression) (f : ℕ) → expression d s at ≡ got x f → r ≡ bare x
+bare-is s at is d x f h = is ∙ bare-at s at d h
+
+pub marks-are : (s : List ℕ) (iso : Bool) (at : ℕ) {r : Bool} → r ≡ marksAt s iso at → (d : ℕ) (x : Expression) (f : ℕ) → expression d s at ≡ got x f → r ≡ (iso && not (bare x))
+unfolding marksAt
+marks-are s iso at is d x f h = is ∙ ap (λ (b : Bool). iso && not b) (bare-at s at d h)
 
 -- the tags of inline expressions whose values are texts of their own
 pub text-tag : (t : ℕ) {C : Type 0} → textTag t ≡ true → (t ≡ 4 → C) → (t ≡ 5 → C) → (t ≡ 7 → C) → C

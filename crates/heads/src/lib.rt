@@ -1,20 +1,16 @@
 // What the first bytes of a record say of it: a store's locale byte and isolating Flag, an expression's tag.
+//
+// Each function takes every slice whatsoever: a byte that is not there counts as 0. What the bytes say of a store or an expression that decodes is in
+// the laws of proofs/Heads.
 ghost use mathlib.Core.Path.{_≡_};
-ghost use mathlib.Core.Bool.{_&&_, not};
-ghost use Prim.Native.Nat.{ℕ};
-ghost use lib.Dec.{ltb};
-ghost use Rattle.records.specs.Got.{got};
-ghost use Rattle.records.specs.Tree.{Expression};
-ghost use Rattle.records.specs.Decode.{expression};
-ghost use Rattle.records.specs.Images.{Store, storeOf};
-ghost use Rattle.resolution.specs.Resolve.{bare};
-ghost use Rattle.heads.specs.Tags.{textTag};
+ghost use Rattle.heads.specs.Header.{localeByte, isolated};
+ghost use Rattle.heads.specs.Tags.{textTag, bareAt, marksAt};
 use records::Num;
 use records::read_byte;
 
 // Is what stands at `at` written without isolating marks: a direct message, term or string literal?
-pub fn is_bare(s: &[u8], at: usize) -> bool
-    ensures { λ r. ⌜ ((d : ℕ) (x : Expression) (f : ℕ) → expression d (now (s .entry)) at ≡ got x f → r ≡ bare x) ⌝ }
+fn is_bare(s: &[u8], at: usize) -> bool
+    ensures { λ r. ⌜ r ≡ bareAt (now (s .entry)) at ⌝ }
 {
     let Num::At(tag, _) = read_byte(s, at) else {
         return false;
@@ -30,7 +26,7 @@ pub fn is_bare(s: &[u8], at: usize) -> bool
 
 // Has the placeable at `at` isolating marks?
 pub fn has_marks(s: &[u8], iso: bool, at: usize) -> bool
-    ensures { λ r. ⌜ ((d : ℕ) (x : Expression) (f : ℕ) → expression d (now (s .entry)) at ≡ got x f → r ≡ (iso && not (bare x))) ⌝ }
+    ensures { λ r. ⌜ r ≡ marksAt (now (s .entry)) iso at ⌝ }
 {
     if iso {
         return !is_bare(s, at);
@@ -40,7 +36,7 @@ pub fn has_marks(s: &[u8], iso: bool, at: usize) -> bool
 
 // Are the placeables of a pattern of n elements isolated?
 pub fn isolates(s: &[u8], n: usize) -> bool
-    ensures { λ r. ⌜ ((st : Store) (e : ℕ) → storeOf (now (s .entry)) ≡ got st e → r ≡ (ltb 1 n && st .isolating)) ⌝ }
+    ensures { λ r. ⌜ r ≡ isolated (now (s .entry)) n ⌝ }
 {
     if n <= 1 {
         return false;
@@ -51,9 +47,9 @@ pub fn isolates(s: &[u8], n: usize) -> bool
     s[6] == 1
 }
 
-// The locale byte of a store.
+// The locale byte of a store; 0 in a slice too short for it.
 pub fn locale_of(s: &[u8]) -> u8
-    ensures { λ r. ⌜ ((st : Store) (e : ℕ) → storeOf (now (s .entry)) ≡ got st e → r ≡ st .locale) ⌝ }
+    ensures { λ r. ⌜ r ≡ localeByte (now (s .entry)) ⌝ }
 {
     if s.len() <= 5 {
         return 0;

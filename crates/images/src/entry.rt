@@ -12,7 +12,7 @@ use records::Num;
 const MAX_DEPTH: usize = 32;
 
 // An attribute: Id and pattern.
-pub fn check_attribute(s: &[u8], at: usize) -> Next
+pub(crate) fn check_attribute(s: &[u8], at: usize) -> Next
     ensures { λ r. ⌜ r ≡ nextOf (attributeAt (now (s .entry)) at) ⌝ }
 {
     let Next::At(e) = records::check_id(s, at) else {
@@ -22,7 +22,7 @@ pub fn check_attribute(s: &[u8], at: usize) -> Next
 }
 
 // `count` attributes.
-pub fn check_attributes(s: &[u8], from: usize, count: usize) -> Next
+pub(crate) fn check_attributes(s: &[u8], from: usize, count: usize) -> Next
     ensures { λ r. ⌜ r ≡ nextOf (many [] _∷_ count attributeAt (now (s .entry)) from) ⌝ }
 {
     let mut at = from;
@@ -71,7 +71,7 @@ fn check_entry_of(s: &[u8], at: usize, term: bool) -> Next
 }
 
 // An entry: kind, Id, value Flag, pattern if 1, u16 attribute count, each Id and pattern.
-pub fn check_entry(s: &[u8], at: usize) -> Next
+pub(crate) fn check_entry(s: &[u8], at: usize) -> Next
     ensures { λ r. ⌜ r ≡ nextOf (entryAt (now (s .entry)) at) ⌝ }
 {
     let Num::At(kind, p) = records::read_byte(s, at) else {
@@ -87,7 +87,7 @@ pub fn check_entry(s: &[u8], at: usize) -> Next
 }
 
 // `count` entries.
-pub fn check_entries(s: &[u8], from: usize, count: usize) -> Next
+pub(crate) fn check_entries(s: &[u8], from: usize, count: usize) -> Next
     ensures { λ r. ⌜ r ≡ nextOf (many [] _∷_ count entryAt (now (s .entry)) from) ⌝ }
 {
     let mut at = from;

@@ -5,18 +5,16 @@ ghost use Rattle.records.specs.Relations.Answer.{nextOf};
 ghost use Rattle.records.specs.Decode.{many};
 ghost use Rattle.records.specs.Images.{functionAt, itemAt, localeAt, storeOf};
 use crate::resource::check_resource_at;
+use records::MAX_ITEMS;
+use records::MAX_STORE;
 use records::Next;
 use records::Num;
 
-// The limits that document 01 names.
-const MAX_STORE: usize = 1048576;
-
-const MAX_ITEMS: usize = 256;
-
+// The greatest number of a locale.
 const MAX_LOCALE: usize = 3;
 
 // A function record at a position: u32 length of the record, version 1, code byte 1 (NUMBER), Id.
-pub fn check_function_at(s: &[u8], at: usize) -> Next
+pub(crate) fn check_function_at(s: &[u8], at: usize) -> Next
     ensures { λ r. ⌜ r ≡ nextOf (functionAt (now (s .entry)) at) ⌝ }
 {
     let Num::At(n, p) = records::read_u32(s, at) else {
@@ -31,16 +29,11 @@ pub fn check_function_at(s: &[u8], at: usize) -> Next
     let Next::At(e) = records::check_id(s, r) else {
         return Next::Bad;
     };
-    if at <= e {
-        if e - at == n {
-            return Next::At(e);
-        }
-    }
-    Next::Bad
+    records::ends_at(at, n, e)
 }
 
 // An item of a store: mode byte, then a resource image or a function record.
-pub fn check_item(s: &[u8], at: usize) -> Next
+pub(crate) fn check_item(s: &[u8], at: usize) -> Next
     ensures { λ r. ⌜ r ≡ nextOf (itemAt (now (s .entry)) at) ⌝ }
 {
     let Num::At(mode, p) = records::read_byte(s, at) else {
@@ -58,7 +51,7 @@ pub fn check_item(s: &[u8], at: usize) -> Next
 }
 
 // `count` items.
-pub fn check_items(s: &[u8], from: usize, count: usize) -> Next
+pub(crate) fn check_items(s: &[u8], from: usize, count: usize) -> Next
     ensures { λ r. ⌜ r ≡ nextOf (many [] _∷_ count itemAt (now (s .entry)) from) ⌝ }
 {
     let mut at = from;
@@ -74,7 +67,7 @@ pub fn check_items(s: &[u8], from: usize, count: usize) -> Next
 }
 
 // The locale of a store.
-pub fn check_locale(s: &[u8], at: usize) -> Next
+pub(crate) fn check_locale(s: &[u8], at: usize) -> Next
     ensures { λ r. ⌜ r ≡ nextOf (localeAt (now (s .entry)) at) ⌝ }
 {
     let Num::At(l, e) = records::read_byte(s, at) else {

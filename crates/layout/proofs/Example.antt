@@ -3,8 +3,8 @@ use mathlib.Core.Path.{_≡_, refl}
 use mathlib.Core.List.{[], _∷_}
 use Rattle.records.specs.Got.{got, after, test, pick}
 use Rattle.records.specs.Bytes.{toBe, bytesAt, byteAt, numberAt, spanAt}
-use Rattle.rules.specs.Run.{run}
-use Rattle.rules.specs.Rules.{letter, digit, idStep, isId, utf8First, utf8Low, utf8High, utf8Rest, utf8Step, isUtf8, isText}
+use Rattle.decimals.specs.Bytes.{run, digit}
+use Rattle.rules.specs.Rules.{letter, idStep, isId, utf8First, utf8Low, utf8High, utf8Rest, utf8Step, isUtf8, isText}
 use Rattle.records.specs.Decode.{many, ruledAt, optionalAt, idAt, textAt, elementAt, elementsAt, patternAt, entryPatternAt}
 use Rattle.records.specs.Images.{maxImage, isSome, isMore, complete, oneAt, kindAt, attributeAt, attributesAt, entryAt, resourceAt, wholeOf, resourceOf}
 use Rattle.records.specs.Encode.{encStr, encOptional, encAll, encCounted, countElements, encSized, encPattern, encKind, encAttribute, encEntry, encWhole, encResource}

@@ -12,7 +12,8 @@ use Rattle.records.specs.Got.{Got, got, Parser, after, test, pick}
 use Rattle.records.specs.Bytes.{toBe, numberAt}
 use Rattle.rules.specs.Rules.{isUtf8}
 use Rattle.records.specs.Decode.{many}
-use Rattle.records.specs.Images.{Kind, Item, Store, Argument, maxImage, maxStore, maxItems, maxLocale, maxScale, digitsLimit, oneAt, kindAt, attributeAt, attributesAt, complete, entryAt, resourceAt, functionAt, itemAt, localeAt, storeOf, wholeOf, argumentNumberAt, argumentValueAt, argumentAt, argumentsAt}
+use Rattle.records.specs.Images.{Kind, Item, Store, Argument, maxImage, maxStore, maxItems, maxLocale, oneAt, kindAt, attributeAt, attributesAt, complete, entryAt, resourceAt, functionAt, itemAt, localeAt, storeOf, wholeOf, argumentNumberAt, argumentValueAt, argumentAt, argumentsAt}
+use Rattle.decimals.specs.Decimal.{scaleLimit, digitsLimit}
 use Rattle.records.specs.Encode.{encStr, encFlag, encOptional, encAll, encCounted, encPattern, encKind, encAttribute, encEntry, encWhole, encResource, encFunction, encItem, encStore, encArgument, encNamedArgument, encArgumentsImage}
 use Rattle.records.specs.Valid.{Fits, ValidId, Counted, ValidAttribute, ValidEntry, ValidResource, ValidItem, ValidStore, ValidArgument, ValidNamedArgument, ValidArgumentsImage}
 use Rattle.layout.specs.Exact.{Stands, Octets, Exact}
@@ -219,8 +220,7 @@ locale-small : {l : ℕ} → l ≤ maxLocale → l < 256
 unfolding maxLocale
 locale-small h = omega arith
 
-scale-small : {k : ℕ} → k ≤ maxScale → k < 256
-unfolding maxScale
+scale-small : {k : ℕ} → k ≤ scaleLimit → k < 256
 scale-small h = omega arith
 
 locale-exact : Exact localeAt (λ l. l ∷ []) (λ l. l ≤ maxLocale)
@@ -274,7 +274,6 @@ store-octets v ok = whole-octets _ (
 
 -- arguments
 digits-fit : {d : ℕ} → d < digitsLimit → Fits 8 d
-unfolding digitsLimit
 digits-fit h = omega arith
 
 argument-number-sound : {s : List ℕ} {at e : ℕ} {v : Argument} {b : ℕ} → Octets s → Stands s b at (2 ∷ []) → argumentNumberAt s at ≡ got v e → ValidArgument v × Stands s b e (encArgument v)
@@ -284,16 +283,16 @@ argument-number-sound {s} {b = b} oct tag h =
     took (number-exact 8) oct (stF .within) h (λ d q okD stD h.
     test-took (ltb d digitsLimit) h (λ t h.
     byte-took h (λ k e stK h.
-    test-took (leb k maxScale) h (λ y h.
-    gives h (Read encArgument ValidArgument s b) ((ltb-true d digitsLimit t, leb-true k maxScale y), tagged refl tag (join stF (join stD stK))))))))
+    test-took (leb k scaleLimit) h (λ y h.
+    gives h (Read encArgument ValidArgument s b) ((ltb-true d digitsLimit t, leb-true k scaleLimit y), tagged refl tag (join stF (join stD stK))))))))
 
-argument-number-complete : {s : List ℕ} {at e : ℕ} (f : Bool) (d k : ℕ) → d < digitsLimit → k ≤ maxScale → Stands s at e (encFlag f ++ (toBe 8 d ++ (k ∷ [])))
+argument-number-complete : {s : List ℕ} {at e : ℕ} (f : Bool) (d k : ℕ) → d < digitsLimit → k ≤ scaleLimit → Stands s at e (encFlag f ++ (toBe 8 d ++ (k ∷ [])))
     → argumentNumberAt s at ≡ got (Argument.number f d k) e
 unfolding argumentNumberAt after
 argument-number-complete f d k okD okK h =
     ahead flag-exact _ {a = f} tt h (λ p u r.
     ahead (number-exact 8) _ (digits-fit okD) r (λ q u r.
-    passes (ltb d digitsLimit) (lt-ltb d digitsLimit okD) (rw (byte-complete r) (passes (leb k maxScale) (le-leb k maxScale okK) refl))))
+    passes (ltb d digitsLimit) (lt-ltb d digitsLimit okD) (rw (byte-complete r) (passes (leb k scaleLimit) (le-leb k scaleLimit okK) refl))))
 
 argument-sound : {s : List ℕ} {at e : ℕ} {v : Argument} → Octets s → argumentValueAt s at ≡ got v e → ValidArgument v × Stands s at e (encArgument v)
 unfolding argumentValueAt encArgument ValidArgument

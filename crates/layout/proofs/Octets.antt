@@ -9,8 +9,12 @@ use lib.ListN.{length}
 use lib.Dec.{ltb, eqb}
 use borrow.Author.Tests.{ltb-true, ltb-false, eqb-true, lt-ltb, le-ltb, le-leb, lt-leb, ne-eqb}
 use Rattle.records.specs.Bytes.{toBe}
-use Rattle.rules.specs.Run.{run}
-use Rattle.rules.specs.Rules.{choose, letter, digit, idStep, isId, utf8First, utf8Low, utf8High, utf8Rest, utf8Step, isUtf8, isText, numberStep, isNumber, escapeStep, isString}
+use Rattle.decimals.specs.Bytes.{run, choose, digit}
+use Rattle.rules.specs.Rules.{letter, idStep, isId, utf8First, utf8Low, utf8High, utf8Rest, utf8Step, isUtf8, isText, escapeStep, isString}
+use Rattle.literals.specs.Literal.{numberStep, isNumber}
+use Rattle.decimals.proofs.Run.{run-stays}
+use Rattle.rules.proofs.WellFormed.{first-above, utf8-stays}
+use Rattle.literals.proofs.Reading.{stuck}
 use Rattle.layout.specs.Exact.{Octets}
 
 pub octets-append : (x y : List ℕ) → Octets x → Octets y → Octets (x ++ y)
@@ -24,11 +28,6 @@ octets-toBe (suc n) x = (mod-lt (x / 256 ^ n) (omega arith), octets-toBe n x)
 
 -- an automaton that all but bytes lead to a dead end
 module _ (f : ℕ → ℕ → ℕ) (end : ℕ) (stays : (b : ℕ) → f end b ≡ end) (out : (q b : ℕ) → 256 ≤ b → f q b ≡ end) where
-  pub run-end : (t : List ℕ) → run f end t ≡ end
-  unfolding run
-  run-end [] = refl
-  run-end (b ∷ t) = ap (λ (j : ℕ). run f j t) (stays b) ∙ run-end t
-
   run-octets : (q : ℕ) (t : List ℕ) → (run f q t ≡ end → ⊥) → Octets t
   unfolding run
   run-octets q [] n = tt
@@ -36,7 +35,7 @@ module _ (f : ℕ → ℕ → ℕ) (end : ℕ) (stays : (b : ℕ) → f end b �
     where
       go : (i : Bool) → ltb b 256 ≡ i → Octets t → Octets (b ∷ t)
       go true e o = (ltb-true b 256 e, o)
-      go false e o = absurd (n (ap (λ (j : ℕ). run f j t) (out q b (ltb-false b 256 e)) ∙ run-end t))
+      go false e o = absurd (n (ap (λ (j : ℕ). run f j t) (out q b (ltb-false b 256 e)) ∙ run-stays f end stays t))
 
 digit-out : (b : ℕ) → 256 ≤ b → digit b ≡ false
 unfolding digit
@@ -62,44 +61,9 @@ id-out q b h = rw (letter-out b h, digit-out b h, isnt b 45 h (omega arith), isn
     go false true = refl
     go false false = refl
 
-number-stays : (b : ℕ) → numberStep 5 b ≡ 5
-unfolding numberStep
-number-stays b = go (digit b) (eqb b 45) (eqb b 46)
-  where
-    go : (i j k : Bool) → choose i 5 (choose j 5 (choose k 5 5)) ≡ 5
-    go true j k = refl
-    go false true k = refl
-    go false false true = refl
-    go false false false = refl
-
 number-out : (q b : ℕ) → 256 ≤ b → numberStep q b ≡ 5
 unfolding numberStep
 number-out q b h = rw (digit-out b h, isnt b 45 h (omega arith), isnt b 46 h (omega arith))
-
-pub utf8-stays : (b : ℕ) → utf8Step 8 b ≡ 8
-unfolding utf8Step utf8Low utf8High utf8Rest
-utf8-stays b = go (ltb b 0x80) (ltb 0xBF b)
-  where
-    go : (i j : Bool) → choose i 8 (choose j 8 8) ≡ 8
-    go true j = refl
-    go false true = refl
-    go false false = refl
-
--- nor does any byte above F4 begin a scalar
-pub first-above : (b : ℕ) → 0xF4 < b → utf8First b ≡ 8
-unfolding utf8First
-first-above b h =
-    rw (
-      le-ltb b 0x80 (omega arith),
-      le-ltb b 0xC2 (omega arith),
-      le-ltb b 0xE0 (omega arith),
-      ne-eqb b 0xE0 (λ e. omega arith),
-      ne-eqb b 0xED (λ e. omega arith),
-      le-ltb b 0xF0 (omega arith),
-      ne-eqb b 0xF0 (λ e. omega arith),
-      le-ltb b 0xF4 (omega arith),
-      ne-eqb b 0xF4 (λ e. omega arith),
-    )
 
 high-bound : (q : ℕ) → utf8High q ≤ 0xBF
 unfolding utf8High
@@ -152,6 +116,6 @@ string-octets t h = utf8-octets t (and-right (eqb (run escapeStep 0 t) 0) (isUtf
 
 pub number-octets : (t : List ℕ) → isNumber t ≡ true → Octets t
 unfolding isNumber
-number-octets t h = run-octets numberStep 5 number-stays number-out 0 t (λ e.
+number-octets t h = run-octets numberStep 5 stuck number-out 0 t (λ e.
     let r : (eqb (run numberStep 0 t) 2 || eqb (run numberStep 0 t) 4) ≡ true = and-left _ _ h in
     false≢true (subst (λ (j : ℕ). (eqb j 2 || eqb j 4) ≡ true) e r))

@@ -10,7 +10,8 @@ use lib.Dec.{eqb, ltb}
 use borrow.Author.Tests.{ltb-true, lt-ltb}
 use Rattle.records.specs.Got.{got, Parser, after, test, pick}
 use Rattle.records.specs.Bytes.{toBe, part, byteAt}
-use Rattle.rules.specs.Rules.{isId, isText, isString, isNumber}
+use Rattle.rules.specs.Rules.{isId, isText, isString}
+use Rattle.literals.specs.Literal.{isNumber}
 use Rattle.records.specs.Names.{distinct}
 use Rattle.records.specs.Tree.{Literal, Key, Named, Pattern, pattern, Elements, no-more, more, Element, text, placeable, Expression, select, Inline, variable, nested, Arguments, without, with-args, Inlines, no-inline, and, Variants, no-variant, or, Variant, variant}
 use Rattle.records.specs.Decode.{as-a, flagAt, optionalAt, idAt, textAt, stringAt, literalNumberAt, literalAt, keyAt, namedAt, namedArgumentsAt, elementAt, elementsAt, patternAt, variantAt, inlinesAt, argumentsAt, termArgumentsAt, termAt, selectAt, inlineBody, inlineAt, exprAt, expression, inline, maxDepth, entryPatternAt}

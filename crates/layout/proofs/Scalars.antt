@@ -8,200 +8,15 @@ use native.Mathlib.Omega.{arith}
 use lib.ListN.{length}
 use lib.Dec.{ltb, eqb}
 use borrow.Author.Tests.{ltb-true, ltb-false, eqb-true, eqb-false, lt-ltb, le-ltb, eq-eqb, ne-eqb}
-use Rattle.rules.specs.Run.{run}
-use Rattle.rules.specs.Rules.{choose, utf8First, utf8Low, utf8High, utf8Rest, utf8Step, isUtf8}
+use Rattle.decimals.specs.Bytes.{run, choose}
+use Rattle.rules.specs.Rules.{utf8First, utf8Low, utf8High, utf8Rest, utf8Step, isUtf8}
 use Rattle.records.specs.Encode.{encAll}
 use Rattle.records.specs.Valid.{All}
-use Rattle.layout.proofs.Octets.{run-end, first-above, utf8-stays, utf8-out}
-use Rattle.layout.specs.Utf8.{Scalar, low, high, encScalar, encScalars, Coded}
-
-below : {Z : Type 0} (c n : ℕ) → (c < n → Z) → (n ≤ c → Z) → Z
-below {Z} c n f g = go (ltb c n) refl
-  where
-    go : (t : Bool) → ltb c n ≡ t → Z
-    go true e = f (ltb-true c n e)
-    go false e = g (ltb-false c n e)
-
-is : {Z : Type 0} (c n : ℕ) → (c ≡ n → Z) → ((c ≡ n → ⊥) → Z) → Z
-is {Z} c n f g = go (eqb c n) refl
-  where
-    go : (t : Bool) → eqb c n ≡ t → Z
-    go true e = f (eqb-true c n e)
-    go false e = g (eqb-false c n e)
-
--- The four forms, by their digits
-encode-1 : (c : ℕ) → c < 0x80 → encScalar c ≡ c ∷ []
-unfolding encScalar
-encode-1 c h = rw (lt-ltb c 0x80 h)
-
-encode-2 : (x y : ℕ) → 2 ≤ x → x < 32 → y < 64 → encScalar (x * 64 + y) ≡ (0xC0 + x) ∷ (0x80 + y) ∷ []
-unfolding encScalar
-encode-2 x y h k l =
-    let p : (x * 64 + y) / 64 ≡ x = omega arith in
-    let q : (x * 64 + y) % 64 ≡ y = omega arith in
-    rw (le-ltb (x * 64 + y) 0x80 (omega arith), lt-ltb (x * 64 + y) 0x800 (omega arith), p, q)
-
-encode-3 : (x y z : ℕ) → x < 16 → y < 64 → z < 64 → 0x800 ≤ x * 4096 + y * 64 + z
-    → encScalar (x * 4096 + y * 64 + z) ≡ (0xE0 + x) ∷ (0x80 + y) ∷ (0x80 + z) ∷ []
-unfolding encScalar
-encode-3 x y z h k l m =
-    let c : ℕ = x * 4096 + y * 64 + z in
-    let p : c / 4096 ≡ x = omega arith in
-    let q : c / 64 % 64 ≡ y = omega arith in
-    let r : c % 64 ≡ z = omega arith in
-    rw (le-ltb c 0x80 (omega arith), le-ltb c 0x800 m, lt-ltb c 0x10000 (omega arith), p, q, r)
-
-encode-4 : (w x y z : ℕ) → x < 64 → y < 64 → z < 64 → 0x10000 ≤ w * 262144 + x * 4096 + y * 64 + z
-    → encScalar (w * 262144 + x * 4096 + y * 64 + z) ≡ (0xF0 + w) ∷ (0x80 + x) ∷ (0x80 + y) ∷ (0x80 + z) ∷ []
-unfolding encScalar
-encode-4 w x y z h k l m =
-    let c : ℕ = w * 262144 + x * 4096 + y * 64 + z in
-    let o : c / 262144 ≡ w = omega arith in
-    let p : c / 4096 % 64 ≡ x = omega arith in
-    let q : c / 64 % 64 ≡ y = omega arith in
-    let r : c % 64 ≡ z = omega arith in
-    rw (le-ltb c 0x80 (omega arith), le-ltb c 0x800 (omega arith), le-ltb c 0x10000 m, o, p, q, r)
-
--- The first byte
-first-2 : (b : ℕ) → 0xC2 ≤ b → b < 0xE0 → utf8First b ≡ 1
-unfolding utf8First
-first-2 b h k = rw (le-ltb b 0x80 (omega arith), le-ltb b 0xC2 h, lt-ltb b 0xE0 k)
-
-first-3 : (b : ℕ) → 0xE0 < b → b < 0xF0 → (b ≡ 0xED → ⊥) → utf8First b ≡ 2
-unfolding utf8First
-first-3 b h k n =
-    let m : b ≡ 0xE0 → ⊥ = λ e. omega arith in
-    rw (le-ltb b 0x80 (omega arith), le-ltb b 0xC2 (omega arith), le-ltb b 0xE0 (omega arith), ne-eqb b 0xE0 m, ne-eqb b 0xED n, lt-ltb b 0xF0 k)
-
-first-4 : (b : ℕ) → 0xF0 < b → b < 0xF4 → utf8First b ≡ 3
-unfolding utf8First
-first-4 b h k =
-    let m : b ≡ 0xE0 → ⊥ = λ e. omega arith in
-    let n : b ≡ 0xED → ⊥ = λ e. omega arith in
-    let o : b ≡ 0xF0 → ⊥ = λ e. omega arith in
-    rw (le-ltb b 0x80 (omega arith), le-ltb b 0xC2 (omega arith), le-ltb b 0xE0 (omega arith), ne-eqb b 0xE0 m, ne-eqb b 0xED n, le-ltb b 0xF0 (omega arith), ne-eqb b 0xF0 o, lt-ltb b 0xF4 k)
-
--- a later byte, and what it has to lie in
-abbrev ranged : ℕ → ℕ → ℕ → ℕ → ℕ
-ranged lo hi r b = choose (ltb b lo) 8 (choose (ltb hi b) 8 r)
-
-in-range : (lo hi r b : ℕ) → lo ≤ b → b ≤ hi → ranged lo hi r b ≡ r
-in-range lo hi r b h k = rw (le-ltb b lo h, le-ltb hi b k)
-
--- in state q a byte from lo to hi leads to r, and any other to the end
-record Later (q lo hi r : ℕ) : Type 0 where
-  goes : (b : ℕ) → utf8Step q b ≡ ranged lo hi r b
-
--- Table 3-7: the later bytes by state, and the first bytes that stand alone
-record Table : Type 0 where
-  one : Later 1 0x80 0xBF 0
-  two : Later 2 0x80 0xBF 1
-  three : Later 3 0x80 0xBF 2
-  after-E0 : Later 4 0xA0 0xBF 1
-  after-ED : Later 5 0x80 0x9F 1
-  after-F0 : Later 6 0x90 0xBF 2
-  after-F4 : Later 7 0x80 0x8F 2
-  E0 : utf8First 0xE0 ≡ 4
-  ED : utf8First 0xED ≡ 5
-  F0 : utf8First 0xF0 ≡ 6
-  F4 : utf8First 0xF4 ≡ 7
-
-table : Table
-unfolding utf8First utf8Step utf8Low utf8High utf8Rest
-table = record {
-  one = record { goes = λ b. refl };
-  two = record { goes = λ b. refl };
-  three = record { goes = λ b. refl };
-  after-E0 = record { goes = λ b. refl };
-  after-ED = record { goes = λ b. refl };
-  after-F0 = record { goes = λ b. refl };
-  after-F4 = record { goes = λ b. refl };
-  E0 = refl;
-  ED = refl;
-  F0 = refl;
-  F4 = refl;
-}
-
-at-first : (b : ℕ) → utf8Step 0 b ≡ utf8First b
-unfolding utf8Step
-at-first b = refl
-
-first-1 : (b : ℕ) → b < 0x80 → utf8First b ≡ 0
-unfolding utf8First
-first-1 b h = rw (lt-ltb b 0x80 h)
-
--- bytes that begin nothing
-first-between : (b : ℕ) → 0x80 ≤ b → b < 0xC2 → utf8First b ≡ 8
-unfolding utf8First
-first-between b h k = rw (le-ltb b 0x80 h, lt-ltb b 0xC2 k)
-
--- Steps of the automaton
-run-first : {q : ℕ} (b : ℕ) (t : List ℕ) → utf8First b ≡ q → run utf8Step 0 (b ∷ t) ≡ run utf8Step q t
-unfolding run
-run-first b t h = ap (λ (j : ℕ). run utf8Step j t) (at-first b ∙ h)
-
-run-later : {q lo hi r : ℕ} → Later q lo hi r → (b : ℕ) (t : List ℕ) → lo ≤ b → b ≤ hi → run utf8Step q (b ∷ t) ≡ run utf8Step r t
-unfolding run
-run-later {q} {lo} {hi} {r} l b t h k = ap (λ (j : ℕ). run utf8Step j t) (l .goes b ∙ in-range lo hi r b h k)
-
--- An encoded scalar leads back to the start.
-accept-2 : (x y : ℕ) (t : List ℕ) → 2 ≤ x → x < 32 → y < 64 → run utf8Step 0 (encScalar (x * 64 + y) ++ t) ≡ run utf8Step 0 t
-accept-2 x y t h k l =
-    rw (encode-2 x y h k l)
-    (run-first (0xC0 + x) _ (first-2 (0xC0 + x) (omega arith) (omega arith)) ∙ run-later (table .one) (0x80 + y) t (omega arith) (omega arith))
-
-accept-3 : (x y z : ℕ) (t : List ℕ) → x < 16 → y < 64 → z < 64 → 0x800 ≤ x * 4096 + y * 64 + z → Scalar (x * 4096 + y * 64 + z)
-    → run utf8Step 0 (encScalar (x * 4096 + y * 64 + z) ++ t) ≡ run utf8Step 0 t
-accept-3 x y z t h k l m s =
-    rw (encode-3 x y z h k l m)
-    (is x 0
-    (λ e. let p : 0xE0 + x ≡ 0xE0 = omega arith in
-    run-first (0xE0 + x) _ (ap utf8First p ∙ table .E0) ∙ run-later (table .after-E0) (0x80 + y) _ (omega arith) (omega arith) ∙ last)
-    (λ n. is x 13
-    (λ e. let p : 0xE0 + x ≡ 0xED = omega arith in
-    run-first (0xE0 + x) _ (ap utf8First p ∙ table .ED) ∙ run-later (table .after-ED) (0x80 + y) _ (omega arith) (thirteen e s) ∙ last)
-    (λ o. let p : 0xE0 + x ≡ 0xED → ⊥ = λ e. o (omega arith) in
-    run-first (0xE0 + x) _ (first-3 (0xE0 + x) (omega arith) (omega arith) p) ∙ run-later (table .two) (0x80 + y) _ (omega arith) (omega arith) ∙ last)))
-  where
-    last : run utf8Step 1 ((0x80 + z) ∷ t) ≡ run utf8Step 0 t
-    last = run-later (table .one) (0x80 + z) t (omega arith) (omega arith)
-
-    thirteen : x ≡ 13 → Scalar (x * 4096 + y * 64 + z) → 0x80 + y ≤ 0x9F
-    thirteen e (low a) = omega arith
-    thirteen e (high a b) = absurd (omega arith)
-
-accept-4 : (w x y z : ℕ) (t : List ℕ) → x < 64 → y < 64 → z < 64 → 0x10000 ≤ w * 262144 + x * 4096 + y * 64 + z → w * 262144 + x * 4096 + y * 64 + z < 0x110000
-    → run utf8Step 0 (encScalar (w * 262144 + x * 4096 + y * 64 + z) ++ t) ≡ run utf8Step 0 t
-accept-4 w x y z t h k l m n =
-    rw (encode-4 w x y z h k l m)
-    (is w 0
-    (λ e. let p : 0xF0 + w ≡ 0xF0 = omega arith in
-    run-first (0xF0 + w) _ (ap utf8First p ∙ table .F0) ∙ run-later (table .after-F0) (0x80 + x) _ (omega arith) (omega arith) ∙ last)
-    (λ i. is w 4
-    (λ e. let p : 0xF0 + w ≡ 0xF4 = omega arith in
-    run-first (0xF0 + w) _ (ap utf8First p ∙ table .F4) ∙ run-later (table .after-F4) (0x80 + x) _ (omega arith) (omega arith) ∙ last)
-    (λ j. run-first (0xF0 + w) _ (first-4 (0xF0 + w) (omega arith) (omega arith)) ∙ run-later (table .three) (0x80 + x) _ (omega arith) (omega arith) ∙ last)))
-  where
-    last : run utf8Step 2 ((0x80 + y) ∷ (0x80 + z) ∷ t) ≡ run utf8Step 0 t
-    last = run-later (table .two) (0x80 + y) _ (omega arith) (omega arith) ∙ run-later (table .one) (0x80 + z) t (omega arith) (omega arith)
-
-scalar-below : (c : ℕ) → Scalar c → c < 0x110000
-scalar-below c (low a) = omega arith
-scalar-below c (high a b) = b
-
-accept : (c : ℕ) (t : List ℕ) → Scalar c → run utf8Step 0 (encScalar c ++ t) ≡ run utf8Step 0 t
-accept c t s =
-    let Goal : ℕ → Type 0 = λ d. run utf8Step 0 (encScalar d ++ t) ≡ run utf8Step 0 t in
-    below c 0x80 (λ h. rw (encode-1 c h) (run-first c t (first-1 c h))) (λ h.
-    below c 0x800
-    (λ k. let e : c / 64 * 64 + c % 64 ≡ c = omega arith in
-    subst Goal e (accept-2 (c / 64) (c % 64) t (omega arith) (omega arith) (omega arith)))
-    (λ k. below c 0x10000
-    (λ l. let e : c / 4096 * 4096 + c / 64 % 64 * 64 + c % 64 ≡ c = omega arith in
-    subst Goal e (accept-3 (c / 4096) (c / 64 % 64) (c % 64) t (omega arith) (omega arith) (omega arith) (omega arith) (subst Scalar (sym e) s)))
-    (λ l. let e : c / 262144 * 262144 + c / 4096 % 64 * 4096 + c / 64 % 64 * 64 + c % 64 ≡ c = omega arith in
-    let b : c < 0x110000 = scalar-below c s in
-    subst Goal e (accept-4 (c / 262144) (c / 4096 % 64) (c / 64 % 64) (c % 64) t (omega arith) (omega arith) (omega arith) (omega arith) (omega arith)))))
+use Rattle.decimals.proofs.Run.{run-stays}
+use Rattle.rules.proofs.WellFormed.{first-1, first-2, first-3, first-4, first-above, first-between, ranged, in-range, Later, Table, table, run-first, utf8-stays}
+use Rattle.scalars.proofs.Utf8.{below, is, low, high, encode-1, encode-2, encode-3, encode-4, accept}
+use Rattle.scalars.specs.Scalars.{Scalar, encScalar}
+use Rattle.layout.specs.Utf8.{encScalars, Coded}
 
 accept-all : (cs : List ℕ) → All Scalar cs → run utf8Step 0 (encAll encScalar cs) ≡ 0
 unfolding encAll run
@@ -215,7 +30,7 @@ utf8-complete cs h = eq-eqb _ 0 (accept-all cs h)
 
 -- Back: a run that ends between scalars.
 dead : (t : List ℕ) → run utf8Step 8 t ≡ 8
-dead t = run-end utf8Step 8 utf8-stays utf8-out t
+dead t = run-stays utf8Step 8 utf8-stays t
 
 no-more : {Z : Type 0} (t : List ℕ) → run utf8Step 8 t ≡ 0 → Z
 no-more t h = let z : _≡_ {A = ℕ} 8 0 = sym (dead t) ∙ h in absurd (omega arith)

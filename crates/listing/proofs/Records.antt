@@ -5,16 +5,18 @@ use mathlib.Core.List.{List, [], _∷_, _++_, append-nil, append-assoc}
 use Prim.Native.Nat.{ℕ, _+_, _-_, _≤_, _<_}
 use native.Mathlib.Omega.{arith}
 use lib.ListN.{length, getD, drop, take, length-append}
-use lib.Dec.{eqb, leb}
+use lib.Dec.{eqb}
 use borrow.Author.Tests.{eq-eqb, ne-eqb, le-leb}
+use Rattle.records.specs.declared.Next.{Next}
 use Rattle.records.specs.declared.Next.the-variants as next
+use Rattle.records.specs.Relations.Answer.{nextOf}
 use Rattle.records.specs.Got.{got, bad}
 use Rattle.records.specs.Bytes.{part, byteAt, numberAt, spanAt, toBe}
 use Rattle.records.specs.Encode.{encAll, encWhole}
 use Rattle.records.specs.Errors.{Error, overriding, encError, encErrors}
 use Rattle.records.specs.Decode.{many}
 use Rattle.records.specs.Images.{Kind, Entry, maxImage, entryAt, resourceOf}
-use Rattle.records.proofs.Views.{both, never, many-cons, many-nil}
+use Rattle.records.proofs.Views.{both, never, many-nil}
 use Rattle.buffers.specs.Relations.Append.{over}
 use Rattle.texts.specs.Relations.Report.{kindOf, recorded, roomFor, header, headed}
 use Rattle.buffers.specs.declared.Wrote.{Wrote}
@@ -22,7 +24,7 @@ use Rattle.buffers.specs.declared.Wrote.the-variants as wrote
 use Rattle.buffers.proofs.Place.{over-none, then-over, length-over, attempt-no}
 use Rattle.texts.proofs.Recording.{recorded-at, room-by-size, length-u32, headed-done}
 use Rattle.listing.specs.declared.Tally.{Tally}
-use Rattle.entries.specs.Relations.Meets.{Passes, behind}
+use Rattle.entries.specs.Outline.{behind, entryOutline}
 use Rattle.entries.specs.Repeats.{repeatIf}
 use Rattle.entries.specs.Relations.Marked.{marked}
 use Rattle.listing.specs.Relations.Tallies.{counted, Tallies}
@@ -30,7 +32,7 @@ use Rattle.listing.specs.declared.Listed.the-variants as listed
 use Rattle.listing.specs.Relations.Lists.{kindBy, recordOf, ListsEntry, Lists, lists-all, lists-short}
 use Rattle.entries.proofs.Open.{entry-parts, entry-kind, whole-resource}
 use Rattle.entries.proofs.Lengths.{id-short}
-use Rattle.entries.proofs.Walk.{not-read, end-of}
+use Rattle.entries.proofs.Decoded.{first-endless, turn-ends}
 use Rattle.listing.proofs.Tallying.{enc-repeat, one-size, marked-size}
 use lib.Seq.{length-take-le, drop-at}
 use Rattle.growth.specs.Items.{atFront}
@@ -103,25 +105,23 @@ module _ (image marks : List ℕ) where
   unfolding marked encAll
   list-none {n} {k} {at} {to} {list} z = record { says = λ es f q l b. many-nil [] _∷_ entryAt image n at z q (λ el _. rw el (sym (over-none list to))) }
 
-  pub list-stuck : {n k at to : ℕ} {list out : List ℕ} → 0 < n → Passes (entryAt image at) next.Bad → ListFrom n k at list to out
-  list-stuck {n} {k} {at} z w = record { says = λ es f q l b. many-cons [] _∷_ entryAt image n at z q (λ x e r hx _ _. not-read w x e hx) }
+  pub list-stuck : {n k at to : ℕ} {list out : List ℕ} {o : Next} → 0 < n → o ≡ nextOf (entryOutline image at) → o ≡ next.Bad → ListFrom n k at list to out
+  list-stuck {n} {k} {at} z is b = record { says = λ es f q l _. first-endless image n at z q is b }
 
-  pub list-next : (count : ℕ) {k at i to to′ : ℕ} {list list′ out : List ℕ} → k < count → ListsEntry image at (getD marks k 0) list to to′ list′
-      → Passes (entryAt image at) (next.At i) → ListFrom (count - (k + 1)) (k + 1) i list′ to′ out → ListFrom (count - k) k at list to out
+  pub list-next : (count : ℕ) {k at i to to′ : ℕ} {list list′ out : List ℕ} {o : Next} → k < count → ListsEntry image at (getD marks k 0) list to to′ list′
+      → o ≡ nextOf (entryOutline image at) → o ≡ next.At i → ListFrom (count - (k + 1)) (k + 1) i list′ to′ out → ListFrom (count - k) k at list to out
   unfolding marked
-  list-next count {k} {at} {i} {to} {to′} {list} {list′} {out} lt y w rest = record {
+  list-next count {k} {at} {i} {to} {to′} {list} {list′} {out} lt y is w rest = record {
     says = λ es f q l b.
-        many-cons [] _∷_ entryAt image (count - k) at (omega arith) q (λ x j es′ hx hl el.
-        let ej : j ≡ i = end-of w x j hx in
-        let ec : count - k - 1 ≡ count - (k + 1) = omega arith in
+        turn-ends image count k at lt q is w (λ x es′ hx hl el.
         let en : encAll encError (marked marks k es) ≡ recordOf (getD marks k 0) x ++ encAll encError (marked marks (k + 1) es′) =
         ap (λ (t : List Entry). encAll encError (marked marks k t)) el ∙ enc-repeat (eqb (getD marks k 0) 1) x (marked marks (k + 1) es′) in
         let ln : length (encAll encError (marked marks k es)) ≡ length (recordOf (getD marks k 0) x) + length (encAll encError (marked marks (k + 1) es′)) =
         ap length en ∙ length-append (recordOf (getD marks k 0) x) (encAll encError (marked marks (k + 1) es′)) in
-        let g = y .lists x j hx (omega arith) (omega arith) in
+        let g = y .lists x i hx (omega arith) (omega arith) in
         let g0 = g .0 in
         let sm = y .same in
-        let ih = rest .says es′ f (rw (← ec, ← ej) hl) (omega arith) (omega arith) in
+        let ih = rest .says es′ f hl (omega arith) (omega arith) in
         ih ∙ then-over list to (recordOf (getD marks k 0) x) (encAll encError (marked marks (k + 1) es′)) (g .1) g0 (omega arith) ∙ ap (over list to) (sym en));
   }
 

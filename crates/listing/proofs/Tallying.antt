@@ -7,7 +7,9 @@ use native.Mathlib.Omega.{arith}
 use lib.ListN.{length, getD, length-append}
 use lib.Dec.{eqb}
 use borrow.Author.Tests.{eq-eqb, ne-eqb}
+use Rattle.records.specs.declared.Next.{Next}
 use Rattle.records.specs.declared.Next.the-variants as next
+use Rattle.records.specs.Relations.Answer.{nextOf}
 use Rattle.records.specs.Got.{got, bad}
 use Rattle.records.specs.Bytes.{numberAt, spanAt}
 use Rattle.records.specs.Encode.{encAll}
@@ -17,12 +19,12 @@ use Rattle.records.specs.Images.{Entry, maxImage, entryAt, resourceOf}
 use Rattle.records.proofs.Views.{both, never, many-cons, many-nil}
 use Rattle.texts.proofs.Recording.{overriding-length}
 use Rattle.listing.specs.declared.Tally.{Tally}
-use Rattle.entries.specs.Relations.Meets.{Passes, behind}
+use Rattle.entries.specs.Outline.{behind, entryOutline}
 use Rattle.entries.specs.Repeats.{repeatIf}
 use Rattle.entries.specs.Relations.Marked.{marked}
 use Rattle.listing.specs.Relations.Tallies.{counted, Tallied, Tallies}
-use Rattle.entries.proofs.Open.{entry-parts, whole-resource}
-use Rattle.entries.proofs.Walk.{not-read, end-of}
+use Rattle.entries.proofs.Open.{whole-resource}
+use Rattle.entries.proofs.Decoded.{first-unread, first-endless, turn-ends}
 use Rattle.entries.proofs.Lengths.{id-length, entry-size}
 
 -- records of entries
@@ -73,20 +75,18 @@ module _ (image marks : List ℕ) where
   tally-none {n} {k} {at} {t} z = record { says = λ es f q. many-nil [] _∷_ entryAt image n at z q (λ el _. rw el (omega arith, omega arith)) }
 
   pub tally-bad : {n k at : ℕ} {t r : Tally} → 0 < n → behind 1 spanAt image at ≡ bad → TallyFrom n k at t r
-  tally-bad {n} {k} {at} z h = record { says = λ es f q. many-cons [] _∷_ entryAt image n at z q (λ x e r hx _ _. entry-parts image at hx (λ a i j hi _ _ _. never h hi)) }
+  tally-bad {n} {k} {at} z h = record { says = λ es f q. first-unread image n at z q h }
 
-  pub tally-stuck : {n k at : ℕ} {t r : Tally} → 0 < n → Passes (entryAt image at) next.Bad → TallyFrom n k at t r
-  tally-stuck {n} {k} {at} z w = record { says = λ es f q. many-cons [] _∷_ entryAt image n at z q (λ x e r hx _ _. not-read w x e hx) }
+  pub tally-stuck : {n k at : ℕ} {t r : Tally} {o : Next} → 0 < n → o ≡ nextOf (entryOutline image at) → o ≡ next.Bad → TallyFrom n k at t r
+  tally-stuck {n} {k} {at} z is b = record { says = λ es f q. first-endless image n at z q is b }
 
-  pub tally-next : (count : ℕ) {k at a e i : ℕ} {t t′ r : Tally} → k < count → behind 1 spanAt image at ≡ got a e → Tallied t (getD marks k 0) (e - a) t′
-      → Passes (entryAt image at) (next.At i) → TallyFrom (count - (k + 1)) (k + 1) i t′ r → TallyFrom (count - k) k at t r
+  pub tally-next : (count : ℕ) {k at a e i : ℕ} {t t′ r : Tally} {o : Next} → k < count → behind 1 spanAt image at ≡ got a e → Tallied t (getD marks k 0) (e - a) t′
+      → o ≡ nextOf (entryOutline image at) → o ≡ next.At i → TallyFrom (count - (k + 1)) (k + 1) i t′ r → TallyFrom (count - k) k at t r
   unfolding marked
-  tally-next count {k} {at} {a} {e} {i} {t} {t′} {r} lt h y w rest = record {
+  tally-next count {k} {at} {a} {e} {i} {t} {t′} {r} lt h y is w rest = record {
     says = λ es f q.
-        many-cons [] _∷_ entryAt image (count - k) at (omega arith) q (λ x j es′ hx hl el.
-        let ej : j ≡ i = end-of w x j hx in
-        let ec : count - k - 1 ≡ count - (k + 1) = omega arith in
-        let ih = rest .says es′ f (rw (← ec, ← ej) hl) in
+        turn-ends image count k at lt q is w (λ x es′ hx hl el.
+        let ih = rest .says es′ f hl in
         let i0 = ih .0 in let i1 = ih .1 in
         let y0 = y .count in
         let y1 : t′ .size ≡ t .size + counted (eqb (getD marks k 0) 1) (6 + length (x .id)) = y .size ∙ ap (λ (n : ℕ). t .size + counted (eqb (getD marks k 0) 1) (6 + n)) (sym (id-length image at h hx)) in

@@ -15,6 +15,7 @@ use Rattle.decimals.specs.Bytes.{run, choose, digit}
 use Rattle.decimals.specs.Decimal.{Options, Number, orZero, digitsLimit}
 use Rattle.literals.specs.Literal.{numberStep, digitCount, isNumber, Read, oneMore, readSign, readDot, readDigit, readStep, readFrom, readStart, readNumber, withFraction, literal}
 use Rattle.decimals.proofs.Tests.{and-true}
+use Rattle.decimals.proofs.Run.{run-stays}
 
 -- a turn of the loop that reads, and its end
 read-more : (s : List ℕ) (i : ℕ) (r : Read) → i < length s → readFrom (drop i s) r ≡ readFrom (drop (i + 1) s) (readStep r (getD s i 0))
@@ -43,7 +44,8 @@ pub record Fine (r : Read) (l : List ℕ) : Type 0 where
   pub places : orZero (r .fraction) + digitCount l ≤ 15
   pub bytes : spelled l ≡ true
 
-stuck : (b : ℕ) → numberStep 5 b ≡ 5
+-- what is no literal stays none
+pub stuck : (b : ℕ) → numberStep 5 b ≡ 5
 unfolding numberStep
 stuck b = go (digit b) (eqb b 45) (eqb b 46)
   where
@@ -54,9 +56,7 @@ stuck b = go (digit b) (eqb b 45) (eqb b 46)
     go false false false = refl
 
 pub stuck-all : (l : List ℕ) → run numberStep 5 l ≡ 5
-unfolding run
-stuck-all [] = refl
-stuck-all (b ∷ l) = rw (stuck b) (stuck-all l)
+stuck-all l = run-stays numberStep 5 stuck l
 
 no-good : (q b : ℕ) → good b ≡ false → numberStep q b ≡ 5
 unfolding numberStep good
@@ -91,13 +91,13 @@ fine-start s h =
     never : (eqb 5 2 || eqb 5 4) ≡ true → ⊥
     never e = let z : _≡_ {A = Bool} false true = e in let y : _≡_ {A = ℕ} 0 1 = cc in omega arith
 
-more-places : (f : Option ℕ) → orZero (oneMore f) ≤ orZero f + 1
+pub more-places : (f : Option ℕ) → orZero (oneMore f) ≤ orZero f + 1
 unfolding orZero oneMore
 more-places none = omega arith
 more-places (some k) = omega arith
 
 -- a digit's bounds
-digit-bounds : (b : ℕ) → digit b ≡ true → (48 ≤ b) × (b ≤ 57)
+pub digit-bounds : (b : ℕ) → digit b ≡ true → (48 ≤ b) × (b ≤ 57)
 unfolding digit
 digit-bounds b h = let a = and-true _ _ h in (leb-true _ _ (a .0), leb-true _ _ (a .1))
 

@@ -12,6 +12,7 @@ use Rattle.decimals.specs.Bytes.{run, choose, digit}
 use Rattle.literals.specs.Literal.{numberStep, digitCount, isNumber}
 use Rattle.literals.specs.Spelling.{allDigits, Digits, minus, dotted, Dotted, places, Spelt}
 use Rattle.decimals.proofs.Tests.{and-true}
+use Rattle.decimals.proofs.Run.{run-append}
 use Rattle.literals.proofs.Reading.{number-shape, stuck-all}
 
 -- the states in which a literal may end
@@ -28,11 +29,6 @@ onDigit q = choose (ltb q 3) 2 (choose (ltb q 5) 4 5)
 step-digit : (q b : ℕ) → digit b ≡ true → numberStep q b ≡ onDigit q
 unfolding numberStep
 step-digit q b h = rw h
-
-run-append : (q : ℕ) (a b : List ℕ) → run numberStep q (a ++ b) ≡ run numberStep (run numberStep q a) b
-unfolding run
-run-append q [] b = refl
-run-append q (x ∷ a) b = run-append (numberStep q x) a b
 
 count-append : (a b : List ℕ) → digitCount (a ++ b) ≡ digitCount a + digitCount b
 unfolding digitCount
@@ -89,8 +85,8 @@ parts : (n : Bool) (w : List ℕ) (f : Option (List ℕ)) → Digits w → Dotte
 unfolding isNumber
 parts n w f h d k =
     let shape : run numberStep 0 (minus n ++ (w ++ dotted f)) ≡ run numberStep 2 (dotted f) =
-    run-append 0 (minus n) (w ++ dotted f)
-    ∙ run-append (run numberStep 0 (minus n)) w (dotted f)
+    run-append numberStep 0 (minus n) (w ++ dotted f)
+    ∙ run-append numberStep (run numberStep 0 (minus n)) w (dotted f)
     ∙ ap (λ (q : ℕ). run numberStep q (dotted f)) (from-sign n w h) in
     let few : digitCount (minus n ++ (w ++ dotted f)) ≤ 15 = omega (arith, count-parts n w f (h .each) d, k) in
     both _ _ (ap ended shape ∙ from-dot f d) (le-leb _ 15 few)

@@ -1,4 +1,5 @@
 // Number literals.
+use decimals::bytes::is_digit;
 use decimals::types::Count;
 use decimals::types::Display;
 use decimals::types::Kind;
@@ -18,15 +19,6 @@ ghost use Rattle.literals.specs.Relations.Shown.{literalOf, toldRead};
 pub enum Literal {
     Is(Number),
     Bad,
-}
-
-fn is_digit(b: u8) -> bool
-    ensures { λ r. ⌜ r ≡ digit b ⌝ }
-{
-    if b < 48 {
-        return false;
-    }
-    b <= 57
 }
 
 fn number_step(q: u8, b: u8) -> u8
@@ -56,7 +48,7 @@ fn count_step(n: usize, b: u8) -> usize
     if is_digit(b) { n + 1 } else { n }
 }
 
-// Is a text a number literal.
+// Are these the bytes of a number literal?
 pub fn is_number(s: &[u8]) -> bool
     ensures { λ r. ⌜ r ≡ isNumber (now (s .entry)) ⌝ }
 {

@@ -3,4 +3,5 @@ pub mod Tests
 pub mod Places
 pub mod Merging
 pub mod Equality
+pub mod Exactly
 pub mod Examples

@@ -23,7 +23,7 @@ sameText none (some b) = false
 sameText (some a) none = false
 sameText (some a) (some b) = sameBytes a b
 
--- "all ten options": the first five
+-- the first five options
 unfoldable pub sameWords : Options → Options → Bool
 sameWords a b =
     eqb (kindNumber (a .kind)) (kindNumber (b .kind))
@@ -41,6 +41,7 @@ sameCounts a b =
     && (sameCount (a .minimumSignificantDigits) (b .minimumSignificantDigits)
     && sameCount (a .maximumSignificantDigits) (b .maximumSignificantDigits))))
 
+-- "all ten options"
 unfoldable pub sameOptions : Options → Options → Bool
 sameOptions a b = sameWords a b && sameCounts a b
 
@@ -50,5 +51,6 @@ sameValue a b =
     eqb (a .digits * 10 ^ (b .scale)) (b .digits * 10 ^ (a .scale))
     && (eqb (a .digits) 0 || sameFlag (a .negative) (b .negative))
 
+-- "Equality compares value (-0 equals 0) and all ten options": not the value alone, as 5 and 5.0 differ in their minimum fraction digits
 unfoldable pub sameNumber : Number → Number → Bool
 sameNumber a b = sameValue a b && sameOptions (a .options) (b .options)

@@ -109,7 +109,7 @@ fn same_value(a: Number, b: Number) -> bool
     same_flag(a.negative, b.negative)
 }
 
-// Does a literal key equal a number.
+// Are two numbers equal: in value (-0 equals 0) and in all ten options?
 pub fn same_number(a: Number, b: Number) -> bool
     ensures { λ r. ⌜ r ≡ sameNumber (told a) (told b) ⌝ }
 {

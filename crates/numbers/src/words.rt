@@ -5,7 +5,7 @@ ghost use mathlib.Core.List.{[]};
 ghost use Rattle.numbers.specs.Relations.Places.{placeFrom};
 
 // The place of a word in a list, from 0, where each word has a comma after it; the number of words where it is none of them.
-pub fn place_in(word: &[u8], list: &[u8]) -> usize
+pub(crate) fn place_in(word: &[u8], list: &[u8]) -> usize
     ensures { λ r. ⌜ r ≡ placeFrom (now (word .entry)) [] (now (list .entry)) ⌝ }
 {
     let mut n = 0usize;

@@ -5,14 +5,13 @@ ghost use Rattle.records.specs.Tree.{no-variant, or};
 ghost use Rattle.records.specs.Decode.{many, elementAt, elementsAt, patternAt, variantAt, inlinesAt, argumentsAt, termAt, selectAt, inlineBody, expression, inline};
 use records::Next;
 use records::Num;
+use records::Rule;
 use records::check_flag;
 use records::check_id;
 use records::check_key;
 use records::check_named_arguments;
-use records::check_number;
 use records::check_optional_id;
-use records::check_string;
-use records::check_text;
+use records::check_ruled;
 use records::read_byte;
 use records::read_u16;
 use records::read_u32;
@@ -67,7 +66,7 @@ fn check_element(s: &[u8], at: usize, depth: usize) -> Next
         return Next::Bad;
     };
     if tag == 1 {
-        check_text(s, e)
+        check_ruled(s, e, Rule::Text)
     } else if tag == 2 {
         check_expression(s, e, depth)
     } else {
@@ -75,7 +74,7 @@ fn check_element(s: &[u8], at: usize, depth: usize) -> Next
     }
 }
 
-pub fn check_expression(s: &[u8], at: usize, depth: usize) -> Next
+pub(crate) fn check_expression(s: &[u8], at: usize, depth: usize) -> Next
     ensures { λ r. ⌜ r ≡ nextOf (expression depth (now (s .entry)) at) ⌝ }
 {
     if depth == 0 {
@@ -91,7 +90,7 @@ pub fn check_expression(s: &[u8], at: usize, depth: usize) -> Next
     }
 }
 
-pub fn check_inline(s: &[u8], at: usize, depth: usize) -> Next
+pub(crate) fn check_inline(s: &[u8], at: usize, depth: usize) -> Next
     ensures { λ r. ⌜ r ≡ nextOf (inline depth (now (s .entry)) at) ⌝ }
 {
     if depth == 0 {
@@ -108,10 +107,10 @@ fn check_body(s: &[u8], at: usize, tag: usize, depth: usize) -> Next
     ensures { λ r. ⌜ r ≡ nextOf (inlineBody (expression depth) (inline depth) tag (now (s .entry)) at) ⌝ }
 {
     if tag == 1 {
-        return check_string(s, at);
+        return check_ruled(s, at, Rule::String);
     }
     if tag == 2 {
-        return check_number(s, at);
+        return check_ruled(s, at, Rule::Number);
     }
     if tag == 3 {
         let Next::At(q) = check_id(s, at) else {

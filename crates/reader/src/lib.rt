@@ -1,8 +1,7 @@
 // A reader of records carries its image along with its position.
 //
 // Each function over a `Reader` takes it apart and leaves the work to a function on the image and the position, which the borrow checker covers: those of
-// `records`, and the ones at the end of this file. Other crates call `read_marked`, `read_header` and `read_size`, whose parameters are a plain slice and
-// a number.
+// `records`, and the ones at the end of this file. Other crates call `read_marked` and `read_size`, whose parameters are a plain slice and a number.
 ghost use mathlib.Core.Path.{_≡_};
 ghost use Prim.Native.Nat.{_-_};
 ghost use lib.ListN.{length};
@@ -33,53 +32,53 @@ pub struct Sized {
 
 // == Over a reader
 
-pub fn new<'a>(image: &'a [u8], at: usize) -> Reader<'a>
+pub(crate) fn new<'a>(image: &'a [u8], at: usize) -> Reader<'a>
     ensures { λ r. ⌜ (r .image ≡ image .entry) × (r .at ≡ at) ⌝ }
 {
     Reader { image, at }
 }
 
-pub fn position<'a>(r: Reader<'a>) -> usize
+pub(crate) fn position<'a>(r: Reader<'a>) -> usize
     ensures { λ n. ⌜ n ≡ r .entry .at ⌝ }
 {
     r.at
 }
 
 // How many bytes are left: none past the end.
-pub fn left<'a>(r: Reader<'a>) -> usize
+pub(crate) fn left<'a>(r: Reader<'a>) -> usize
     ensures { λ n. ⌜ n ≡ length (now (r .entry .image)) - r .entry .at ⌝ }
 {
     left_at(r.image, r.at)
 }
 
 // A byte as a number, and the position past it.
-pub fn read_byte<'a>(r: Reader<'a>) -> Num
+pub(crate) fn read_byte<'a>(r: Reader<'a>) -> Num
     ensures { λ n. ⌜ n ≡ numOf (byteAt (now (r .entry .image)) (r .entry .at)) ⌝ }
 {
     records::read_byte(r.image, r.at)
 }
 
-pub fn read_u16<'a>(r: Reader<'a>) -> Num
+pub(crate) fn read_u16<'a>(r: Reader<'a>) -> Num
     ensures { λ n. ⌜ n ≡ numOf (numberAt 2 (now (r .entry .image)) (r .entry .at)) ⌝ }
 {
     records::read_u16(r.image, r.at)
 }
 
-pub fn read_u32<'a>(r: Reader<'a>) -> Num
+pub(crate) fn read_u32<'a>(r: Reader<'a>) -> Num
     ensures { λ n. ⌜ n ≡ numOf (numberAt 4 (now (r .entry .image)) (r .entry .at)) ⌝ }
 {
     records::read_u32(r.image, r.at)
 }
 
 // A Str as a part of the image: where its bytes start, and the position past them.
-pub fn read_str<'a>(r: Reader<'a>) -> Num
+pub(crate) fn read_str<'a>(r: Reader<'a>) -> Num
     ensures { λ n. ⌜ n ≡ numOf (spanAt (now (r .entry .image)) (r .entry .at)) ⌝ }
 {
     records::read_str(r.image, r.at)
 }
 
 // The reader past what was read; where that was malformed it stays.
-pub fn past<'a>(r: Reader<'a>, read: Num) -> Reader<'a>
+pub(crate) fn past<'a>(r: Reader<'a>, read: Num) -> Reader<'a>
     ensures { λ q. ⌜ (q .image ≡ r .entry .image) × (q .at ≡ endOf read (r .entry .at)) ⌝ }
 {
     let at = end_of(read, r.at);
@@ -98,19 +97,6 @@ pub fn read_marked(image: &[u8], at: usize) -> Row
     let second = read_byte(b);
     let c = past(b, second);
     let third = read_str(c);
-    row_of(first, second, third)
-}
-
-// A u32, a byte and a u16: how an image starts, its length, its version and its count.
-pub fn read_header(image: &[u8], at: usize) -> Row
-    ensures { λ r. ⌜ r ≡ rowAt (numberAt 4) byteAt (numberAt 2) (now (image .entry)) at ⌝ }
-{
-    let a = new(image, at);
-    let first = read_u32(a);
-    let b = past(a, first);
-    let second = read_byte(b);
-    let c = past(b, second);
-    let third = read_u16(c);
     row_of(first, second, third)
 }
 

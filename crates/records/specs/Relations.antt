@@ -1,2 +1,5 @@
 -- Relations between what the code holds and the definitions: contracts and proofs cite them, no definition rests on them.
 pub mod Answer
+pub mod Write
+pub mod Rule
+pub mod Head

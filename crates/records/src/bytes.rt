@@ -2,16 +2,12 @@
 ghost use mathlib.Core.Path.{_≡_};
 ghost use Prim.Native.Nat.{_+_, _≤_, _<_};
 ghost use lib.ListN.{length};
+ghost use lib.Dec.{leb};
 ghost use Rattle.records.specs.Relations.Answer.{nextOf, numOf};
 ghost use Rattle.records.specs.Bytes.{be, part, byteAt, numberAt, spanAt, strAt, bytesAt};
 use crate::Next;
 use crate::Num;
-
-fn wide(x: u8) -> usize
-    ensures { λ r. ⌜ (r ≡ x) × (r < 256) ⌝ }
-{
-    x as usize
-}
+use decimals::bytes::wide;
 
 // A byte as a number, and the position past it.
 pub fn read_byte(s: &[u8], at: usize) -> Num
@@ -35,7 +31,7 @@ fn two(s: &[u8], at: usize) -> usize
 }
 
 // Four bytes as a number.
-pub fn four(s: &[u8], at: usize) -> usize
+fn four(s: &[u8], at: usize) -> usize
     requires { ⌜ at + 4 ≤ length (now s) ⌝ }
     ensures { λ r. ⌜ (r ≡ be (part (now (s .entry)) at 4)) × (r < 4294967296) ⌝ }
 {
@@ -44,43 +40,56 @@ pub fn four(s: &[u8], at: usize) -> usize
     high * 65536 + low
 }
 
+// Do n bytes from `at` on lie in a slice of `size` bytes?
+pub fn has_bytes(size: usize, at: usize, n: usize) -> bool
+    ensures { λ r. ⌜ r ≡ leb (at + n) size ⌝ }
+{
+    if size < n {
+        return false;
+    }
+    at <= size - n
+}
+
 // A u16, the high byte first.
 pub fn read_u16(s: &[u8], at: usize) -> Num
     ensures { λ r. ⌜ r ≡ numOf (numberAt 2 (now (s .entry)) at) ⌝ }
 {
-    if s.len() < 2 {
-        return Num::Bad;
+    if has_bytes(s.len(), at, 2) {
+        return Num::At(two(s, at), at + 2);
     }
-    if s.len() - 2 < at {
-        return Num::Bad;
-    }
-    Num::At(two(s, at), at + 2)
+    Num::Bad
 }
 
 // A u32, the high byte first.
 pub fn read_u32(s: &[u8], at: usize) -> Num
     ensures { λ r. ⌜ r ≡ numOf (numberAt 4 (now (s .entry)) at) ⌝ }
 {
-    if s.len() < 4 {
-        return Num::Bad;
+    if has_bytes(s.len(), at, 4) {
+        return Num::At(four(s, at), at + 4);
     }
-    if s.len() - 4 < at {
-        return Num::Bad;
+    Num::Bad
+}
+
+// A u64, the high byte first.
+pub fn read_u64(s: &[u8], at: usize) -> Num
+    ensures { λ r. ⌜ r ≡ numOf (numberAt 8 (now (s .entry)) at) ⌝ }
+{
+    if has_bytes(s.len(), at, 8) {
+        let high = four(s, at);
+        let low = four(s, at + 4);
+        return Num::At(high * 4294967296 + low, at + 8);
     }
-    Num::At(four(s, at), at + 4)
+    Num::Bad
 }
 
 // Past n bytes.
 pub fn skip_bytes(s: &[u8], at: usize, n: usize) -> Next
     ensures { λ r. ⌜ r ≡ nextOf (bytesAt n (now (s .entry)) at) ⌝ }
 {
-    if s.len() < n {
-        return Next::Bad;
+    if has_bytes(s.len(), at, n) {
+        return Next::At(at + n);
     }
-    if s.len() - n < at {
-        return Next::Bad;
-    }
-    Next::At(at + n)
+    Next::Bad
 }
 
 // Where the bytes of a Str start, and the position past them.

@@ -64,7 +64,7 @@ fn name_among(s: &[u8], from: usize, count: usize, p: usize, e: usize) -> bool
         let Num::At(q, f) = read_str(s, at) else {
             return false;
         };
-        if rules::same_bytes(&s[p..e], &s[q..f]) {
+        if decimals::bytes::same_bytes(&s[p..e], &s[q..f]) {
             return true;
         }
         let Next::At(g) = skip_literal(s, f) else {

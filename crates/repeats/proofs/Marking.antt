@@ -2,7 +2,6 @@
 use mathlib.Core.Path.{_≡_, refl, ap, sym, subst, _∙_}
 use mathlib.Core.Bool.{Bool, true, false, _||_}
 use mathlib.Core.List.{List, [], _∷_, _++_}
-use mathlib.Core.Option.{Option}
 use Prim.Native.Nat.{ℕ, zero, suc, _+_, _-_, _≤_, _<_}
 use native.Mathlib.Numerals.{add-one}
 use native.Mathlib.Omega.{arith}
@@ -13,29 +12,21 @@ use borrow.Author.Tests.{eq-eqb, ne-eqb}
 use Rattle.records.specs.declared.Next.{Next}
 use Rattle.records.specs.declared.Next.the-variants as next
 use Rattle.records.specs.Got.{got, bad, Parser}
+use Rattle.records.specs.Relations.Answer.{nextOf}
 use Rattle.records.specs.Bytes.{part, numberAt, spanAt}
-use Rattle.rules.specs.Same.{sameBytes}
+use Rattle.decimals.specs.Bytes.{sameBytes}
 use Rattle.records.specs.Decode.{many}
 use Rattle.records.specs.Images.{Entry, Store, isSome, entryAt, storeOf, resourceOf}
 use Rattle.records.proofs.Laws.{after-is, after-elim, got-elim}
-use Rattle.records.proofs.Views.{both, never, as-elim, many-cons, many-nil}
-use Rattle.entries.specs.Lookup.{Holder, Find, orElse, onlyNamed, firstEntry, findIn}
-use Rattle.entries.specs.Relations.Meets.{Passes, behind, EntryAt, entry-at, no-entry}
+use Rattle.records.proofs.Views.{both, never, as-elim, many-nil}
+use Rattle.entries.specs.Lookup.{Holder, Find, firstEntry, findIn}
+use Rattle.records.specs.Optional.{orElse, optionOf}
+use Rattle.entries.specs.Outline.{behind, entryOutline}
 use Rattle.entries.specs.Repeats.{isHeld, repeatIf, repeatsFrom, repeats}
 use Rattle.repeats.specs.Relations.Seen.{seenAfter}
 use Rattle.entries.specs.Relations.Marked.{marked}
-use Rattle.entries.proofs.Open.{entry-parts, whole-resource}
-use Rattle.entries.proofs.Walk.{not-read, end-of}
-
-pub among-is : {s : List ℕ} {o : Option Holder} {r : Next} {q : ℕ} → EntryAt s o r → r ≡ next.At q → true ≡ isSome o
-unfolding isSome
-among-is (entry-at q e f h w k) n = rw w
-among-is {r = r} {q = q} (no-entry h w) n = let z : _≡_ {A = ℕ} 0 1 = cc in absurd (omega arith)
-
-pub among-not : {s : List ℕ} {o : Option Holder} {r : Next} → EntryAt s o r → r ≡ next.Bad → false ≡ isSome o
-unfolding isSome
-among-not {r = r} (entry-at q e f h w k) n = let z : _≡_ {A = ℕ} 0 1 = cc in absurd (omega arith)
-among-not (no-entry h w) n = rw w
+use Rattle.entries.proofs.Open.{whole-resource}
+use Rattle.entries.proofs.Decoded.{first-unread, first-endless, turn-ends, id-there}
 
 or-true : (b : Bool) → b || true ≡ true
 or-true true = refl
@@ -43,11 +34,11 @@ or-true false = refl
 
 -- held after entries: by one of them, or before
 pub held-after : (find : Find) (seen : List (List ℕ)) (pre : List Entry) (i : List ℕ) → isHeld find (seenAfter seen pre) i ≡ isSome (firstEntry i pre) || isHeld find seen i
-unfolding seenAfter isHeld firstEntry isSome onlyNamed orElse
+unfolding seenAfter isHeld firstEntry isSome optionOf orElse
 held-after find seen [] i = refl
 held-after find seen (e ∷ es) i = held-after find (e .id ∷ seen) es i ∙ go (sameBytes (e .id) i)
   where
-    go : (b : Bool) → isSome (firstEntry i es) || (b || isHeld find seen i) ≡ isSome (orElse (onlyNamed b (Holder.entry e)) (firstEntry i es)) || isHeld find seen i
+    go : (b : Bool) → isSome (firstEntry i es) || (b || isHeld find seen i) ≡ isSome (orElse (optionOf b (Holder.entry e)) (firstEntry i es)) || isHeld find seen i
     go true = or-true (isSome (firstEntry i es))
     go false = refl
 
@@ -91,25 +82,22 @@ module _ (s image : List ℕ) (start : ℕ) (R : Store → Type 0) where
   marks-none n k at marks z st u hs rs pre hp es f q = many-nil [] _∷_ entryAt image n at z q (λ el _. (rw el, λ j h. refl))
 
   pub marks-bad : (n k at : ℕ) (marks out : List ℕ) → 0 < n → behind 1 spanAt image at ≡ bad → MarkFrom n k at marks out
-  marks-bad n k at marks out z h st u hs rs pre hp es f q = many-cons [] _∷_ entryAt image n at z q (λ x e r hx _ _. entry-parts image at hx (λ a i j hi _ _ _. never h hi))
+  marks-bad n k at marks out z h st u hs rs pre hp es f q = first-unread image n at z q h
 
-  pub marks-stuck : (n k at : ℕ) (marks out : List ℕ) → 0 < n → Passes (entryAt image at) next.Bad → MarkFrom n k at marks out
-  marks-stuck n k at marks out z w st u hs rs pre hp es f q = many-cons [] _∷_ entryAt image n at z q (λ x e r hx _ _. not-read w x e hx)
+  pub marks-stuck : (n k at : ℕ) (marks out : List ℕ) {r : Next} → 0 < n → r ≡ nextOf (entryOutline image at) → r ≡ next.Bad → MarkFrom n k at marks out
+  marks-stuck n k at marks out z is b st u hs rs pre hp es f q = first-endless image n at z q is b
 
   abbrev pub Marks : ℕ → ℕ → ℕ → ℕ → ℕ → Type 0
   Marks m k at a e = (st : Store) (f : ℕ) (pre : List Entry) → storeOf s ≡ got st f → R st → many [] _∷_ k entryAt image start ≡ got pre at → eqb m 1 ≡ isHeld (findIn (st .items)) (seenAfter [] pre) (part image a (e - a))
 
-  pub marks-next : (count k at : ℕ) (marks : List ℕ) (m : ℕ) (marks′ out : List ℕ) {a e i : ℕ} → k < count → k < length marks → behind 1 spanAt image at ≡ got a e → Marks m k at a e → marks′ ≡ set marks k m
-      → Passes (entryAt image at) (next.At i) → MarkFrom (count - (k + 1)) (k + 1) i marks′ out → MarkFrom (count - k) k at marks out
+  pub marks-next : (count k at : ℕ) (marks : List ℕ) (m : ℕ) (marks′ out : List ℕ) {a e i : ℕ} {r : Next} → k < count → k < length marks → behind 1 spanAt image at ≡ got a e → Marks m k at a e → marks′ ≡ set marks k m
+      → r ≡ nextOf (entryOutline image at) → r ≡ next.At i → MarkFrom (count - (k + 1)) (k + 1) i marks′ out → MarkFrom (count - k) k at marks out
   unfolding marked repeatsFrom
-  marks-next count k at marks m marks′ out {a} {e} {i} lt lm h hm hs′ w rest st u hs rs pre hp es f q =
-      many-cons [] _∷_ entryAt image (count - k) at (omega arith) q (λ x j es′ hx hl el.
-      let ej : j ≡ i = end-of w x j hx in
-      let ec : count - k - 1 ≡ count - (k + 1) = omega arith in
-      let hp′ : many [] _∷_ (k + 1) entryAt image start ≡ got (pre ++ (x ∷ [])) i = rw (add-one, ← ej) (many-snoc entryAt image k start hp hx) in
-      let hl′ : many [] _∷_ (count - (k + 1)) entryAt image i ≡ got es′ f = rw (← ec, ← ej) hl in
-      let ih = rest st u hs rs (pre ++ (x ∷ [])) hp′ es′ f hl′ in
-      let ei : x .id ≡ part image a (e - a) = entry-parts image at hx (λ a′ e′ _ hi ei _ _. both h hi (λ ea ee. rw (ea, ee) ei)) in
+  marks-next count k at marks m marks′ out {a} {e} {i} lt lm h hm hs′ is w rest st u hs rs pre hp es f q =
+      turn-ends image count k at lt q is w (λ x es′ hx hl el.
+      let hp′ : many [] _∷_ (k + 1) entryAt image start ≡ got (pre ++ (x ∷ [])) i = rw add-one (many-snoc entryAt image k start hp hx) in
+      let ih = rest st u hs rs (pre ++ (x ∷ [])) hp′ es′ f hl in
+      let ei : x .id ≡ part image a (e - a) = id-there image at h hx in
       let here : getD out k 0 ≡ m = ih .1 k (omega arith) ∙ ap (λ (l : List ℕ). getD l k 0) hs′ ∙ getD-set-same marks k m 0 lm in
       let test : eqb (getD out k 0) 1 ≡ isHeld (findIn (st .items)) (seenAfter [] pre) (x .id) =
       ap (λ (z : ℕ). eqb z 1) here ∙ hm st u pre hs rs hp ∙ ap (λ (t : List ℕ). isHeld (findIn (st .items)) (seenAfter [] pre) t) (sym ei) in

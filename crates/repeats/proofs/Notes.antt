@@ -9,20 +9,25 @@ use lib.ListN.{length, getD, set, length-set, replicate}
 use lib.Seq.{getD-set-same, getD-set-other}
 use lib.Dec.{eqb}
 use borrow.Author.Tests.{eq-eqb, ne-eqb, eqb-true, eqb-false}
+use Rattle.records.specs.declared.Next.{Next}
 use Rattle.records.specs.declared.Next.the-variants as next
 use Rattle.records.specs.Got.{got, bad}
+use Rattle.records.specs.Relations.Answer.{nextOf}
 use Rattle.records.specs.Bytes.{part, byteAt, numberAt, spanAt}
-use Rattle.rules.specs.Same.{sameBytes}
+use Rattle.decimals.specs.Bytes.{sameBytes}
 use Rattle.records.specs.Decode.{many}
 use Rattle.records.specs.Images.{Entry, Item, Store, isSome, entryAt, itemAt, storeOf}
-use Rattle.rules.proofs.SameBytes.{same-eq}
+use Rattle.decimals.proofs.Same.{same-eq}
 use Rattle.records.proofs.Views.{both, never, many-cons, many-nil}
-use Rattle.entries.specs.Lookup.{Holder, Find, orElse, onlyNamed, firstEntry, lastEntry, holderAfter, findFrom, findIn}
-use Rattle.entries.specs.Relations.Meets.{Passes, behind}
+use Rattle.entries.specs.Lookup.{Holder, Find, firstEntry, lastEntry, holderAfter, findFrom, findIn}
+use Rattle.records.specs.Optional.{orElse, optionOf}
+use Rattle.entries.specs.Outline.{behind, entryOutline}
+use Rattle.walks.specs.Relations.Passes.{Passes}
 use Rattle.entries.specs.Repeats.{isHeld}
 use Rattle.repeats.specs.Relations.Seen.{seenAfter}
 use Rattle.repeats.specs.Relations.Slots.{slotOf, slotted, placed, PlacesAll, Stands, Notes, NotesEntries, NotesItem, Ready}
-use Rattle.entries.proofs.Open.{entry-parts, item-cases, resource-parts, function-parts, store-parts}
+use Rattle.entries.proofs.Decoded.{first-unread, first-endless, first-ends, id-there}
+use Rattle.entries.proofs.Open.{item-cases, resource-parts, function-parts, store-parts}
 use Rattle.entries.proofs.Walk.{not-read, end-of}
 use Rattle.repeats.proofs.Marking.{held-after}
 use Rattle.repeats.proofs.Places.{same-refl}
@@ -110,8 +115,8 @@ unfolding isSome orElse
 some-or none b = refl
 some-or (some x) b = refl
 
-some-named : (b : Bool) (x : Holder) → isSome (onlyNamed b x) ≡ b
-unfolding isSome onlyNamed
+some-named : (b : Bool) (x : Holder) → isSome (optionOf b x) ≡ b
+unfolding isSome optionOf
 some-named true x = refl
 some-named false x = refl
 
@@ -127,16 +132,16 @@ or-group false b c = refl
 
 some-first : (x : List ℕ) (e : Entry) (es : List Entry) → sameBytes (e .id) x || isSome (firstEntry x es) ≡ isSome (firstEntry x (e ∷ es))
 unfolding firstEntry
-some-first x e es = sym (some-or (onlyNamed (sameBytes (e .id) x) (Holder.entry e)) (firstEntry x es) ∙ ap (λ (b : Bool). b || isSome (firstEntry x es)) (some-named (sameBytes (e .id) x) (Holder.entry e)))
+some-first x e es = sym (some-or (optionOf (sameBytes (e .id) x) (Holder.entry e)) (firstEntry x es) ∙ ap (λ (b : Bool). b || isSome (firstEntry x es)) (some-named (sameBytes (e .id) x) (Holder.entry e)))
 
 some-last : (x : List ℕ) (es : List Entry) → isSome (firstEntry x es) ≡ isSome (lastEntry x es)
 unfolding lastEntry firstEntry
 some-last x [] = refl
 some-last x (e ∷ es) =
-    some-or (onlyNamed (sameBytes (e .id) x) (Holder.entry e)) (firstEntry x es)
-    ∙ ap (λ (b : Bool). isSome (onlyNamed (sameBytes (e .id) x) (Holder.entry e)) || b) (some-last x es)
-    ∙ or-swap (isSome (onlyNamed (sameBytes (e .id) x) (Holder.entry e))) (isSome (lastEntry x es))
-    ∙ sym (some-or (lastEntry x es) (onlyNamed (sameBytes (e .id) x) (Holder.entry e)))
+    some-or (optionOf (sameBytes (e .id) x) (Holder.entry e)) (firstEntry x es)
+    ∙ ap (λ (b : Bool). isSome (optionOf (sameBytes (e .id) x) (Holder.entry e)) || b) (some-last x es)
+    ∙ or-swap (isSome (optionOf (sameBytes (e .id) x) (Holder.entry e))) (isSome (lastEntry x es))
+    ∙ sym (some-or (lastEntry x es) (optionOf (sameBytes (e .id) x) (Holder.entry e)))
 
 some-after : (i : Item) (x : List ℕ) (o : Option Holder) → isSome (holderAfter i x o) ≡ isSome o || isSome (holderAfter i x none)
 unfolding holderAfter orElse isSome
@@ -145,7 +150,7 @@ some-after (Item.overriding es) x o = some-or (lastEntry x es) o ∙ or-swap (is
   where
     or-none : (b : Bool) → b || isSome {A = Holder} none ≡ b
     or-none b = or-swap b false
-some-after (Item.function n) x o = some-or o (onlyNamed (sameBytes n x) Holder.function)
+some-after (Item.function n) x o = some-or o (optionOf (sameBytes n x) Holder.function)
 
 some-from : (xs : List Item) (x : List ℕ) (o : Option Holder) → isSome (findFrom xs x o) ≡ isSome o || isSome (findFrom xs x none)
 unfolding findFrom isSome
@@ -164,19 +169,18 @@ module _ (s image places : List ℕ) where
   entries-none {n} {at} {held} z = record { says = λ es f q. many-nil [] _∷_ entryAt s n at z q (λ el _. rw el (notes-nothing image places held)) }
 
   pub entries-bad : {n at : ℕ} {held out : List ℕ} → 0 < n → behind 1 spanAt s at ≡ bad → NotesEntries s image places n at held out
-  entries-bad {n} {at} z h = record { says = λ es f q. many-cons [] _∷_ entryAt s n at z q (λ x e r hx _ _. entry-parts s at hx (λ a i j hi _ _ _. never h hi)) }
+  entries-bad {n} {at} z h = record { says = λ es f q. first-unread s n at z q h }
 
-  pub entries-stuck : {n at : ℕ} {held out : List ℕ} → 0 < n → Passes (entryAt s at) next.Bad → NotesEntries s image places n at held out
-  entries-stuck {n} {at} z w = record { says = λ es f q. many-cons [] _∷_ entryAt s n at z q (λ x e r hx _ _. not-read w x e hx) }
+  pub entries-stuck : {n at : ℕ} {held out : List ℕ} {r : Next} → 0 < n → r ≡ nextOf (entryOutline s at) → r ≡ next.Bad → NotesEntries s image places n at held out
+  entries-stuck {n} {at} z is b = record { says = λ es f q. first-endless s n at z q is b }
 
-  pub entries-next : {n at a e i : ℕ} {held mid out : List ℕ} → 0 < n → behind 1 spanAt s at ≡ got a e → Notes image places held (sameBytes (part s a (e - a))) mid
-      → Passes (entryAt s at) (next.At i) → NotesEntries s image places (n - 1) i mid out → NotesEntries s image places n at held out
-  entries-next {n} {at} {a} {e} {i} {held} {mid} {out} z h one w rest = record {
+  pub entries-next : {n at a e i : ℕ} {held mid out : List ℕ} {r : Next} → 0 < n → behind 1 spanAt s at ≡ got a e → Notes image places held (sameBytes (part s a (e - a))) mid
+      → r ≡ nextOf (entryOutline s at) → r ≡ next.At i → NotesEntries s image places (n - 1) i mid out → NotesEntries s image places n at held out
+  entries-next {n} {at} {a} {e} {i} {held} {mid} {out} z h one is w rest = record {
     says = λ es f q.
-        many-cons [] _∷_ entryAt s n at z q (λ x j es′ hx hl el.
-        let ej : j ≡ i = end-of w x j hx in
-        let ei : part s a (e - a) ≡ x .id = entry-parts s at hx (λ a′ e′ _ hi ei _ _. both h hi (λ ea ee. rw (ea, ee) (sym ei))) in
-        notes-as (notes-then one (rest .says es′ f (rw (← ej) hl)))
+        first-ends s n at z q is w (λ x es′ hx hl el.
+        let ei : part s a (e - a) ≡ x .id = sym (id-there s at h hx) in
+        notes-as (notes-then one (rest .says es′ f hl))
         (λ y. ap (λ (t : List ℕ). sameBytes t y || isSome (firstEntry y es′)) ei ∙ some-first y x es′ ∙ ap (λ (t : List Entry). isSome (firstEntry y t)) (sym el)));
   }
 

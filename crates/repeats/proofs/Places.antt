@@ -10,19 +10,22 @@ use lib.ListN.{length, getD, set, length-set, List·getD-eq-default}
 use lib.Seq.{getD-set-same, getD-set-other, set-out}
 use lib.Dec.{eqb, ltb, leb}
 use borrow.Author.Tests.{eq-eqb, ne-eqb, eqb-true, eqb-false, ltb-true, ltb-false, leb-true, leb-false}
+use Rattle.records.specs.declared.Next.{Next}
 use Rattle.records.specs.declared.Next.the-variants as next
 use Rattle.records.specs.Got.{got, bad}
+use Rattle.records.specs.Relations.Answer.{nextOf}
 use Rattle.records.specs.Bytes.{part, numberAt, spanAt}
-use Rattle.rules.specs.Same.{sameBytes}
+use Rattle.decimals.specs.Bytes.{sameBytes}
 use Rattle.records.specs.Decode.{many}
 use Rattle.records.specs.Images.{Entry, isSome, entryAt, resourceOf}
-use Rattle.rules.proofs.SameBytes.{same-eq}
-use Rattle.records.proofs.Views.{both, never, many-cons, many-nil}
-use Rattle.entries.specs.Lookup.{Holder, orElse, onlyNamed, firstEntry}
-use Rattle.entries.specs.Relations.Meets.{Passes, behind}
+use Rattle.decimals.proofs.Same.{same-eq}
+use Rattle.records.proofs.Views.{both, never, many-nil}
+use Rattle.entries.specs.Lookup.{Holder, firstEntry}
+use Rattle.records.specs.Optional.{orElse, optionOf}
+use Rattle.entries.specs.Outline.{behind, entryOutline}
 use Rattle.repeats.specs.Relations.Slots.{slotOf, slotted, ifFree, placed, Placed, PlacesAll, Cleared}
-use Rattle.entries.proofs.Open.{entry-parts, whole-resource}
-use Rattle.entries.proofs.Walk.{not-read, end-of}
+use Rattle.entries.proofs.Open.{whole-resource}
+use Rattle.entries.proofs.Decoded.{first-unread, first-endless, turn-ends, id-there}
 use Rattle.repeats.proofs.Marking.{many-snoc}
 use Rattle.entries.proofs.Lengths.{entry-on}
 
@@ -95,16 +98,16 @@ module _ (places : List ℕ) (h at : ℕ) where
 
 -- entries are placed, one after the other
 first-snoc : (y : List ℕ) (pre : List Entry) (x : Entry) → isSome (firstEntry y (pre ++ (x ∷ []))) ≡ isSome (firstEntry y pre) || sameBytes (x .id) y
-unfolding firstEntry isSome onlyNamed orElse
+unfolding firstEntry isSome optionOf orElse
 first-snoc y [] x = go (sameBytes (x .id) y)
   where
-    go : (b : Bool) → isSome (orElse (onlyNamed b (Holder.entry x)) none) ≡ b
+    go : (b : Bool) → isSome (orElse (optionOf b (Holder.entry x)) none) ≡ b
     go true = refl
     go false = refl
 first-snoc y (e ∷ pre) x = go (first-snoc y pre x) (sameBytes (e .id) y)
   where
     go : isSome (firstEntry y (pre ++ (x ∷ []))) ≡ isSome (firstEntry y pre) || sameBytes (x .id) y → (b : Bool)
-        → isSome (orElse (onlyNamed b (Holder.entry e)) (firstEntry y (pre ++ (x ∷ [])))) ≡ isSome (orElse (onlyNamed b (Holder.entry e)) (firstEntry y pre)) || sameBytes (x .id) y
+        → isSome (orElse (optionOf b (Holder.entry e)) (firstEntry y (pre ++ (x ∷ [])))) ≡ isSome (orElse (optionOf b (Holder.entry e)) (firstEntry y pre)) || sameBytes (x .id) y
     go h true = refl
     go h false = h
 
@@ -121,24 +124,21 @@ module _ (image : List ℕ) (start : ℕ) where
   place-none {n} {k} z = record { says = λ pre hp es f q z0 za b p. record { low = λ j pre′ i l. p .low j pre′ i (omega arith) } }
 
   pub place-bad : {n k at : ℕ} {places out : List ℕ} → 0 < n → behind 1 spanAt image at ≡ bad → PlaceFrom image start n k at places out
-  place-bad {n} {k} {at} z h = record { says = λ pre hp es f q _ _ _ _. many-cons [] _∷_ entryAt image n at z q (λ x e r hx _ _. entry-parts image at hx (λ a i j hi _ _ _. never h hi)) }
+  place-bad {n} {k} {at} z h = record { says = λ pre hp es f q _ _ _ _. first-unread image n at z q h }
 
-  pub place-stuck : {n k at : ℕ} {places out : List ℕ} → 0 < n → Passes (entryAt image at) next.Bad → PlaceFrom image start n k at places out
-  place-stuck {n} {k} {at} z w = record { says = λ pre hp es f q _ _ _ _. many-cons [] _∷_ entryAt image n at z q (λ x e r hx _ _. not-read w x e hx) }
+  pub place-stuck : {n k at : ℕ} {places out : List ℕ} {r : Next} → 0 < n → r ≡ nextOf (entryOutline image at) → r ≡ next.Bad → PlaceFrom image start n k at places out
+  place-stuck {n} {k} {at} z is b = record { says = λ pre hp es f q _ _ _ _. first-endless image n at z q is b }
 
-  pub place-next : (count : ℕ) {k at a e i h l : ℕ} {places places′ out : List ℕ} → k < count → behind 1 spanAt image at ≡ got a e → length places ≡ l → h ≡ slotOf l (part image a (e - a)) → h < l
-      → places′ ≡ placed places h at → Passes (entryAt image at) (next.At i) → PlaceFrom image start (count - (k + 1)) (k + 1) i places′ out → PlaceFrom image start (count - k) k at places out
-  place-next count {k} {at} {a} {e} {i} {h} {l} {places} {places′} {out} lt hi el₀ eh₀ lh₀ ep w rest = record {
+  pub place-next : (count : ℕ) {k at a e i h l : ℕ} {places places′ out : List ℕ} {r : Next} → k < count → behind 1 spanAt image at ≡ got a e → length places ≡ l → h ≡ slotOf l (part image a (e - a)) → h < l
+      → places′ ≡ placed places h at → r ≡ nextOf (entryOutline image at) → r ≡ next.At i → PlaceFrom image start (count - (k + 1)) (k + 1) i places′ out → PlaceFrom image start (count - k) k at places out
+  place-next count {k} {at} {a} {e} {i} {h} {l} {places} {places′} {out} lt hi el₀ eh₀ lh₀ ep is w rest = record {
     says = λ pre hp es f q z0 za below p.
         let eh : h ≡ slotOf (length places) (part image a (e - a)) = eh₀ ∙ ap (λ (n : ℕ). slotOf n (part image a (e - a))) (sym el₀) in
         let lh : h < length places = omega arith in
-        many-cons [] _∷_ entryAt image (count - k) at (omega arith) q (λ x j es′ hx hl el.
-        let ej : j ≡ i = end-of w x j hx in
-        let ec : count - k - 1 ≡ count - (k + 1) = omega arith in
+        turn-ends image count k at lt q is w (λ x es′ hx hl el.
         let on = entry-on image at hx in
-        let hp′ : many [] _∷_ (k + 1) entryAt image start ≡ got (pre ++ (x ∷ [])) i = rw (add-one, ← ej) (many-snoc entryAt image k start hp hx) in
-        let hl′ : many [] _∷_ (count - (k + 1)) entryAt image i ≡ got es′ f = rw (← ec, ← ej) hl in
-        let ei : x .id ≡ part image a (e - a) = entry-parts image at hx (λ a′ e′ _ hi′ ei _ _. both hi hi′ (λ ea ee. rw (ea, ee) ei)) in
+        let hp′ : many [] _∷_ (k + 1) entryAt image start ≡ got (pre ++ (x ∷ [])) i = rw add-one (many-snoc entryAt image k start hp hx) in
+        let ei : x .id ≡ part image a (e - a) = id-there image at hi hx in
         let len : length places′ ≡ length places = ap length ep ∙ placed-length places h at in
         let below′ : (b : ℕ) → getD places′ b 0 < i = λ b. subst (λ (l : List ℕ). getD l b 0 < i) (sym ep) (placed-below places h at i (omega arith) (λ c. let u = below c in omega arith) b) in
         let kept : (y : List ℕ) → 0 < slotted places y → slotted places′ y ≡ slotted places y = λ y g.
@@ -165,7 +165,7 @@ module _ (image : List ℕ) (start : ℕ) where
               (λ a₂. let o = mine y a₂ in let o0 = o .0 in let o1 = o .1 in (omega arith, omega arith))));
         } in
         let sum : k + 1 + (count - (k + 1)) ≡ k + (count - k) = omega arith in
-        subst (λ (z : ℕ). Placed image start z out) sum (rest .says (pre ++ (x ∷ [])) hp′ es′ f hl′ (omega arith) (omega arith) below′ all));
+        subst (λ (z : ℕ). Placed image start z out) sum (rest .says (pre ++ (x ∷ [])) hp′ es′ f hl (omega arith) (omega arith) below′ all));
   }
     where
       by-cases : {C : Type 0} (image : List ℕ) (start k m : ℕ) (b : Bool) → leb m k ≡ b → m ≤ k + 1 → (m ≤ k → C) → (m ≡ k + 1 → C) → C

@@ -4,6 +4,7 @@ use crate::slots::note_store;
 use crate::slots::place_entries;
 use crate::slots::slot;
 use buffers::fill_zero;
+use entries::Found;
 use entries::entry::has_holder;
 use entries::resource::find_first;
 use entries::resource::read_str_behind;
@@ -20,8 +21,8 @@ ghost use Rattle.records.specs.Got.{got};
 ghost use Rattle.records.specs.Bytes.{part, spanAt, numberAt};
 ghost use Rattle.records.specs.Decode.{many};
 ghost use Rattle.records.specs.Images.{isSome, resourceOf, Entry, Store, entryAt, storeOf};
-ghost use Rattle.entries.specs.Lookup.{firstEntry, findIn};
-ghost use Rattle.entries.specs.Relations.Meets.{behind};
+ghost use Rattle.entries.specs.Lookup.{firstNamed, findIn};
+ghost use Rattle.entries.specs.Outline.{behind, readable, entryHead, entryOutline};
 ghost use Rattle.entries.specs.Repeats.{isHeld, repeats};
 ghost use Rattle.entries.specs.Relations.Marked.{marked};
 ghost use Rattle.repeats.specs.Relations.Slots.{Ready};
@@ -29,11 +30,13 @@ ghost use Rattle.repeats.specs.Relations.Seen.{seenAfter};
 
 // Whether one of `count` entries has the id.
 fn is_among(s: &[u8], from: usize, count: usize, id: &[u8]) -> bool
-    ensures { λ r. ⌜ ((es : List Entry) (f : ℕ) → many [] _∷_ count entryAt (now (s .entry)) from ≡ got es f → r ≡ isSome (firstEntry (now (id .entry)) es)) ⌝ }
+    ensures { λ r. ⌜ r ≡ isSome (firstNamed (now (id .entry)) (readable count entryHead entryOutline (now (s .entry)) from)) ⌝ }
 {
     match find_first(s, from, count, id) {
-        Next::At(_) => true,
-        Next::Bad => false,
+        Found::Message(_) => true,
+        Found::Term(_) => true,
+        Found::Function => true,
+        Found::Nothing => false,
     }
 }
 

@@ -1,4 +1,6 @@
 // Two tables by slots: where an image's entries stand, and which of their ids a store holds.
+use decimals::bytes::same_bytes;
+use decimals::bytes::wide;
 use entries::resource::read_str_behind;
 use entries::resource::read_u16_behind;
 use entries::resource::skip_entry;
@@ -7,24 +9,17 @@ use records::Next;
 use records::Num;
 use records::read_byte;
 use records::read_u16;
-use rules::same_bytes;
 ghost use mathlib.Core.Path.{_≡_};
 ghost use Prim.Native.Nat.{ℕ, _<_};
 ghost use mathlib.Core.List.{List};
 ghost use Rattle.records.specs.Got.{got};
-ghost use Rattle.rules.specs.Same.{sameBytes};
+ghost use Rattle.decimals.specs.Bytes.{sameBytes};
 ghost use Rattle.records.specs.Images.{isSome, resourceOf, Entry, Store, storeOf};
 ghost use Rattle.entries.specs.Lookup.{findIn};
 ghost use Rattle.repeats.specs.Relations.Slots.{slotOf, placed, Cleared, PlacesAll, Notes, NotesEntries, NotesItem};
 
-fn wide(x: u8) -> usize
-    ensures { λ r. ⌜ (r ≡ x) × (r < 256) ⌝ }
-{
-    x as usize
-}
-
 // An id's slot, of n: equal ids have equal slots.
-pub fn slot(id: &[u8], n: usize) -> usize
+pub(crate) fn slot(id: &[u8], n: usize) -> usize
     requires { ⌜ 0 < n ⌝ }
     ensures { λ r. ⌜ (r ≡ slotOf n (now (id .entry))) × (r < n) ⌝ }
 {
@@ -37,7 +32,7 @@ pub fn slot(id: &[u8], n: usize) -> usize
     h % n
 }
 
-pub fn clear(places: &mut [usize])
+pub(crate) fn clear(places: &mut [usize])
     ensures { λ _. ⌜ Cleared (now (places .exit)) ⌝ }
 {
     let mut i = 0usize;
@@ -59,7 +54,7 @@ fn place(places: &mut [usize], h: usize, at: usize)
 }
 
 // Puts each entry of an image into its slot: the first that comes to a slot has it.
-pub fn place_entries(image: &[u8], places: &mut [usize])
+pub(crate) fn place_entries(image: &[u8], places: &mut [usize])
     ensures { λ _. ⌜ ((es : List Entry) (f : ℕ) → resourceOf (now (image .entry)) ≡ got es f → Cleared (now (places .entry)) → PlacesAll (now (image .entry)) (now (places .exit))) ⌝ }
 {
     let n = places.len();
@@ -150,7 +145,7 @@ fn note_item(s: &[u8], at: usize, image: &[u8], places: &[usize], held: &mut [u8
 }
 
 // Notes which ids that stand in their slots have an entry in a store: one walk over it.
-pub fn note_store(s: &[u8], image: &[u8], places: &[usize], held: &mut [u8])
+pub(crate) fn note_store(s: &[u8], image: &[u8], places: &[usize], held: &mut [u8])
     ensures { λ _. ⌜ ((st : Store) (f : ℕ) → storeOf (now (s .entry)) ≡ got st f → Notes (now (image .entry)) (now (places .entry)) (now (held .entry)) (λ x. isSome (findIn (st .items) x)) (now (held .exit))) ⌝ }
 {
     let Num::At(count, start) = read_u16(s, 7) else {

@@ -1,6 +1,6 @@
 // The cases of new bundles and additions, each in buffers of its own: does the library answer what the oracle answered, and leave the same bytes.
 use bundle::Answer;
-use rules::same_bytes;
+use decimals::bytes::same_bytes;
 use vectors::blob;
 use vectors::byte;
 use vectors::copied;
@@ -68,7 +68,7 @@ fn applied(s: &[u8], op: u8, slice: &mut [u8], list: &mut [u8]) -> Answer {
 }
 
 // The answer's number, 0 where it is done.
-pub fn number(r: Answer) -> u8 {
+pub(crate) fn number(r: Answer) -> u8 {
     match r {
         Answer::Done(_) => 0,
         Answer::Refused(n) => n,
@@ -113,7 +113,7 @@ fn compared(s: &[u8], op: u8, slice: &mut [u8], list: &mut [u8]) -> bool {
     as_told(told, answered(told, op, r), slice, list)
 }
 
-pub fn addition_case(s: &[u8], op: u8) -> bool {
+pub(crate) fn addition_case(s: &[u8], op: u8) -> bool {
     let n = slice_length(s, op);
     let size = list_length(s, op);
     if 8192 < n {

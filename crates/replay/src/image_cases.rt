@@ -4,10 +4,10 @@ use arguments::check_arguments;
 use arguments::find_argument;
 use arguments::text_of;
 use buffers::Wrote;
+use decimals::bytes::same_bytes;
 use images::check_resource;
 use images::check_store;
 use records::Next;
-use rules::same_bytes;
 use unescape::unescape_into;
 use vectors::blob;
 use vectors::byte;
@@ -50,7 +50,7 @@ fn answer(kind: u8, s: &[u8]) -> u8 {
 }
 
 // Blob, u8 answer: 0, or the number of the refusal.
-pub fn image_case(s: &[u8]) -> bool {
+pub(crate) fn image_case(s: &[u8]) -> bool {
     answer(kind_of(byte(s, 0)), blob(s, 1)) == byte(s, past_blob(s, 1))
 }
 
@@ -85,13 +85,13 @@ fn is_told(told: &[u8], args: &[u8], name: &[u8]) -> bool {
 }
 
 // Blob, Str name, kind, value.
-pub fn find_case(s: &[u8]) -> bool {
+pub(crate) fn find_case(s: &[u8]) -> bool {
     let at = past_blob(s, 1);
     is_told(tail(s, past_string(s, at)), blob(s, 1), string(s, at))
 }
 
 // Str string literal, Str text: the text that the literal reads as.
-pub fn unescape_case(s: &[u8]) -> bool {
+pub(crate) fn unescape_case(s: &[u8]) -> bool {
     let mut text = lent();
     match unescape_into(string(s, 1), &mut text, 0) {
         Wrote::At(n) => same_bytes(part(&text, 0, n), string(s, past_string(s, 1))),
@@ -176,13 +176,13 @@ fn wrong(kind: u8, image: &[u8], bits: &[u8], count: usize) -> u64 {
 }
 
 // How many images a damage case stands for.
-pub fn damage_count(s: &[u8]) -> u64 {
+pub(crate) fn damage_count(s: &[u8]) -> u64 {
     let n = blob(s, 2).len();
     if n <= 120 { n as u64 * 256 } else { 0 }
 }
 
 // Kind byte, Blob image of at most 120 bytes, Blob bit map.
-pub fn damage_case(s: &[u8]) -> u64 {
+pub(crate) fn damage_case(s: &[u8]) -> u64 {
     let count = damage_count(s) as usize;
     wrong(byte(s, 1), blob(s, 2), blob(s, past_blob(s, 2)), count)
 }

@@ -1,7 +1,7 @@
 // The limit of a store, 1,048,576 bytes, in a slice of one byte more: 15 images of 65,536 bytes and one of 65,511 fill it.
 use crate::addition_cases::number;
-use records::write_bytes;
 use vectors::differs;
+use vectors::headed;
 use vectors::part;
 
 // The size of the image that is added at a step: after the 15th 65,512 bytes are left with the item's own.
@@ -21,18 +21,13 @@ fn told(step: usize) -> u8 {
     }
 }
 
-fn text() -> [u8; 65536] {
-    [120; 65536]
-}
-
 // An image of one message, `size` bytes long: a head, a text, and no attributes.
-fn image_of(head: &[u8; 21], size: usize) -> [u8; 65536] {
-    let mut b = text();
-    write_bytes(&mut b, 0, head);
+fn image_of(head: &[u8; 21], size: usize) -> [u8; 65537] {
+    let mut b = headed(head);
     if size < 2 {
         return b;
     }
-    if 65536 < size {
+    if 65537 < size {
         return b;
     }
     b[size - 2] = 0;
@@ -40,7 +35,7 @@ fn image_of(head: &[u8; 21], size: usize) -> [u8; 65536] {
     b
 }
 
-fn image(step: usize) -> [u8; 65536] {
+fn image(step: usize) -> [u8; 65537] {
     match step {
         15 => image_of(
             b"\x00\x00\xFF\xE8\x01\x00\x01\x01\x00\x01a\x01\x00\x00\xFF\xD6\x00\x01\x01\xFF\xD1",
@@ -82,7 +77,7 @@ fn room() -> [u8; 1048577] {
     [0xAA; 1048577]
 }
 
-pub fn limit() -> u64 {
+pub(crate) fn limit() -> u64 {
     let mut store = room();
     filled(&mut store)
 }

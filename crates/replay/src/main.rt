@@ -88,125 +88,44 @@ fn replayed(counts: Counts, name: &[u8]) -> Counts {
     r
 }
 
-// A line of what is printed: the place of the count, and where its words stand.
-struct Words {
-    place: usize,
-    at: usize,
-    length: usize,
+// A line of what is printed: the count at a place, with its words, and that of the differences.
+fn row(counts: Counts, place: u8, words: &[u8]) {
+    let at = place as usize;
+    line(counts, at, words);
+    line(counts, at + 64, b" differ\n");
 }
 
-fn words_of(i: usize) -> Words
-    ensures { λ r. ⌜ r .place < 64 ⌝ }
-{
-    match i {
-        0 => Words {
-            place: 1,
-            at: 0,
-            length: 11,
-        },
-        1 => Words {
-            place: 2,
-            at: 11,
-            length: 15,
-        },
-        2 => Words {
-            place: 3,
-            at: 26,
-            length: 13,
-        },
-        3 => Words {
-            place: 4,
-            at: 39,
-            length: 18,
-        },
-        4 => Words {
-            place: 5,
-            at: 57,
-            length: 13,
-        },
-        5 => Words {
-            place: 6,
-            at: 70,
-            length: 17,
-        },
-        6 => Words {
-            place: 20,
-            at: 87,
-            length: 9,
-        },
-        7 => Words {
-            place: 21,
-            at: 96,
-            length: 18,
-        },
-        8 => Words {
-            place: 22,
-            at: 114,
-            length: 19,
-        },
-        9 => Words {
-            place: 23,
-            at: 133,
-            length: 18,
-        },
-        10 => Words {
-            place: 24,
-            at: 151,
-            length: 23,
-        },
-        11 => Words {
-            place: 25,
-            at: 174,
-            length: 17,
-        },
-        12 => Words {
-            place: 30,
-            at: 191,
-            length: 14,
-        },
-        13 => Words {
-            place: 31,
-            at: 205,
-            length: 21,
-        },
-        14 => Words {
-            place: 32,
-            at: 226,
-            length: 21,
-        },
-        _ => Words {
-            place: 0,
-            at: 247,
-            length: 10,
-        },
-    }
+fn show_numbers(counts: Counts) {
+    row(counts, 1, b" literals, ");
+    row(counts, 2, b" number texts, ");
+    row(counts, 3, b" categories, ");
+    row(counts, 4, b" calls of NUMBER, ");
+    row(counts, 5, b" equalities, ");
+    row(counts, 6, b" category words, ");
 }
 
-fn show_line(counts: Counts, i: usize) {
-    let l = words_of(i);
-    let place = l.place;
-    line(
-        counts,
-        place,
-        b" literals,  number texts,  categories,  calls of NUMBER,  equalities,  category words,  stores,  resource images,  arguments images,  string literals,  arguments looked for,  damaged images,  new bundles,  resource additions,  function additions,  unknown, ",
-        l.at,
-        l.length,
-    );
-    line(counts, place + 64, b" differ\n", 0, 8);
+fn show_images(counts: Counts) {
+    row(counts, 20, b" stores, ");
+    row(counts, 21, b" resource images, ");
+    row(counts, 22, b" arguments images, ");
+    row(counts, 23, b" string literals, ");
+    row(counts, 24, b" arguments looked for, ");
+    row(counts, 25, b" damaged images, ");
 }
 
-fn show(counts: Counts) {
-    let mut i = 0usize;
-    while i < 16 {
-        show_line(counts, i);
-        i += 1;
-    }
+fn show_additions(counts: Counts) {
+    row(counts, 30, b" new bundles, ");
+    row(counts, 31, b" resource additions, ");
+    row(counts, 32, b" function additions, ");
+    row(counts, 0, b" unknown, ");
 }
 
 fn main() {
     let a = replayed(no_counts(), b"numbers.vec");
     let b = replayed(a, b"images.vec");
     let c = counted(replayed(b, b"additions.vec"), 33, limit::limit());
-    show(c);
-    line(c, 33, b" differ at the limit of a store\n", 0, 32);
+    show_numbers(c);
+    show_images(c);
+    show_additions(c);
+    line(c, 33, b" differ at the limit of a store\n");
 }

@@ -5,6 +5,7 @@ use crate::number_fields::minimum;
 use crate::number_fields::number;
 use crate::number_fields::options;
 use crate::number_fields::plain;
+use decimals::bytes::same_bytes;
 use decimals::text::number_text;
 use decimals::types::Count;
 use decimals::types::Kind;
@@ -20,7 +21,6 @@ use numbers::merge::merge_text;
 use plural::plural::category;
 use plural::plural::matches_category;
 use plural::types::category_number;
-use rules::same_bytes;
 use vectors::byte;
 use vectors::flag;
 use vectors::part;
@@ -81,12 +81,9 @@ fn all_stopped(o: Options) -> Options {
 
 // A number with other options.
 fn with(n: Number, o: Options) -> Number {
-    Number {
-        negative: n.negative,
-        digits: n.digits,
-        scale: n.scale,
-        options: o,
-    }
+    let mut r = n;
+    r.options = o;
+    r
 }
 
 // Is this a number's text?
@@ -97,7 +94,7 @@ fn is_text(n: Number, text: &[u8]) -> bool {
 }
 
 // Str text, Flag accepted, Decimal, Minimum.
-pub fn literal_case(s: &[u8]) -> bool {
+pub(crate) fn literal_case(s: &[u8]) -> bool {
     let text = string(s, 1);
     let t = tail(s, past_string(s, 1));
     if is_number(text) != flag(t, 0) {
@@ -110,12 +107,12 @@ pub fn literal_case(s: &[u8]) -> bool {
 }
 
 // Decimal, Minimum, Str text.
-pub fn text_case(s: &[u8]) -> bool {
+pub(crate) fn text_case(s: &[u8]) -> bool {
     is_text(number(tail(s, 1), Kind::Cardinal), string(s, 13))
 }
 
 // u8 locale, u8 type, Decimal, Minimum, u8 category.
-pub fn category_case(s: &[u8]) -> bool {
+pub(crate) fn category_case(s: &[u8]) -> bool {
     let c = category(byte(s, 1), number(tail(s, 3), kind(byte(s, 2))));
     category_number(c) == byte(s, 15)
 }
@@ -205,7 +202,7 @@ fn called(s: &[u8], n: Number) -> bool {
 }
 
 // u8 kind of the first value, where it is a number (2) Decimal and Minimum, u8 count of named options.
-pub fn function_case(s: &[u8]) -> bool {
+pub(crate) fn function_case(s: &[u8]) -> bool {
     if byte(s, 1) == 2 {
         return called(s, number(tail(s, 2), Kind::Cardinal));
     }
@@ -213,14 +210,14 @@ pub fn function_case(s: &[u8]) -> bool {
 }
 
 // Twice Decimal and Options, Flag equal.
-pub fn equality_case(s: &[u8]) -> bool {
+pub(crate) fn equality_case(s: &[u8]) -> bool {
     let a = decimal(tail(s, 1), options(tail(s, 11)));
     let b = decimal(tail(s, 41), options(tail(s, 51)));
     same_number(a, b) == flag(s, 81)
 }
 
 // Str key, u8 locale, Decimal, u8 type, Minimum, Flag matches.
-pub fn match_case(s: &[u8]) -> bool {
+pub(crate) fn match_case(s: &[u8]) -> bool {
     let t = tail(s, past_string(s, 1));
     let n = decimal(tail(t, 1), plain(kind(byte(t, 11)), minimum(t, 12)));
     let c = category(byte(t, 0), n);

@@ -12,7 +12,7 @@ use vectors::u32_at;
 use vectors::u64_at;
 ghost use Prim.Native.Nat.{_<_};
 
-pub fn kind(b: u8) -> Kind {
+pub(crate) fn kind(b: u8) -> Kind {
     match b {
         0 => Kind::Cardinal,
         _ => Kind::Ordinal,
@@ -47,14 +47,14 @@ fn count(s: &[u8], at: usize) -> Count
 }
 
 // Flag set, u8 count.
-pub fn minimum(s: &[u8], at: usize) -> Count
+pub(crate) fn minimum(s: &[u8], at: usize) -> Count
     requires { ⌜ at < 30 ⌝ }
 {
     count_of(flag(s, at), byte(s, at + 1) as u64)
 }
 
 // 30 bytes.
-pub fn options(s: &[u8]) -> Options {
+pub(crate) fn options(s: &[u8]) -> Options {
     Options {
         kind: kind(byte(s, 0)),
         style: style(byte(s, 1)),
@@ -70,7 +70,7 @@ pub fn options(s: &[u8]) -> Options {
 }
 
 // Options of a kind and a minimum, the others not set.
-pub fn plain(k: Kind, m: Count) -> Options {
+pub(crate) fn plain(k: Kind, m: Count) -> Options {
     Options {
         kind: k,
         style: Style::Decimal,
@@ -86,7 +86,7 @@ pub fn plain(k: Kind, m: Count) -> Options {
 }
 
 // A Decimal, 10 bytes: Flag, u64 digits, u8 scale.
-pub fn decimal(s: &[u8], o: Options) -> Number {
+pub(crate) fn decimal(s: &[u8], o: Options) -> Number {
     Number {
         negative: flag(s, 0),
         digits: u64_at(s, 1),
@@ -96,6 +96,6 @@ pub fn decimal(s: &[u8], o: Options) -> Number {
 }
 
 // A Decimal and a Minimum.
-pub fn number(s: &[u8], k: Kind) -> Number {
+pub(crate) fn number(s: &[u8], k: Kind) -> Number {
     decimal(s, plain(k, minimum(s, 10)))
 }

@@ -54,7 +54,7 @@ fn lengths(s: &[u8], told: &[u8], way: u8) -> Lengths {
 }
 
 // A buffer that is not used cannot be too short.
-pub fn is_tried(told: &[u8], way: u8) -> bool {
+pub(crate) fn is_tried(told: &[u8], way: u8) -> bool {
     let n = used(told);
     match way {
         3 => 0 < n.text,
@@ -175,7 +175,7 @@ fn compared(
     as_told(told, a, text, list, work)
 }
 
-pub fn agrees(s: &[u8], told: &[u8], way: u8) -> bool {
+pub(crate) fn agrees(s: &[u8], told: &[u8], way: u8) -> bool {
     let n = lengths(s, told, way);
     let t = n.text;
     let l = n.list;

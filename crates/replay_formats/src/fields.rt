@@ -15,7 +15,7 @@ pub struct Places {
     pub arguments: usize,
 }
 
-pub fn places_of(s: &[u8]) -> Places {
+pub(crate) fn places_of(s: &[u8]) -> Places {
     let id = past_blob(s, 1);
     let has = past_string(s, id);
     let attribute = past(s, has, 1);
@@ -34,7 +34,7 @@ fn lengths_at(s: &[u8]) -> usize {
 }
 
 // Where the answer stands.
-pub fn answer_at(s: &[u8]) -> usize {
+pub(crate) fn answer_at(s: &[u8]) -> usize {
     if byte(s, 0) == 41 {
         return past(s, lengths_at(s), 12);
     }
@@ -48,7 +48,7 @@ pub struct Lengths {
     pub work: usize,
 }
 
-pub fn alike(n: usize) -> Lengths {
+pub(crate) fn alike(n: usize) -> Lengths {
     Lengths {
         text: n,
         list: n,
@@ -57,7 +57,7 @@ pub fn alike(n: usize) -> Lengths {
 }
 
 // What the case lends: 4,096 bytes each where it does not say.
-pub fn lent(s: &[u8]) -> Lengths {
+pub(crate) fn lent(s: &[u8]) -> Lengths {
     if byte(s, 0) == 41 {
         let at = lengths_at(s);
         return Lengths {
@@ -70,12 +70,12 @@ pub fn lent(s: &[u8]) -> Lengths {
 }
 
 // Where the counts stand in what is told, which starts with the answer.
-pub fn counts_at(told: &[u8]) -> usize {
+pub(crate) fn counts_at(told: &[u8]) -> usize {
     past_blob(told, past_blob(told, 1))
 }
 
 // What a finished formatting uses of the three buffers.
-pub fn used(told: &[u8]) -> Lengths {
+pub(crate) fn used(told: &[u8]) -> Lengths {
     Lengths {
         text: blob(told, 1).len(),
         list: blob(told, past_blob(told, 1)).len(),

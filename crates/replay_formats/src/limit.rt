@@ -1,27 +1,16 @@
 // The longest arguments image, 65,536 bytes, which is too long for a vector: one text of 65,523 bytes. It is put twice, so that the text of the message is
 // longer than a Str or an image can be.
-use records::write_bytes;
 use resolver::format::Answer;
 use resolver::format::Figures;
 use resolver::format::format;
 use vectors::all_are;
 use vectors::differs;
+use vectors::headed;
 use vectors::part;
-
-fn letters() -> [u8; 65537] {
-    [120; 65537]
-}
 
 // Twice the text between its marks.
 fn room() -> [u8; 131058] {
     [0xAA; 131058]
-}
-
-// The argument `n`, a text of so many x.
-fn image_of(head: &[u8; 13]) -> [u8; 65537] {
-    let mut b = letters();
-    write_bytes(&mut b, 0, head);
-    b
 }
 
 // The message `a = { $n }{ $n }`, in English, isolating.
@@ -100,12 +89,12 @@ fn differ(args: &[u8], text: &mut [u8], want: u8) -> u64 {
     }
 }
 
-// The image is a byte too long; it fits; the text buffer is a byte too short.
-pub fn limit() -> u64 {
+// The argument `n`, a text of so many x: the image is a byte too long; it fits; the text buffer is a byte too short.
+pub(crate) fn limit() -> u64 {
     let mut text = room();
-    let long = image_of(b"\x00\x01\x00\x01\x01\x00\x01\x00\x01n\x01\xFF\xF4");
+    let long = headed(b"\x00\x01\x00\x01\x01\x00\x01\x00\x01n\x01\xFF\xF4");
     let a = differ(&long, &mut text, 13);
-    let args = image_of(b"\x00\x01\x00\x00\x01\x00\x01\x00\x01n\x01\xFF\xF3");
+    let args = headed(b"\x00\x01\x00\x00\x01\x00\x01\x00\x01n\x01\xFF\xF3");
     let b = differ(part(&args, 0, 65536), &mut text, 0);
     let zero = 0usize;
     let short = 131057usize;

@@ -2,5 +2,7 @@ pub mod Effect
 pub mod Resolve
 pub mod Exec
 pub mod Format
-pub mod Finished
-pub mod Steadiness
+pub mod Opened
+pub mod Case
+pub mod Sentences
+pub mod Misreadings

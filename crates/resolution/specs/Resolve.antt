@@ -9,12 +9,14 @@ use Rattle.numbers.specs.Number.{Number, literal, sameNumber}
 use Rattle.numbers.specs.Value.{Value, textual, numeric, nothing, wrong, valueText, numberFunction, minimumFractionDigitsName, toCount}
 use Rattle.plural.specs.Plural.{category, keyword}
 use Rattle.unescape.specs.Unescape.{unescape, hasBackslash}
-use Rattle.rules.specs.Same.{sameBytes}
+use Rattle.decimals.specs.Bytes.{sameBytes}
 use Rattle.records.specs.Tree.{Literal, Key, Named, Pattern, pattern, Elements, no-more, more, Element, text, placeable, Expression, inline, select, Inline, variable, nested, Arguments, without, with-args, Inlines, no-inline, and, Variants, no-variant, or, Variant, variant}
 use Rattle.records.specs.Images.{Kind, Entry}
 use Rattle.records.specs.Errors.{Error, Referred, reference, noValue, missingDefault, cyclic}
-use Rattle.entries.specs.Lookup.{Holder, Find, orElse, onlyNamed, partOf}
+use Rattle.entries.specs.Lookup.{Holder, Find, partOf}
+use Rattle.records.specs.Optional.{orElse}
 use Rattle.resolution.specs.Effect.{Bytes, Effect, report, unfound, merged, Locals, State, M, Done, ret, _>>=_, _>>_, emit, write, isDirty, getLocals, setLocals, onlyIf, entered, capture, release}
+use Rattle.records.specs.Names.{lastNamed}
 
 -- what does not change while a message is formatted: locale, isolating Flag, arguments
 pub record Setting : Type 0 where
@@ -272,11 +274,6 @@ writeResult i (some wrong) = write (i ++ ascii "()")
 unfoldable pub orWrong : Option Value → M Value
 orWrong none = ret wrong
 orWrong (some v) = ret v
-
--- `FluentArgs::get`: "of equal names the last holds"
-unfoldable pub lastNamed : Bytes → List (Bytes × Value) → Option Value
-lastNamed i [] = none
-lastNamed i (e ∷ es) = orElse (lastNamed i es) (onlyNamed (sameBytes (e .0) i) (e .1))
 
 -- a variable: among the term's arguments where there are any, else among the formatting's; only there a missing one is listed
 unfoldable pub foundOr : M Done → Option Value → M (Option Value)

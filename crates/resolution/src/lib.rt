@@ -1,1 +1,1 @@
-// The definition of resolution and of formatting, and the theorems about them: specs/ and proofs/. No code.
+// The definition of resolution and of formatting, and document 01's cases held to it: specs/. No code.

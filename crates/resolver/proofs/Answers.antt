@@ -15,9 +15,9 @@ use Rattle.state.specs.declared.Called.{Called}
 use Rattle.state.specs.declared.Value as code-value
 use Rattle.state.specs.declared.Value.the-variants as val
 use Rattle.state.specs.Setters.{backS, countedS, missingS}
-use Rattle.scope.specs.Relations.Meets.{env}
-use Rattle.scope.specs.Relations.Leaves.{NumberAt}
-use Rattle.scope.proofs.Puts.{counts}
+use Rattle.resolver.specs.Relations.Meets.{env}
+use Rattle.resolver.specs.Relations.Leaves.{NumberAt}
+use Rattle.resolver.proofs.Single.Puts.{counts}
 use Rattle.resolver.specs.Relations.Answers.{AnswerAt}
 use Rattle.resolver.proofs.Calls.{called-function, called-message, called-term, called-lost}
 

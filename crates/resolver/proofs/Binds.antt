@@ -12,9 +12,10 @@ use Rattle.records.specs.Images.{Entry}
 use Rattle.records.specs.Errors.{Error}
 use Rattle.entries.specs.Lookup.{Holder, Find, partOf}
 use Rattle.resolution.specs.Effect.{Bytes, Trace, unfound, Locals, State, Out, M, Done, ret, _>>=_, _>>_, emit, write, isDirty, getLocals, maxPlaceables, enterIf, enter, onlyIf, entered, release}
-use Rattle.resolution.specs.Resolve.{Setting, Trail, mark, cutShort, namedValues, writeRefError, lookFor, lookUp, asTerm, asMessage, trackIf, track, onPart, messageFound, termFound, writeMessage, Given, pushed, writeResult, lastNamed, foundOr, variableIn, getVariable, writeVariable, writePattern, writeElements, writeElement, writeExpression, writeNth, writeVariant, writeInline, resolveInline, getArguments, resolve}
-use Rattle.scope.specs.Relations.Members.{positionalValues}
-use Rattle.scope.proofs.Laws.{append-nil}
+use Rattle.resolution.specs.Resolve.{Setting, Trail, mark, cutShort, namedValues, writeRefError, lookFor, lookUp, asTerm, asMessage, trackIf, track, onPart, messageFound, termFound, writeMessage, Given, pushed, writeResult, foundOr, variableIn, getVariable, writeVariable, writePattern, writeElements, writeElement, writeExpression, writeNth, writeVariant, writeInline, resolveInline, getArguments, resolve}
+use Rattle.records.specs.Names.{lastNamed}
+use Rattle.resolver.specs.Relations.Members.{positionalValues}
+use Rattle.resolver.proofs.Single.Laws.{append-nil}
 
 abbrev out : {A : Type 0} → Trace → Bytes → ℕ → State → A → Out A
 out t x k s a = record { trace = t; text = x; kept = k; state = s; value = a }

@@ -26,15 +26,15 @@ use Rattle.resolution.specs.Resolve.{Trail, namedValues, Given, mergesOf, call,
 use Rattle.state.specs.declared.Scope.{Scope}
 use Rattle.state.specs.declared.Value as code-value
 use Rattle.state.specs.declared.Value.the-variants as val
-use Rattle.scope.specs.Relations.Meets.{World, world, Live, Ended, ended, stopped, Runs, Kept, Acts, NamedIn, namedTexts, Holds, in-store, in-args, in-work, is-number, is-nothing, is-wrong, Env, Setup, settingOf, findOf, crossOf}
-use Rattle.scope.specs.Relations.Leaves.{FirstIs, first-none, first-number, first-other, ResultIs, has-result, no-function, NamedAt, NumberAt}
-use Rattle.scope.specs.Relations.Members.{Here, ValueAt, positionalValues, PositionalAt, CalledAt}
+use Rattle.resolver.specs.Relations.Meets.{World, world, Live, Ended, ended, stopped, Runs, Kept, Acts, NamedIn, namedTexts, Holds, in-store, in-args, in-work, is-number, is-nothing, is-wrong, Env, Setup, settingOf, findOf, crossOf}
+use Rattle.resolver.specs.Relations.Leaves.{FirstIs, first-none, first-number, first-other, ResultIs, has-result, no-function, NamedAt, NumberAt}
+use Rattle.resolver.specs.Relations.Members.{Here, ValueAt, positionalValues, PositionalAt, CalledAt}
 use Rattle.state.specs.Setters.{backS}
-use Rattle.scope.proofs.Laws.{Stays, stays, here-stays, kept-same, kept-then, runs-ret, runs-then, ended-then}
-use Rattle.scope.proofs.Steps.{runs-as}
-use Rattle.scope.proofs.Release.{release-back, release-over, runs-stopped}
+use Rattle.resolver.proofs.Single.Laws.{Stays, stays, here-stays, kept-same, kept-then, runs-ret, runs-then, ended-then}
+use Rattle.resolver.proofs.Single.Steps.{runs-as}
+use Rattle.resolver.proofs.Single.Release.{release-back, release-over, runs-stopped}
 use Rattle.resolver.proofs.Binds.{look-found, look-lost, given, arguments-then}
-use Rattle.scope.proofs.Values.{named-value}
+use Rattle.resolver.proofs.Single.Values.{named-value}
 use Rattle.resolver.proofs.References.{known-message, known-term, known-function, known-nothing}
 
 -- what was refused stays so: where a later state is not, an earlier one was not

@@ -21,13 +21,13 @@ use Rattle.resolution.specs.Effect.{Bytes, Effect, report, begin, expand, State
 use Rattle.resolution.specs.Exec.{Machine, Limits, Ran, ran, refused, exec, andThen, step}
 use Rattle.resolution.specs.Resolve.{Trail, braced, bare, fsi, pdi, mark, cutShort, errorOf, severalOf, writePattern, writeElements, writeElement, writeExpression}
 use Rattle.state.specs.declared.Scope.{Scope}
-use Rattle.scope.specs.Relations.Meets.{World, world, Live, LocalsStay, locals-same, locals-cleared, Moved, Ended, ended, stopped, Runs, Kept, Acts, trailOf, Env, Setup, settingOf, findOf, crossOf}
-use Rattle.scope.specs.Relations.Leaves.{TooMany, CutAt}
-use Rattle.scope.specs.Relations.Members.{Here, PatternAt, ElementsAt, ElementAt, ExpressionAt}
+use Rattle.resolver.specs.Relations.Meets.{World, world, Live, LocalsStay, locals-same, locals-cleared, Moved, Ended, ended, stopped, Runs, Kept, Acts, trailOf, Env, Setup, settingOf, findOf, crossOf}
+use Rattle.resolver.specs.Relations.Leaves.{TooMany, CutAt}
+use Rattle.resolver.specs.Relations.Members.{Here, PatternAt, ElementsAt, ElementAt, ExpressionAt}
 use Rattle.state.specs.Setters.{begunS}
-use Rattle.scope.proofs.Laws.{Stays, stays, here-stays, kept-same, kept-then, exec-append, runs-ret, runs-then, runs-dirty, ended-then, ended-none, moved-none, stay-same}
-use Rattle.scope.proofs.Locals.{locals-alike}
-use Rattle.scope.proofs.Steps.{runs-as, runs-over}
+use Rattle.resolver.proofs.Single.Laws.{Stays, stays, here-stays, kept-same, kept-then, exec-append, runs-ret, runs-then, runs-dirty, ended-then, ended-none, moved-none, stay-same}
+use Rattle.resolver.proofs.Single.Locals.{locals-alike}
+use Rattle.resolver.proofs.Single.Steps.{runs-as, runs-over}
 
 -- whether there are several elements, by their count
 several-of : (expr : Parser Expression) (s : List ℕ) (n at : ℕ) {es : Elements} {f : ℕ} → elementsAt expr n s at ≡ got es f → severalOf es ≡ ltb 1 n

@@ -18,37 +18,41 @@ use Rattle.resolution.specs.Effect.{Bytes}
 use Rattle.resolution.specs.Exec.{Machine, Ran, ran, refused}
 use Rattle.resolution.specs.Format.{Answer, finished, refusedBefore, refusedRunning, Buffers, Formatted, zeros, refuse, orRefuse, ended, formatWith, formatArguments, format, limitsOf, runPattern, valuesOf}
 use Rattle.layout.specs.Exact.{Octets}
-use Rattle.resolution.proofs.Formattings.{few-unfound}
+use Rattle.theorems.proofs.Formattings.{few-unfound}
 use Rattle.state.specs.declared.Scope.{Scope}
-use Rattle.scope.specs.Relations.Meets.{Env, env, Setup, settingOf, findOf}
+use Rattle.resolver.specs.Relations.Meets.{Env, env, Setup, settingOf, findOf}
 use Rattle.state.specs.Setters.{maxUnfound}
 use Rattle.resolver.specs.declared.format.Answer as code-answer
 use Rattle.resolver.specs.declared.format.Answer.the-variants as ans
 use Rattle.resolver.specs.declared.format.Part as code-part
 use Rattle.resolver.specs.declared.format.Part.the-variants as part-answer
-use Rattle.resolver.specs.Formats.{answerOf, Formats}
-use Rattle.resolver.specs.Relations.Runs.{stoppedOf, PatternFound, refuses, finds, RanAs, ran-as, refused-as, RunAt, FinishAt}
+use Rattle.resolver.specs.Formats.{answerOf, gave}
+use Rattle.resolver.specs.Relations.Runs.{stopped, stoppedOf, PatternFound, refuses, finds, RanAs, ran-as, refused-as, RunAt, FinishAt}
 use Rattle.resolver.proofs.Whole.{buffers}
 
 -- the count of lookups unfound is never so high that it stops
-stopped-is : (x : Answer) → ((t e b u w : ℕ) → x ≡ finished t e b u w → u ≤ maxUnfound) → stoppedOf x ≡ answerOf x
-unfolding stoppedOf answerOf
-stopped-is (finished t e b u w) h = let m : min u maxUnfound ≡ u = omega (arith, h t e b u w refl) in ap (λ (j : ℕ). ans.Finished (record { text = t; errors = e; begun = b; unfound = j; work = w })) m
-stopped-is (refusedBefore n) h = refl
-stopped-is (refusedRunning n) h = refl
+answer-is : (x : Answer) → ((t e b u w : ℕ) → x ≡ finished t e b u w → u ≤ maxUnfound) → stoppedOf x ≡ x
+unfolding stoppedOf
+answer-is (finished t e b u w) h = let m : min u maxUnfound ≡ u = omega (arith, h t e b u w refl) in ap (λ (j : ℕ). finished t e b j w) m
+answer-is (refusedBefore n) h = refl
+answer-is (refusedRunning n) h = refl
+
+stopped-is : (f : Formatted) → ((t e b u w : ℕ) → f .answer ≡ finished t e b u w → u ≤ maxUnfound) → stopped f ≡ f
+unfolding stopped
+stopped-is f h = ap (λ (a : Answer). record { answer = a; buffers = f .buffers }) (answer-is (f .answer) h)
 
 -- a formatting that the definition refuses before its run
 refused-is : (s id : Bytes) (a : Option Bytes) (image x l w : Bytes) (n : ℕ) {r : code-answer.Answer} → format s id a image (buffers x l w) ≡ refuse n (buffers x l w) → r ≡ ans.Refused n
-    → Formats s id a image x l w x l w r
-unfolding refuse answerOf
-refused-is s id a image x l w n e er = record { answer = er ∙ sym (ap (λ (f : Formatted). answerOf (f .answer)) e); text = sym (ap (λ (f : Formatted). f .buffers .text) e); list = sym (ap (λ (f : Formatted). f .buffers .list) e); work = sym (ap (λ (f : Formatted). f .buffers .work) e) }
+    → gave r x l w ≡ format s id a image (buffers x l w)
+unfolding refuse answerOf gave
+refused-is s id a image x l w n e er = ap (λ (c : code-answer.Answer). gave c x l w) er ∙ sym e
 
 module _ (s id : Bytes) (a : Option Bytes) (image x l w : Bytes) {p : code-part.Part} (h : PatternFound s id a p) where
   -- 4, 8, 11, 12
-  pub format-refused : {n : ℕ} {r : code-answer.Answer} → p ≡ part-answer.Refused n → r ≡ ans.Refused n → Formats s id a image x l w x l w r
+  pub format-refused : {n : ℕ} {r : code-answer.Answer} → p ≡ part-answer.Refused n → r ≡ ans.Refused n → gave r x l w ≡ format s id a image (buffers x l w)
   format-refused {n} {r} e er = go h
     where
-      go : PatternFound s id a p → Formats s id a image x l w x l w r
+      go : PatternFound s id a p → gave r x l w ≡ format s id a image (buffers x l w)
       go (refuses m e′ f) = let q : m ≡ n = cc in refused-is s id a image x l w n (f image (buffers x l w) ∙ ap (λ (i : ℕ). refuse i (buffers x l w)) q) er
       go (finds q st used pt f e′ hs hp k) = let z : _≡_ {A = ℕ} 0 1 = cc in absurd (omega arith)
 
@@ -61,28 +65,23 @@ module _ (s id : Bytes) (a : Option Bytes) (image x l w : Bytes) {p : code-part.
         go (finds q′ st used pt f e′ hs hp k) = let eq : q′ ≡ q = cc in c st used pt f hs (subst (λ (j : ℕ). entryPatternAt s j ≡ got pt f) eq hp) (k image (buffers x l w))
 
     -- 13
-    pub format-arguments : {r : code-answer.Answer} → argumentsOf image ≡ bad → r ≡ ans.Refused 13 → Formats s id a image x l w x l w r
+    pub format-arguments : {r : code-answer.Answer} → argumentsOf image ≡ bad → r ≡ ans.Refused 13 → gave r x l w ≡ format s id a image (buffers x l w)
     unfolding formatArguments
     format-arguments b er = found-elim (λ st used pt f hs hp k. refused-is s id a image x l w 13 (k ∙ rw b) er)
 
     module _ {args : List (Bytes × Argument)} {end : ℕ} (ha : argumentsOf image ≡ got args end) where
       -- 7, of a list buffer that has no room for a header
-      pub format-header : {r : code-answer.Answer} → length l < 5 → r ≡ ans.Refused 7 → Formats s id a image x l w x l w r
+      pub format-header : {r : code-answer.Answer} → length l < 5 → r ≡ ans.Refused 7 → gave r x l w ≡ format s id a image (buffers x l w)
       unfolding formatArguments formatWith orRefuse listHeader
       format-header small er = found-elim (λ st used pt f hs hp k. refused-is s id a image x l w 7 (k ∙ rw (ha, lt-leb 5 (length l) small)) er)
 
       -- the run
       pub format-run : {x₁ l₁ w₁ x₂ l₂ w₂ : Bytes} {sc : Scope} {r : code-answer.Answer} → Octets s → 5 ≤ length l → RunAt (env s image) q x l w x₁ l₁ w₁ sc → FinishAt sc x₁ l₁ w₁ x₂ l₂ w₂ r
-          → Formats s id a image x l w x₂ l₂ w₂ r
+          → gave r x₂ l₂ w₂ ≡ format s id a image (buffers x l w)
       unfolding formatArguments formatWith orRefuse listHeader
       format-run {r = r} oct big ru fi = found-elim (λ st used pt f hs hp k.
           let u : Setup (env s image) = record { held = st; used = used; held-at = hs; given = args; given-end = end; given-at = ha } in
           let o : Ran = runPattern (settingOf (env s image) u) (findOf (env s image) u) (limitsOf (buffers x l w)) pt in
           let g = fi .finishes o x l w (ru .runs u pt f hp big) (ru .text-size) (ru .list-size) (ru .work-size) in
           let d : format s id a image (buffers x l w) ≡ ended o (buffers x l w) = k ∙ rw (ha, le-leb 5 (length l) big) in
-          record {
-            answer = g .0 ∙ sym (ap (λ (y : Formatted). stoppedOf (y .answer)) d) ∙ stopped-is (format s id a image (buffers x l w) .answer) (λ t e b u v h. omega (arith, few-unfound s id a image (buffers x l w) oct t e b u v h));
-            text = g .1 ∙ sym (ap (λ (y : Formatted). y .buffers .text) d);
-            list = g .2 ∙ sym (ap (λ (y : Formatted). y .buffers .list) d);
-            work = g .3 ∙ sym (ap (λ (y : Formatted). y .buffers .work) d);
-          })
+          g ∙ sym (ap stopped d) ∙ stopped-is (format s id a image (buffers x l w)) (λ t e b u v h. omega (arith, few-unfound s id a image (buffers x l w) oct t e b u v h)))

@@ -9,10 +9,10 @@ use Rattle.records.specs.Tree.{Expression, Inline}
 use Rattle.records.specs.Decode.{selectAt, expression, inline}
 use Rattle.records.proofs.Views.{both, never, expression-elim}
 use Rattle.resolution.specs.Resolve.{writeExpression}
-use Rattle.scope.specs.Relations.Meets.{World, Env, settingOf, findOf, crossOf}
-use Rattle.scope.specs.Relations.Members.{ExpressionAt, SelectAt, InlineAt}
-use Rattle.scope.proofs.Laws.{kept-same}
-use Rattle.scope.proofs.Steps.{runs-as, runs-over}
+use Rattle.resolver.specs.Relations.Meets.{World, Env, settingOf, findOf, crossOf}
+use Rattle.resolver.specs.Relations.Members.{ExpressionAt, SelectAt, InlineAt}
+use Rattle.resolver.proofs.Single.Laws.{kept-same}
+use Rattle.resolver.proofs.Single.Steps.{runs-as, runs-over}
 
 module _ (e : Env) (left at : ℕ) where
   pub expression-over : (w : World) → (w .st .refused ≡ 0 → ⊥) → ExpressionAt e left at w w

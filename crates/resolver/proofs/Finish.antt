@@ -18,10 +18,11 @@ use Rattle.resolution.specs.Exec.{Machine, Ran, ran, refused}
 use Rattle.resolution.specs.Format.{Answer, finished, refusedRunning, Buffers, zeros, ended}
 use Rattle.state.specs.declared.Scope.{Scope}
 use Rattle.state.specs.Setters.{maxUnfound}
-use Rattle.scope.proofs.Puts.{errors-length}
+use Rattle.resolver.proofs.Single.Puts.{errors-length}
 use Rattle.resolver.specs.declared.format.Answer as code-answer
 use Rattle.resolver.specs.declared.format.Answer.the-variants as ans
-use Rattle.resolver.specs.Relations.Runs.{stoppedOf, RanAs, ran-as, refused-as, FinishAt}
+use Rattle.resolver.specs.Formats.{answerOf, gave}
+use Rattle.resolver.specs.Relations.Runs.{stopped, stoppedOf, RanAs, ran-as, refused-as, FinishAt}
 use Rattle.resolver.proofs.Whole.{buffers, front-is}
 
 header-size : (n : ℕ) → length (header n) ≡ 5
@@ -48,24 +49,33 @@ list-is es l l₁ n e big room records rest =
     (subst (λ (i : ℕ). take i (headed l₁ i) ≡ encErrors es) (sym m) (headed-errors l₁ es (omega arith) (omega arith) (subst (λ (i : ℕ). part l₁ 5 i ≡ encAll encError es) j records)))
     (subst (λ (i : ℕ). drop i (headed l₁ i) ≡ drop i l₁) (sym m) (header-drop l₁ (length (encAll encError es)) (omega arith) (omega arith)) ∙ rest)
 
+-- an answer and three buffers, each known
+gave-is : (r : code-answer.Answer) {a : Answer} {x l w x′ l′ w′ : Bytes} → answerOf r ≡ a → x ≡ x′ → l ≡ l′ → w ≡ w′ → gave r x l w ≡ record { answer = a; buffers = buffers x′ l′ w′ }
+unfolding gave
+gave-is r ea ex el ew = rw (ea, ex, el, ew) refl
+
 abbrev Ends : Ran → Bytes → Bytes → Bytes → Bytes → Bytes → Bytes → code-answer.Answer → Type 0
-Ends o x l w x₂ l₂ w₂ r = (r ≡ stoppedOf (ended o (buffers x l w) .answer)) × (x₂ ≡ ended o (buffers x l w) .buffers .text) × (l₂ ≡ ended o (buffers x l w) .buffers .list) × (w₂ ≡ ended o (buffers x l w) .buffers .work)
+Ends o x l w x₂ l₂ w₂ r = gave r x₂ l₂ w₂ ≡ stopped (ended o (buffers x l w))
 
 module _ (sc : Scope) (x₁ l₁ w₁ : Bytes) {x₂ l₂ w₂ : Bytes} {r : code-answer.Answer} where
   -- a run that was refused
   pub finish-cleared : (sc .refused ≡ 0 → ⊥) → x₂ ≡ replicate (length x₁) 0 → l₂ ≡ replicate (length l₁) 0 → w₂ ≡ replicate (length w₁) 0 → r ≡ ans.Cleared (sc .refused) → FinishAt sc x₁ l₁ w₁ x₂ l₂ w₂ r
-  unfolding stoppedOf ended zeros
+  unfolding answerOf stopped stoppedOf ended zeros
   finish-cleared z ex el ew er = record { finishes = λ o x l w h lx ll lw. go o x l w lx ll lw h }
     where
       go : (o : Ran) (x l w : Bytes) → length x₁ ≡ length x → length l₁ ≡ length l → length w₁ ≡ length w → RanAs o x l x₁ l₁ sc → Ends o x l w x₂ l₂ w₂ r
       go o x l w lx ll lw (ran-as m _ g _ _ _ _ _ _ _ _ _ _ _ _) = absurd (z g)
-      go o x l w lx ll lw (refused-as n eq _ en) = subst (λ (q : Ran). Ends q x l w x₂ l₂ w₂ r) (sym eq) (er ∙ ap ans.Cleared en, ex ∙ ap (λ (k : ℕ). replicate k 0) lx, el ∙ ap (λ (k : ℕ). replicate k 0) ll, ew ∙ ap (λ (k : ℕ). replicate k 0) lw)
+      go o x l w lx ll lw (refused-as n eq _ en) =
+          subst (λ (q : Ran). Ends q x l w x₂ l₂ w₂ r) (sym eq)
+          (gave-is r (ap answerOf er ∙ ap refusedRunning en) (ex ∙ ap (λ (k : ℕ). replicate k 0) lx) (el ∙ ap (λ (k : ℕ). replicate k 0) ll) (ew ∙ ap (λ (k : ℕ). replicate k 0) lw))
 
   -- a run that was not
   pub finish-ran : sc .refused ≡ 0 → x₂ ≡ x₁ → l₂ ≡ headed l₁ (sc .«list_at») → w₂ ≡ replicate (length w₁) 0 → r ≡ ans.Finished (record { text = sc .«text_at»; errors = sc .errors; begun = sc .begun; unfound = sc .unfound; work = sc .high }) → FinishAt sc x₁ l₁ w₁ x₂ l₂ w₂ r
-  unfolding stoppedOf ended zeros
+  unfolding answerOf stopped stoppedOf ended zeros
   finish-ran z ex el ew er = record { finishes = λ o x l w h lx ll lw. go o x l w ll lw h }
     where
       go : (o : Ran) (x l w : Bytes) → length l₁ ≡ length l → length w₁ ≡ length w → RanAs o x l x₁ l₁ sc → Ends o x l w x₂ l₂ w₂ r
-      go o x l w ll lw (ran-as m eq _ et xf en big _ room records rest ee eb eu eh) = subst (λ (q : Ran). Ends q x l w x₂ l₂ w₂ r) (sym eq) (er ∙ rw (et, ee, eb, eu, eh) refl, ex ∙ xf, el ∙ list-is (m .errors) l l₁ (sc .«list_at») en big (omega arith) records rest, ew ∙ ap (λ (k : ℕ). replicate k 0) lw)
+      go o x l w ll lw (ran-as m eq _ et xf en big _ room records rest ee eb eu eh) =
+          subst (λ (q : Ran). Ends q x l w x₂ l₂ w₂ r) (sym eq)
+          (gave-is r (ap answerOf er ∙ rw (et, ee, eb, eu, eh) refl) (ex ∙ xf) (el ∙ list-is (m .errors) l l₁ (sc .«list_at») en big (omega arith) records rest) (ew ∙ ap (λ (k : ℕ). replicate k 0) lw))
       go o x l w ll lw (refused-as n _ nz en) = absurd (nz (sym en ∙ z))

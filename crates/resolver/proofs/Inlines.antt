@@ -16,7 +16,6 @@ use Rattle.records.specs.declared.Num.the-variants as num
 use Rattle.records.specs.Got.{Got, got, bad}
 use Rattle.records.specs.Relations.Answer.{numOf}
 use Rattle.records.specs.Bytes.{part, byteAt, spanAt, strAt}
-use Rattle.rules.specs.Rules as rules
 use Rattle.records.specs.Tree.{Expression, Inline, Inlines, Named, variable, function, message, term, nested}
 use Rattle.records.specs.Decode.{idAt, literalNumberAt, argumentsAt, expression, inline}
 use Rattle.records.proofs.Laws.{str-in}
@@ -26,12 +25,13 @@ use Rattle.resolution.specs.Exec.{Limits, Machine}
 use Rattle.resolution.specs.Resolve.{Trail, getVariable, writeVariable, callFunction, writeResult, writeInline, getArguments}
 use Rattle.state.specs.declared.Value as code-value
 use Rattle.state.specs.declared.Value.the-variants as val
-use Rattle.scope.specs.Relations.Meets.{World, Live, Runs, Kept, Acts, Holds, is-number, Env, Setup, settingOf, findOf, crossOf}
-use Rattle.scope.specs.Relations.Leaves.{ResultAt, VariableAt}
-use Rattle.scope.specs.Relations.Members.{Here, ExpressionAt, InlineAt, MessageAt, TermAt, CalledAt}
-use Rattle.scope.proofs.Laws.{kept-same, kept-then, ended-then}
-use Rattle.scope.proofs.Steps.{runs-as, runs-over}
-use Rattle.scope.proofs.Literals.{number-is, literal-ranged, id-short}
+use Rattle.resolver.specs.Relations.Meets.{World, Live, Runs, Kept, Acts, Holds, is-number, Env, Setup, settingOf, findOf, crossOf}
+use Rattle.resolver.specs.Relations.Leaves.{ResultAt, VariableAt}
+use Rattle.resolver.specs.Relations.Members.{Here, ExpressionAt, InlineAt, MessageAt, TermAt, CalledAt}
+use Rattle.resolver.proofs.Single.Laws.{kept-same, kept-then, ended-then}
+use Rattle.resolver.proofs.Single.Steps.{runs-as, runs-over}
+use Rattle.variants.proofs.Literals.{id-short}
+use Rattle.literals.proofs.Ranged.{literal-ranged}
 use Rattle.resolver.proofs.Bodies.{string-body, number-body, message-body, term-body, variable-body, nested-body, str-body, function-body}
 
 -- the length of a part that lies in a list
@@ -41,7 +41,7 @@ part-length s a b h k = length-take-le (b - a) (drop a s) (let q = length-drop a
 -- what a number literal's rule says
 number-rule : (s : List ℕ) (at : ℕ) {t : List ℕ} {e : ℕ} → literalNumberAt s at ≡ got t e → isNumber t ≡ true
 unfolding literalNumberAt
-number-rule s at {t} h = ruled-elim rules.isNumber s at h (λ p hs et ok. number-is t ok)
+number-rule s at {t} h = ruled-elim isNumber s at h (λ p hs et ok. ok)
 
 module _ (e : Env) (left at : ℕ) where
   abbrev Writes : Setup e → ℕ → Trail → World → World → Inline → Type 0

@@ -1,4 +1,5 @@
 -- Steps of the writers, one for each way to return, over variables; and a whole formatting.
+pub mod Single
 pub mod Bodies
 pub mod Elements
 pub mod Expressions

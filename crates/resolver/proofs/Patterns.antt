@@ -13,8 +13,7 @@ use Rattle.records.specs.Tree.{Pattern}
 use Rattle.records.specs.Decode.{entryPatternAt}
 use Rattle.records.specs.Images.{Kind, Entry, Store, storeOf, entryAt}
 use Rattle.entries.specs.Lookup.{Holder, findIn, partOf}
-use Rattle.texts.specs.Optional.{optionOf}
-use Rattle.entries.specs.Relations.Meets.{asked, HolderAt, message-at, term-at, function-at, nothing-at, PartAt, part-at, no-part}
+use Rattle.entries.specs.Relations.Meets.{HolderAt, message-at, term-at, function-at, nothing-at, PartAt, part-at, no-part}
 use Rattle.entries.specs.declared.Found.{Found}
 use Rattle.entries.specs.declared.Found.the-variants as found
 use Rattle.resolution.specs.Effect.{Bytes}
@@ -23,12 +22,6 @@ use Rattle.resolution.specs.Format.{Buffers, refuse, orRefuse, isIdOrNone, form
 use Rattle.resolver.specs.declared.format.Part as code-part
 use Rattle.resolver.specs.declared.format.Part.the-variants as part-answer
 use Rattle.resolver.specs.Relations.Runs.{PatternFound, refuses, finds}
-
--- the attribute that is asked for, named twice
-pub part-asked : (s : Bytes) (t : Bool) (b : Bytes) (x : Entry) {n : Next} → PartAt s (partOf (asked t b) x) n → PartAt s (partOf (optionOf t b) x) n
-unfolding asked optionOf
-part-asked s true b x h = h
-part-asked s false b x h = h
 
 -- 4: no store
 pub pattern-no-store : (s id : Bytes) (a : Option Bytes) {r : code-part.Part} → storeOf s ≡ bad → r ≡ part-answer.Refused 4 → PatternFound s id a r

@@ -16,11 +16,11 @@ use Rattle.records.specs.Images.{Kind, Entry, Store, storeOf, entryAt}
 use Rattle.records.specs.Errors.{Error, Referred, reference, noValue}
 use Rattle.records.proofs.Laws.{after-elim, number-inv, byte-inv}
 use Rattle.records.proofs.Views.{both, never, id-elim, term-elim, Body, is-string, is-number, is-function, is-message, is-term, is-variable, is-nested, inline-elim}
-use Rattle.texts.specs.Optional.{optionOf}
+use Rattle.records.specs.Optional.{optionOf}
 use Rattle.texts.specs.Relations.Report.{referredOf}
 use Rattle.texts.specs.declared.errors.Referred.the-variants as referred
 use Rattle.entries.specs.Lookup.{Holder, Find, findIn, partOf}
-use Rattle.entries.specs.Relations.Meets.{HolderAt, message-at, term-at, function-at, nothing-at, PartAt, part-at, no-part, asked}
+use Rattle.entries.specs.Relations.Meets.{HolderAt, message-at, term-at, function-at, nothing-at, PartAt, part-at, no-part}
 use Rattle.entries.specs.declared.Found.{Found}
 use Rattle.entries.specs.declared.Found.the-variants as found
 use Rattle.resolution.specs.Effect.{Bytes, report, unfound, M, Done, emit, write, _>>=_, _>>_}
@@ -29,11 +29,11 @@ use Rattle.state.specs.declared.Scope.{Scope}
 use Rattle.state.specs.declared.Reference.{Reference}
 use Rattle.state.specs.declared.Referring.{Referring}
 use Rattle.state.specs.declared.Reference.the-variants as ref
-use Rattle.scope.specs.Relations.Meets.{World, world, Runs, Kept, Acts, Env, Setup, settingOf, findOf, crossOf}
-use Rattle.scope.specs.Relations.Leaves.{ErrorAt, RefErrorAt, ReferenceIs, reads, unread}
-use Rattle.scope.specs.Relations.Members.{Here, TrackAt, MessageAt, FoundTermAt}
-use Rattle.scope.proofs.Laws.{kept-same, kept-then, runs-then}
-use Rattle.scope.proofs.Steps.{runs-as, runs-over}
+use Rattle.resolver.specs.Relations.Meets.{World, world, Runs, Kept, Acts, Env, Setup, settingOf, findOf, crossOf}
+use Rattle.resolver.specs.Relations.Leaves.{ErrorAt, RefErrorAt, ReferenceIs, reads, unread}
+use Rattle.resolver.specs.Relations.Members.{Here, TrackAt, MessageAt, FoundTermAt}
+use Rattle.resolver.proofs.Single.Laws.{kept-same, kept-then, runs-then}
+use Rattle.resolver.proofs.Single.Steps.{runs-as, runs-over}
 use Rattle.resolver.proofs.Binds.{look-found, look-lost}
 
 -- a reference that was read: its Id and its attribute stand past its tag
@@ -107,11 +107,6 @@ module _ (s : List ℕ) (at : ℕ) {r : Reference} (rd : ReferenceIs s at r) whe
             let ex : record { from = from; to = to; has = has; start = start; end = end } ≡ x = cc in
             subst (λ (y : Referring). (n ≡ part s (y .from) (y .to - y .from)) × (y .to - y .from ≤ 255) × (a ≡ optionOf (y .has) (part s (y .start) (y .end - y .start))) × (y .end - y .start ≤ 255) × (y .end ≡ f)) ex (h n p a f hn ha)
         go (unread e h) = let z : _≡_ {A = ℕ} 0 1 = cc in absurd (omega arith)
-
-asked-is : (b : Bool) (t : Bytes) → optionOf b t ≡ asked b t
-unfolding optionOf asked
-asked-is true t = refl
-asked-is false t = refl
 
 -- what holds an Id, by the code's answer
 module _ {s : List ℕ} {o : Option Holder} {h : Found} {C : Type 0} where
@@ -196,8 +191,8 @@ module _ (e : Env) (at : ℕ) where
       holder : (u : Setup e) {i : Bytes} {p : ℕ} {a : Option Bytes} {g : ℕ} → idAt (e .store) (at + 1) ≡ got i p → optionalAt idAt (e .store) p ≡ got a g → HolderAt (e .store) (findOf e u i) h
       holder u hn ha = rw (reference-is (e .store) (at + 1) rd y er hn ha .0) (hold (u .held) (u .used) (u .held-at))
 
-      asks : {i : Bytes} {p : ℕ} {a : Option Bytes} {g : ℕ} → idAt (e .store) (at + 1) ≡ got i p → optionalAt idAt (e .store) p ≡ got a g → a ≡ asked (y .has) (part (e .store) (y .start) (y .end - y .start))
-      asks hn ha = reference-is (e .store) (at + 1) rd y er hn ha .2 ∙ asked-is (y .has) _
+      asks : {i : Bytes} {p : ℕ} {a : Option Bytes} {g : ℕ} → idAt (e .store) (at + 1) ≡ got i p → optionalAt idAt (e .store) p ≡ got a g → a ≡ optionOf (y .has) (part (e .store) (y .start) (y .end - y .start))
+      asks hn ha = reference-is (e .store) (at + 1) rd y er hn ha .2
 
       -- the error of a reference
       module _ {x l w x′ l′ w′ : List ℕ} {st s′ : Scope} (t : List ℕ) where
@@ -264,7 +259,7 @@ module _ (e : Env) (at : ℕ) where
               }
 
       -- the part that a reference to a message names
-      module _ (entry : ℕ) {rn : Next} (pt : (x : Entry) (f : ℕ) → entryAt (e .store) entry ≡ got x f → PartAt (e .store) (partOf (asked (y .has) (part (e .store) (y .start) (y .end - y .start))) x) rn) where
+      module _ (entry : ℕ) {rn : Next} (pt : (x : Entry) (f : ℕ) → entryAt (e .store) entry ≡ got x f → PartAt (e .store) (partOf (optionOf (y .has) (part (e .store) (y .start) (y .end - y .start))) x) rn) where
         named-part : {i : Bytes} {p : ℕ} {a : Option Bytes} {g : ℕ} → idAt (e .store) (at + 1) ≡ got i p → optionalAt idAt (e .store) p ≡ got a g
             → (x : Entry) (f : ℕ) → entryAt (e .store) entry ≡ got x f → PartAt (e .store) (partOf a x) rn
         named-part hn ha x f hx = rw (asks hn ha) (pt x f hx)
@@ -295,7 +290,7 @@ module _ (e : Env) (at : ℕ) where
           }
 
           pub message-no-attribute : h ≡ found.Message entry → rn ≡ next.Bad → y .has ≡ true → RefErrorAt (e .store) at (referredOf referred.Message) x l w st x′ l′ w′ s′ → MessageAt e at (world (e .store) x l w t st) (world (e .store) x′ l′ w′ t s′)
-          unfolding writeMessage onPart missingPart asked
+          unfolding writeMessage onPart missingPart optionOf
           message-no-attribute eh en has re = record {
             kept = re .kept t;
             runs = λ u d i a f k n tr here. message-read (e .store) at d k (λ q hn ha. known-message (holder u hn ha) eh (λ z j eo ek hz. missing-part (named-part hn ha z j hz) en (λ ep.
@@ -308,7 +303,7 @@ module _ (e : Env) (at : ℕ) where
             → ((i x w t : List ℕ) → Kept (world i x l w t st) (world i x l1 w t s1)) × (length (part (e .store) (y .from) (y .to - y .from)) ≤ 255
             → (i x w t : List ℕ) → Acts (emit (report (noValue (part (e .store) (y .from) (y .to - y .from))))) (world i x l w t st) (world i x l1 w t s1))
             → ErrorAt (e .store) at x w s1 x′ w′ s′ → MessageAt e at (world (e .store) x l w t st) (world (e .store) x′ l1 w′ t s′)
-        unfolding writeMessage onPart missingPart asked errorText writeRefError
+        unfolding writeMessage onPart missingPart optionOf errorText writeRefError
         message-no-value {x} {l} {w} {l1} {x′} {w′} {st} {s1} {s′} t eh en has lst b =
             record {
               kept = kept-then (lst .0 (e .store) x w t) (b .kept l1 t);

@@ -19,13 +19,13 @@ use Rattle.resolution.specs.Effect.{report, M, Done, ret, _>>=_, emit, release}
 use Rattle.resolution.specs.Resolve.{Setting, Trail, chosen, writePattern, writeExpression, writeNth, writeVariant, resolveInline}
 use Rattle.state.specs.declared.Scope.{Scope}
 use Rattle.state.specs.declared.Value as code-value
-use Rattle.scope.specs.Relations.Meets.{World, world, Runs, Kept, Acts, Holds, Env, Setup, settingOf, findOf, crossOf}
-use Rattle.scope.specs.Relations.Leaves.{patternOf, nthOf, Pick, picked, no-pick, PickAt}
-use Rattle.scope.specs.Relations.Members.{Here, PatternAt, SelectAt, ValueAt}
+use Rattle.resolver.specs.Relations.Meets.{World, world, Runs, Kept, Acts, Holds, Env, Setup, settingOf, findOf, crossOf}
+use Rattle.variants.specs.Relations.Pick.{patternOf, nthOf, Pick, picked, no-pick, PickAt}
+use Rattle.resolver.specs.Relations.Members.{Here, PatternAt, SelectAt, ValueAt}
 use Rattle.state.specs.Setters.{backS}
-use Rattle.scope.proofs.Laws.{stays, here-stays, kept-same, kept-then, ended-then}
-use Rattle.scope.proofs.Steps.{runs-as, runs-over}
-use Rattle.scope.proofs.Release.{freed, kept-freed, ended-release, release-over, runs-stopped}
+use Rattle.resolver.proofs.Single.Laws.{stays, here-stays, kept-same, kept-then, ended-then}
+use Rattle.resolver.proofs.Single.Steps.{runs-as, runs-over}
+use Rattle.resolver.proofs.Single.Release.{freed, kept-freed, ended-release, release-over, runs-stopped}
 
 -- the nth variant
 module _ (st : Setting) (find : Find) (cross : Pattern → Trail → M Done) (t : Trail) where

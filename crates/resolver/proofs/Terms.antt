@@ -21,13 +21,13 @@ use Rattle.state.specs.declared.Value as code-value
 use Rattle.state.specs.declared.Reference.{Reference}
 use Rattle.state.specs.declared.Referring.{Referring}
 use Rattle.state.specs.declared.Reference.the-variants as ref
-use Rattle.scope.specs.Relations.Meets.{World, world, Live, LocalsAt, no-locals, some-locals, NamedIn, named-none, namedTexts, locals-cleared, Moved, Ended, ended, stopped, Runs, Kept, Env, Setup, settingOf, findOf, crossOf}
-use Rattle.scope.specs.Relations.Leaves.{NamedAt, ReferenceIs}
-use Rattle.scope.specs.Relations.Members.{Here, PositionalAt, FoundTermAt, TermAt}
+use Rattle.resolver.specs.Relations.Meets.{World, world, Live, LocalsAt, no-locals, some-locals, NamedIn, named-none, namedTexts, locals-cleared, Moved, Ended, ended, stopped, Runs, Kept, Env, Setup, settingOf, findOf, crossOf}
+use Rattle.resolver.specs.Relations.Leaves.{NamedAt, ReferenceIs}
+use Rattle.resolver.specs.Relations.Members.{Here, PositionalAt, FoundTermAt, TermAt}
 use Rattle.state.specs.Setters.{localsS, clearS, backS}
-use Rattle.scope.proofs.Laws.{kept-same, kept-then, append-nil}
-use Rattle.scope.proofs.Steps.{runs-as, runs-over}
-use Rattle.scope.proofs.Release.{freed, ended-release, stopped-release, release-back, release-over}
+use Rattle.resolver.proofs.Single.Laws.{kept-same, kept-then, append-nil}
+use Rattle.resolver.proofs.Single.Steps.{runs-as, runs-over}
+use Rattle.resolver.proofs.Single.Release.{freed, ended-release, stopped-release, release-back, release-over}
 use Rattle.resolver.proofs.Binds.{ret-bind, bind-assoc, given, quiet-found-term, quiet-resolve}
 use Rattle.resolver.proofs.References.{term-read, reference-none, reference-is}
 use Rattle.resolver.proofs.Calls.{arguments-stopped, arguments-unnamed, arguments-runs, kept-named}

@@ -8,7 +8,7 @@ use native.Mathlib.Numerals.{add-one}
 use lib.ListN.{length, getD, set, length-set}
 use lib.Seq.{getD-set-same, getD-set-other}
 use Rattle.records.specs.Got.{Got, got, bad}
-use Rattle.records.specs.Bytes.{part, numberAt}
+use Rattle.records.specs.Bytes.{part}
 use Rattle.records.specs.Tree.{Pattern, pattern, Inline}
 use Rattle.records.specs.Decode.{patternAt, entryPatternAt, maxDepth, expression, inline}
 use Rattle.records.specs.Errors.{cyclic}
@@ -17,18 +17,18 @@ use Rattle.records.proofs.Views.{pattern-elim}
 use Rattle.texts.specs.Relations.Report.{plainOf}
 use Rattle.texts.specs.declared.errors.Plain.the-variants as plain
 use Rattle.entries.specs.Lookup.{Find}
-use Rattle.walks.proofs.Trail.{bytes-at}
+use Rattle.trail.proofs.Trail.{bytes-at}
 use Rattle.resolution.specs.Effect.{Bytes, report, State, Out, M, Done, emit, write, _>>_}
 use Rattle.resolution.specs.Exec.{Machine, Limits}
 use Rattle.resolution.specs.Resolve.{Setting, Trail, onTrail, bytesOf, braced, errorText, writeRefError, trackIf, track, writePattern, resolve}
 use Rattle.state.specs.declared.Scope.{Scope}
-use Rattle.scope.specs.Relations.Meets.{World, world, Live, LocalsStay, locals-same, locals-cleared, Moved, Ended, ended, stopped, Runs, Kept, Acts, trailOf, patternBytes, Env, Setup, settingOf, findOf, crossOf}
-use Rattle.scope.specs.Relations.Leaves.{ErrorAt}
-use Rattle.scope.specs.Relations.Members.{Here, PatternAt, TrackAt}
+use Rattle.resolver.specs.Relations.Meets.{World, world, Live, LocalsStay, locals-same, locals-cleared, Moved, Ended, ended, stopped, Runs, Kept, Acts, trailOf, patternBytes, Env, Setup, settingOf, findOf, crossOf}
+use Rattle.resolver.specs.Relations.Leaves.{ErrorAt}
+use Rattle.resolver.specs.Relations.Members.{Here, PatternAt, TrackAt}
 use Rattle.state.specs.Setters.{depthS}
-use Rattle.scope.proofs.Laws.{kept-same, kept-then, runs-then}
-use Rattle.scope.proofs.Locals.{locals-alike}
-use Rattle.scope.proofs.Steps.{runs-as, runs-over}
+use Rattle.resolver.proofs.Single.Laws.{kept-same, kept-then, runs-then}
+use Rattle.resolver.proofs.Single.Locals.{locals-alike}
+use Rattle.resolver.proofs.Single.Steps.{runs-as, runs-over}
 
 -- the trail with one more
 trail-below : (s a : List ℕ) (d i x : ℕ) → i ≤ d → trailOf s (set a d x) i ≡ trailOf s a i
@@ -130,13 +130,13 @@ resolve-more st find zero p t h = absurd (omega arith)
 resolve-more st find (suc n) p t h = let e : n ≡ suc n - 1 = omega arith in ap (λ (m : ℕ). writePattern st find (λ q t. resolve st find m q t) t p) e
 
 -- the bytes of a pattern that was read
-bytes-of : (s : List ℕ) (at : ℕ) {p : Pattern} {f : ℕ} {C : Type 0} → entryPatternAt s at ≡ got p f → ((n k : ℕ) → numberAt 4 s at ≡ got n k → bytesOf p ≡ patternBytes s at → C) → C
+bytes-of : (s : List ℕ) (at : ℕ) {p : Pattern} {f : ℕ} → entryPatternAt s at ≡ got p f → bytesOf p ≡ patternBytes s at
 unfolding entryPatternAt bytesOf
-bytes-of s at {p} {f} h c = pattern-elim (expression maxDepth) s at h (λ n a k b es hn hk z he ef ep.
+bytes-of s at {p} {f} h = pattern-elim (expression maxDepth) s at h (λ n a k b es hn hk z he ef ep.
     let i = number-inv s 4 at hn in
     let i1 = i .1 in
     let m : f - at ≡ 4 + n = omega arith in
-    c n a hn (ap bytesOf ep ∙ ap (λ (j : ℕ). part s at j) m ∙ sym (bytes-at s at hn)))
+    ap bytesOf ep ∙ ap (λ (j : ℕ). part s at j) m ∙ sym (bytes-at s at hn))
 
 module _ (e : Env) (at q : ℕ) where
   pub track-over : (w : World) → (w .st .refused ≡ 0 → ⊥) → TrackAt e at q w w
@@ -146,12 +146,12 @@ module _ (e : Env) (at q : ℕ) where
   pub track-far : (w : World) → 102 ≤ w .st .depth → TrackAt e at q w w
   track-far w h = record { kept = kept-same w; runs = λ u d y f k p g hp n t here L s m lv. absurd (let a = here .room in let b = lv .most in let c = lv .begun in omega arith) }
 
-  module _ (x l w t : List ℕ) (st : Scope) (on : Bool) (ht : (m k : ℕ) → numberAt 4 (e .store) q ≡ got m k → on ≡ onTrail (patternBytes (e .store) q) (trailOf (e .store) t (st .depth))) where
+  module _ (x l w t : List ℕ) (st : Scope) (on : Bool) (ht : on ≡ onTrail (patternBytes (e .store) q) (trailOf (e .store) t (st .depth))) where
     abbrev from : World
     from = world (e .store) x l w t st
 
     on-it : {n : ℕ} {tr : Trail} → Here e from 0 n tr → (p : Pattern) (g : ℕ) → entryPatternAt (e .store) q ≡ got p g → onTrail (bytesOf p) tr ≡ on
-    on-it here p g hp = bytes-of (e .store) q hp (λ n k hn eb. rw (eb, here .on) (sym (ht n k hn)))
+    on-it here p g hp = rw (bytes-of (e .store) q hp, here .on) (sym ht)
 
     pub track-cyclic : {l1 x2 w2 : List ℕ} {s1 s2 : Scope} → on ≡ true → ((i x w t : List ℕ) → Acts (emit (report (plainOf plain.Cyclic))) (world i x l w t st) (world i x l1 w t s1))
         → ErrorAt (e .store) at x w s1 x2 w2 s2 → TrackAt e at q from (world (e .store) x2 l1 w2 t s2)
@@ -174,7 +174,7 @@ module _ (e : Env) (at q : ℕ) where
           runs = λ u d y f k p g hp n tr here L s m lv.
               let pos : 0 < n = (let a = here .fuel in let b = lv .most in let c = lv .begun in omega arith) in
               let lt : st .depth < length t = (let a = lv .trail-len in omega arith) in
-              let eb : bytesOf p ≡ patternBytes (e .store) q = bytes-of (e .store) q hp (λ _ _ _ b. b) in
+              let eb : bytesOf p ≡ patternBytes (e .store) q = bytes-of (e .store) q hp in
               let ont : trailOf (e .store) (set t (st .depth) q) (st .depth + 1) ≡ bytesOf p ∷ tr =
               trail-step (e .store) (set t (st .depth) q) (st .depth) ∙ rw (getD-set-same t (st .depth) q 0 lt, trail-below (e .store) t (st .depth) (st .depth) q (omega arith), eb, here .on) in
               let here1 : Here e (inner (e .store) x l w t st q) 1 (n - 1) (bytesOf p ∷ tr) = record {

@@ -24,16 +24,17 @@ use Rattle.resolution.specs.Resolve.{Trail, held, stringValue, getVariable, orW
 use Rattle.state.specs.declared.Scope.{Scope}
 use Rattle.state.specs.declared.Value as code-value
 use Rattle.state.specs.declared.Value.the-variants as val
-use Rattle.scope.specs.Relations.Meets.{World, world, Live, Ended, Runs, Kept, Holds, in-store, in-args, in-work, is-number as holds-number, is-nothing, is-wrong, Env, Setup, settingOf, findOf, crossOf}
-use Rattle.scope.specs.Relations.Leaves.{ResultIs, has-result, no-function, StringAt, VariableValueAt}
-use Rattle.scope.specs.Relations.Members.{Here, InlineAt, ValueAt, TextValueAt, CalledAt}
+use Rattle.resolver.specs.Relations.Meets.{World, world, Live, Ended, Runs, Kept, Holds, in-store, in-args, in-work, is-number as holds-number, is-nothing, is-wrong, Env, Setup, settingOf, findOf, crossOf}
+use Rattle.resolver.specs.Relations.Leaves.{ResultIs, has-result, no-function, StringAt, VariableValueAt}
+use Rattle.resolver.specs.Relations.Members.{Here, InlineAt, ValueAt, TextValueAt, CalledAt}
 use Rattle.state.specs.Setters.{asideS, keptS}
-use Rattle.scope.proofs.Laws.{kept-same, runs-ret, ended-then}
-use Rattle.scope.proofs.Steps.{runs-as, runs-over}
-use Rattle.scope.proofs.Capture.{opened, live-opened, ended-capture, holds-capture, capture-stopped, capture-lies, ended-held}
-use Rattle.scope.proofs.Literals.{number-is, literal-ranged, id-short}
+use Rattle.resolver.proofs.Single.Laws.{kept-same, runs-ret, ended-then}
+use Rattle.resolver.proofs.Single.Steps.{runs-as, runs-over}
+use Rattle.resolver.proofs.Single.Capture.{opened, live-opened, ended-capture, holds-capture, capture-stopped, capture-lies, ended-held}
+use Rattle.variants.proofs.Literals.{id-short}
+use Rattle.literals.proofs.Ranged.{literal-ranged}
 use Rattle.resolver.proofs.Bodies.{string-body, number-body, message-body, term-body, variable-body, nested-body, str-body, function-body}
-use Rattle.scope.proofs.Values.{string-value}
+use Rattle.resolver.proofs.Single.Values.{string-value}
 use Rattle.heads.specs.Tags.{textTag}
 use Rattle.heads.proofs.Heads.{text-tag}
 
@@ -126,7 +127,7 @@ module _ (e : Env) (left at : ℕ) where
             runs-as (ap (resolveInline (settingOf e u) (findOf e u) (crossOf e u n) tr) (ey ∙ ap Inline.number eb)) (runs-ret (numeric (literal str)) w)));
         holds = λ u y j k n tr here L s m lv z. number-body (e .store) at tag p hb left k h (λ b q ey. same (number-str (e .store) p q) (λ eb.
             ruled-elim _ (e .store) p q (λ _ _ _ ok.
-            let nb : isNumber str ≡ true = ap isNumber (sym eb) ∙ number-is b ok in
+            let nb : isNumber str ≡ true = ap isNumber (sym eb) ∙ ok in
             holds-number (literal str) (g le ln nb) (literal-ranged str nb) (ap (λ (o : Inline). resolveInline (settingOf e u) (findOf e u) (crossOf e u n) tr o s .value) (ey ∙ ap Inline.number eb)))));
       }
 

@@ -20,12 +20,12 @@ use Rattle.resolution.specs.Effect.{Bytes, State, Out, Done}
 use Rattle.resolution.specs.Resolve.{Trail, bytesOf, resolve}
 use Rattle.resolution.specs.Exec.{Machine, Limits, Ran, ran, refused, exec, start}
 use Rattle.resolution.specs.Format.{Buffers, limitsOf, maxPatterns, fresh, runPattern}
-use Rattle.walks.specs.Relations.Trail.{prefixed, patternBytes, trailOf}
+use Rattle.trail.specs.Relations.Trail.{prefixed, patternBytes, trailOf}
 use Rattle.state.specs.declared.Scope.{Scope}
-use Rattle.scope.specs.Relations.Meets.{World, world, Live, LocalsAt, no-locals, Moved, Ended, ended, stopped, Env, env, Setup, settingOf, findOf, crossOf}
-use Rattle.scope.specs.Relations.Members.{Here, PatternAt}
+use Rattle.resolver.specs.Relations.Meets.{World, world, Live, LocalsAt, no-locals, Moved, Ended, ended, stopped, Env, env, Setup, settingOf, findOf, crossOf}
+use Rattle.resolver.specs.Relations.Members.{Here, PatternAt}
 use Rattle.state.specs.Setters.{depthS, maxUnfound, newS}
-use Rattle.scope.proofs.Puts.{errors-length}
+use Rattle.resolver.proofs.Single.Puts.{errors-length}
 use Rattle.resolver.specs.Relations.Runs.{RanAs, ran-as, refused-as}
 
 -- the state in which a run begins

@@ -2,3 +2,7 @@
 pub mod Answers
 pub mod Runs
 pub mod Targets
+pub mod Meets
+pub mod Leaves
+pub mod Members
+pub mod Values

@@ -1,17 +1,17 @@
 // Calls: the positional arguments, and the function's result.
 ghost use mathlib.Core.Path.{_≡_};
-ghost use Rattle.scope.specs.Relations.Meets.{world, env};
-ghost use Rattle.scope.specs.Relations.Members.{PositionalAt, CalledAt};
+ghost use Rattle.resolver.specs.Relations.Meets.{world, env};
+ghost use Rattle.resolver.specs.Relations.Members.{PositionalAt, CalledAt};
 ghost use Rattle.resolver.specs.Relations.Answers.{AnswerAt};
 use crate::inline;
+use crate::scope::call::number_function;
+use crate::scope::value::resolve_named;
 use entries::Found;
 use entries::entry::find_holder;
 use records::Next;
 use records::Num;
 use records::read_str;
 use records::read_u16;
-use scope::call::number_function;
-use scope::value::resolve_named;
 use state::Called;
 use state::Positional;
 use state::Scope;
@@ -21,9 +21,9 @@ use state::set_back;
 use walks::skip_expression;
 
 // The positional arguments at `at`, each resolved in turn.
-pub fn positional(
-    store: &[u8],
-    args: &[u8],
+pub(crate) fn positional<'a>(
+    store: &'a [u8],
+    args: &'a [u8],
     text: &mut [u8],
     list: &mut [u8],
     work: &mut [u8],
@@ -71,9 +71,9 @@ pub fn positional(
 }
 
 // A call, its Id at `at`: its arguments are freed once its result, or that it is missing, is known.
-pub fn function(
-    store: &[u8],
-    args: &[u8],
+pub(crate) fn function<'a>(
+    store: &'a [u8],
+    args: &'a [u8],
     text: &mut [u8],
     list: &mut [u8],
     work: &mut [u8],

@@ -1,22 +1,22 @@
 // Expressions, written: an inline expression, or a select.
-ghost use Rattle.scope.specs.Relations.Meets.{world, env};
-ghost use Rattle.scope.specs.Relations.Members.{ExpressionAt, SelectAt};
+ghost use Rattle.resolver.specs.Relations.Meets.{world, env};
+ghost use Rattle.resolver.specs.Relations.Members.{ExpressionAt, SelectAt};
 use crate::inline;
 use crate::pattern;
+use crate::scope::select::choose;
 use records::Next;
 use records::Num;
 use records::read_byte;
-use scope::put::list_plain;
-use scope::select::choose;
 use state::Scope;
 use state::set_back;
 use texts::Plain;
 use walks::skip_expression;
+use writes::list::list_plain;
 
 // `Expression::write`
-pub fn write(
-    store: &[u8],
-    args: &[u8],
+pub(crate) fn write<'a>(
+    store: &'a [u8],
+    args: &'a [u8],
     text: &mut [u8],
     list: &mut [u8],
     work: &mut [u8],
@@ -43,9 +43,9 @@ pub fn write(
 }
 
 // A select, past its tag: the selector's text is freed when its variant, or none, is chosen.
-pub fn select(
-    store: &[u8],
-    args: &[u8],
+pub(crate) fn select<'a>(
+    store: &'a [u8],
+    args: &'a [u8],
     text: &mut [u8],
     list: &mut [u8],
     work: &mut [u8],

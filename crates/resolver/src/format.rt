@@ -11,11 +11,11 @@ use rules::is_id;
 use state::Scope;
 use texts::put_header;
 ghost use mathlib.Core.Path.{_≡_};
-ghost use Rattle.resolution.specs.Format.{isIdOrNone};
-ghost use Rattle.resolver.specs.Formats.{Formats};
+ghost use Rattle.resolution.specs.Format.{format, isIdOrNone};
+ghost use Rattle.resolver.specs.Formats.{gave};
 ghost use Rattle.resolver.specs.Relations.Runs.{PatternFound, RunAt, FinishAt};
-ghost use Rattle.texts.specs.Optional.{optionOf};
-ghost use Rattle.scope.specs.Relations.Meets.{env};
+ghost use Rattle.records.specs.Optional.{optionOf};
+ghost use Rattle.resolver.specs.Relations.Meets.{env};
 
 // What a formatting carries.
 pub struct Figures {
@@ -34,13 +34,13 @@ pub enum Answer {
 }
 
 // Where a pattern stands in the store, or the refusal.
-pub enum Part {
+enum Part {
     At(usize),
     Refused(u8),
 }
 
 // An absent attribute is an Id enough.
-pub fn is_id_or_none(has: bool, attribute: &[u8]) -> bool
+fn is_id_or_none(has: bool, attribute: &[u8]) -> bool
     ensures { λ r. ⌜ r ≡ isIdOrNone (optionOf has (now (attribute .entry))) ⌝ }
 {
     if has {
@@ -50,7 +50,7 @@ pub fn is_id_or_none(has: bool, attribute: &[u8]) -> bool
 }
 
 // The pattern that is asked for, or the refusal: 4, 8, 11, 12.
-pub fn find_pattern(store: &[u8], id: &[u8], has: bool, attribute: &[u8]) -> Part
+fn find_pattern(store: &[u8], id: &[u8], has: bool, attribute: &[u8]) -> Part
     ensures { λ r. ⌜ PatternFound (now (store .entry)) (now (id .entry)) (optionOf has (now (attribute .entry))) r ⌝ }
 {
     let Next::At(_) = check_store(store) else {
@@ -76,9 +76,9 @@ pub fn find_pattern(store: &[u8], id: &[u8], has: bool, attribute: &[u8]) -> Par
 }
 
 // The run of the pattern at q.
-pub fn run(
-    store: &[u8],
-    args: &[u8],
+fn run<'a>(
+    store: &'a [u8],
+    args: &'a [u8],
     text: &mut [u8],
     list: &mut [u8],
     work: &mut [u8],
@@ -91,7 +91,7 @@ pub fn run(
 }
 
 // What the buffers hold in the end: the workspace is zero; text and list too, where the run was refused, and else the list has its header.
-pub fn finish(st: Scope, text: &mut [u8], list: &mut [u8], work: &mut [u8]) -> Answer
+fn finish(st: Scope, text: &mut [u8], list: &mut [u8], work: &mut [u8]) -> Answer
     ensures { λ r. ⌜ FinishAt st (now (text .entry)) (now (list .entry)) (now (work .entry)) (now (text .exit)) (now (list .exit)) (now (work .exit)) r ⌝ }
 {
     fill_zero(work);
@@ -111,17 +111,17 @@ pub fn finish(st: Scope, text: &mut [u8], list: &mut [u8], work: &mut [u8]) -> A
 }
 
 // Formats the message `id`, or its attribute where `has` is set, with an arguments image.
-pub fn format(
-    store: &[u8],
+pub fn format<'a>(
+    store: &'a [u8],
     id: &[u8],
     has: bool,
     attribute: &[u8],
-    args: &[u8],
+    args: &'a [u8],
     text: &mut [u8],
     list: &mut [u8],
     work: &mut [u8],
 ) -> Answer
-    ensures { λ r. ⌜ Formats (now (store .entry)) (now (id .entry)) (optionOf has (now (attribute .entry))) (now (args .entry)) (now (text .entry)) (now (list .entry)) (now (work .entry)) (now (text .exit)) (now (list .exit)) (now (work .exit)) r ⌝ }
+    ensures { λ r. ⌜ gave r (now (text .exit)) (now (list .exit)) (now (work .exit)) ≡ format (now (store .entry)) (now (id .entry)) (optionOf has (now (attribute .entry))) (now (args .entry)) (record { text = now (text .entry); list = now (list .entry); work = now (work .entry) }) ⌝ }
 {
     match find_pattern(store, id, has, attribute) {
         Part::Refused(n) => Answer::Refused(n),

@@ -1,41 +1,41 @@
 // Inline expressions (the Rust's inline_expression.rs): written, or resolved to a value.
 ghost use mathlib.Core.Path.{_≡_};
-ghost use Rattle.scope.specs.Relations.Meets.{world, env};
-ghost use Rattle.scope.specs.Relations.Members.{InlineAt, MessageAt, ValueAt, TextValueAt};
+ghost use Rattle.resolver.specs.Relations.Meets.{world, env};
+ghost use Rattle.resolver.specs.Relations.Members.{InlineAt, MessageAt, ValueAt, TextValueAt};
 ghost use Rattle.resolver.specs.Relations.Targets.{inOrder};
 use crate::call;
 use crate::expression;
 use crate::pattern;
 use crate::reference::Target;
 use crate::reference::count_if;
-use crate::reference::message_target;
+use crate::reference::target_of;
+use crate::scope::put::put_error;
+use crate::scope::put::put_value;
+use crate::scope::reference::ref_error;
+use crate::scope::value::literal_number;
+use crate::scope::value::literal_string;
+use crate::scope::variable::resolve_variable;
+use crate::scope::variable::write_result;
+use crate::scope::variable::write_variable;
 use crate::term;
 use buffers::move_back;
 use heads::gives_text;
 use records::Num;
 use records::read_byte;
 use records::read_str;
-use scope::put::list_no_value;
-use scope::put::put_error;
-use scope::put::put_literal;
-use scope::put::put_value;
-use scope::reference::ref_error;
-use scope::value::literal_number;
-use scope::value::literal_string;
-use scope::variable::resolve_variable;
-use scope::variable::write_result;
-use scope::variable::write_variable;
 use state::Resolved;
 use state::Scope;
 use state::Value;
 use state::set_aside;
 use state::set_kept;
 use texts::Referred;
+use writes::list::list_no_value;
+use writes::put::put_literal;
 
 // `InlineExpression::write`
-pub fn write(
-    store: &[u8],
-    args: &[u8],
+pub(crate) fn write<'a>(
+    store: &'a [u8],
+    args: &'a [u8],
     text: &mut [u8],
     list: &mut [u8],
     work: &mut [u8],
@@ -81,9 +81,9 @@ pub fn write(
 }
 
 // A message reference, its tag at `at`.
-pub fn message(
-    store: &[u8],
-    args: &[u8],
+pub(crate) fn message<'a>(
+    store: &'a [u8],
+    args: &'a [u8],
     text: &mut [u8],
     list: &mut [u8],
     work: &mut [u8],
@@ -96,7 +96,7 @@ pub fn message(
     if st.refused != 0 {
         return st;
     }
-    match message_target(store, at) {
+    match target_of(store, at, false) {
         Target::At(q) => pattern::track(store, args, text, list, work, trail, st, at, q),
         Target::NoValue(from, to) => {
             let s1 = list_no_value(list, st, &store[from..to]);
@@ -111,9 +111,9 @@ pub fn message(
 }
 
 // `InlineExpression::resolve`
-pub fn resolve(
-    store: &[u8],
-    args: &[u8],
+pub(crate) fn resolve<'a>(
+    store: &'a [u8],
+    args: &'a [u8],
     text: &mut [u8],
     list: &mut [u8],
     work: &mut [u8],
@@ -186,9 +186,9 @@ fn in_order(start: usize, front: usize, back: usize, room: usize) -> bool
 }
 
 // A message, a term or an inline placeable as a text of its own: made at the workspace's front, then moved to its back.
-pub fn as_text(
-    store: &[u8],
-    args: &[u8],
+pub(crate) fn as_text<'a>(
+    store: &'a [u8],
+    args: &'a [u8],
     text: &mut [u8],
     list: &mut [u8],
     work: &mut [u8],

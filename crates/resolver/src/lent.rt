@@ -3,17 +3,17 @@
 ghost use mathlib.Core.Path.{_≡_};
 ghost use lib.ListN.{length, set};
 ghost use Rattle.state.specs.Setters.{newS, depthS};
-ghost use Rattle.scope.specs.Relations.Meets.{world, env};
-ghost use Rattle.scope.specs.Relations.Members.{PatternAt};
+ghost use Rattle.resolver.specs.Relations.Meets.{world, env};
+ghost use Rattle.resolver.specs.Relations.Members.{PatternAt};
 use crate::pattern;
 use state::Scope;
 use state::enter;
 use state::new;
 
 // `Pattern::write`
-pub fn write(
-    store: &[u8],
-    args: &[u8],
+pub(crate) fn write<'a>(
+    store: &'a [u8],
+    args: &'a [u8],
     text: &mut [u8],
     list: &mut [u8],
     work: &mut [u8],
@@ -28,9 +28,9 @@ pub fn write(
 }
 
 // `Pattern::resolve`, at a scope of its own: it is made here, lent down the whole formatting of the pattern at q, and handed on as it is then.
-pub fn resolve(
-    store: &[u8],
-    args: &[u8],
+pub(crate) fn resolve<'a>(
+    store: &'a [u8],
+    args: &'a [u8],
     text: &mut [u8],
     list: &mut [u8],
     work: &mut [u8],

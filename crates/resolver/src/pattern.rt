@@ -1,8 +1,10 @@
 // Patterns, written: the elements in turn, the placeables begun, and the pattern that a reference leads to.
 // Patterns, expressions and inline expressions write each other. What falls at each call: placeables left, then nesting, then stage.
-ghost use Rattle.scope.specs.Relations.Meets.{world, env};
-ghost use Rattle.scope.specs.Relations.Members.{PatternAt, ElementAt, TrackAt};
+ghost use Rattle.resolver.specs.Relations.Meets.{world, env};
+ghost use Rattle.resolver.specs.Relations.Members.{PatternAt, ElementAt, TrackAt};
 use crate::expression;
+use crate::scope::put::put_cut;
+use crate::scope::put::put_error;
 use heads::has_marks;
 use heads::isolates;
 use records::Next;
@@ -11,25 +13,23 @@ use records::read_byte;
 use records::read_str;
 use records::read_u16;
 use records::read_u32;
-use scope::put::list_plain;
-use scope::put::put;
-use scope::put::put_cut;
-use scope::put::put_error;
-use scope::put::put_fsi;
-use scope::put::put_pdi;
-use scope::reference::too_many;
 use state::Scope;
 use state::begin;
 use state::may_begin;
 use state::set_depth;
 use texts::Plain;
-use walks::on_trail;
+use trail::on_trail;
 use walks::skip_element;
+use writes::list::list_plain;
+use writes::list::list_too_many;
+use writes::put::put;
+use writes::put::put_fsi;
+use writes::put::put_pdi;
 
 // `Pattern::write`
-pub fn write(
-    store: &[u8],
-    args: &[u8],
+pub(crate) fn write<'a>(
+    store: &'a [u8],
+    args: &'a [u8],
     text: &mut [u8],
     list: &mut [u8],
     work: &mut [u8],
@@ -62,9 +62,9 @@ pub fn write(
 }
 
 // One turn of the loop of `Pattern::write`, with `maybe_track`.
-pub fn element(
-    store: &[u8],
-    args: &[u8],
+pub(crate) fn element<'a>(
+    store: &'a [u8],
+    args: &'a [u8],
     text: &mut [u8],
     list: &mut [u8],
     work: &mut [u8],
@@ -95,7 +95,7 @@ pub fn element(
         if 100 < st.begun {
             return st;
         }
-        return too_many(list, st);
+        return list_too_many(list, st);
     }
     let s1 = begin(st);
     let marks = has_marks(store, iso, p);
@@ -106,9 +106,9 @@ pub fn element(
 }
 
 // `Scope::track`: the pattern at q, for the reference whose tag is at `at`.
-pub fn track(
-    store: &[u8],
-    args: &[u8],
+pub(crate) fn track<'a>(
+    store: &'a [u8],
+    args: &'a [u8],
     text: &mut [u8],
     list: &mut [u8],
     work: &mut [u8],

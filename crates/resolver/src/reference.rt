@@ -1,27 +1,34 @@
 // What a message or a term reference leads to, decided on numbers: a pattern, or the error that stands for it.
 ghost use mathlib.Core.Path.{_≡_};
 ghost use Prim.Native.Nat.{_+_};
-ghost use Rattle.scope.specs.Relations.Leaves.{ReferenceIs};
-ghost use Rattle.resolver.specs.Relations.Targets.{MessageTarget, TermTarget, countIf};
+ghost use Rattle.resolver.specs.Relations.Leaves.{ReferenceIs};
+ghost use Rattle.resolver.specs.Relations.Targets.{TargetAt, holderOf, lackingOf, countIf};
+use crate::scope::reference::read_reference;
 use entries::Found;
 use entries::entry::find_holder;
 use entries::message::find_part;
 use records::Next;
-use scope::reference::read_reference;
 use state::Reference;
+use state::Referring;
 use state::Scope;
 use state::count_unfound;
 
 // A pattern; a message without a value, by its Id; nothing, and whether the lookup counts as lost; or no reference stands there.
-pub enum Target {
+pub(crate) enum Target {
     At(usize),
     NoValue(usize, usize),
     Missing(bool),
     Bad,
 }
 
+// The entry of the kind that is asked for; or that the Id has none of it, and whether it has none at all.
+pub(crate) enum Holder {
+    Is(usize),
+    Not(bool),
+}
+
 // The reference whose tag is at `at`.
-pub fn tagged_reference(store: &[u8], at: usize) -> Reference
+pub(crate) fn tagged_reference(store: &[u8], at: usize) -> Reference
     ensures { λ r. ⌜ ReferenceIs (now (store .entry)) (at + 1) r ⌝ }
 {
     if store.len() <= at {
@@ -30,37 +37,44 @@ pub fn tagged_reference(store: &[u8], at: usize) -> Reference
     read_reference(store, at + 1)
 }
 
-// The target of the message reference whose tag is at `at`.
-pub fn message_target(store: &[u8], at: usize) -> Target
-    ensures { λ r. ⌜ MessageTarget (now (store .entry)) at r ⌝ }
+// The entry of a holder that is of the kind asked for, a term or a message.
+fn holder_of(term: bool, held: Found) -> Holder
+    ensures { λ r. ⌜ r ≡ holderOf term held ⌝ }
 {
-    let Reference::Is(r) = tagged_reference(store, at) else {
-        return Target::Bad;
-    };
-    let from = r.from;
-    let to = r.to;
-    let has = r.has;
-    let start = r.start;
-    let end = r.end;
-    match find_holder(store, &store[from..to]) {
+    match held {
         Found::Message(entry) => {
-            let Next::At(q) = find_part(store, entry, has, &store[start..end]) else {
-                if has {
-                    return Target::Missing(false);
-                }
-                return Target::NoValue(from, to);
-            };
-            Target::At(q)
+            if term {
+                return Holder::Not(false);
+            }
+            Holder::Is(entry)
         }
-        Found::Term(_) => Target::Missing(false),
-        Found::Function => Target::Missing(false),
-        Found::Nothing => Target::Missing(true),
+        Found::Term(entry) => {
+            if term {
+                return Holder::Is(entry);
+            }
+            Holder::Not(false)
+        }
+        Found::Function => Holder::Not(false),
+        Found::Nothing => Holder::Not(true),
     }
 }
 
-// The target of the term reference whose tag is at `at`.
-pub fn term_target(store: &[u8], at: usize) -> Target
-    ensures { λ r. ⌜ TermTarget (now (store .entry)) at r ⌝ }
+// What stands for a part that the entry lacks: of a message its value, else nothing.
+fn lacking(term: bool, r: Referring) -> Target
+    ensures { λ q. ⌜ q ≡ lackingOf term r ⌝ }
+{
+    if term {
+        return Target::Missing(false);
+    }
+    if r.has {
+        return Target::Missing(false);
+    }
+    Target::NoValue(r.from, r.to)
+}
+
+// The target of the reference whose tag is at `at`: of a term reference, or of a message reference.
+pub(crate) fn target_of(store: &[u8], at: usize, term: bool) -> Target
+    ensures { λ r. ⌜ TargetAt term (now (store .entry)) at r ⌝ }
 {
     let Reference::Is(r) = tagged_reference(store, at) else {
         return Target::Bad;
@@ -70,21 +84,19 @@ pub fn term_target(store: &[u8], at: usize) -> Target
     let has = r.has;
     let start = r.start;
     let end = r.end;
-    match find_holder(store, &store[from..to]) {
-        Found::Term(entry) => {
+    match holder_of(term, find_holder(store, &store[from..to])) {
+        Holder::Is(entry) => {
             let Next::At(q) = find_part(store, entry, has, &store[start..end]) else {
-                return Target::Missing(false);
+                return lacking(term, r);
             };
             Target::At(q)
         }
-        Found::Message(_) => Target::Missing(false),
-        Found::Function => Target::Missing(false),
-        Found::Nothing => Target::Missing(true),
+        Holder::Not(lost) => Target::Missing(lost),
     }
 }
 
 // A lookup unfound more, if it was lost.
-pub fn count_if(st: Scope, lost: bool) -> Scope
+pub(crate) fn count_if(st: Scope, lost: bool) -> Scope
     ensures { λ r. ⌜ r ≡ countIf lost st ⌝ }
 {
     if lost {

@@ -1,17 +1,17 @@
 // Term references, written: the arguments, and the term that is looked up.
-ghost use Rattle.scope.specs.Relations.Meets.{world, env};
-ghost use Rattle.scope.specs.Relations.Members.{TermAt, FoundTermAt};
+ghost use Rattle.resolver.specs.Relations.Meets.{world, env};
+ghost use Rattle.resolver.specs.Relations.Members.{TermAt, FoundTermAt};
 use crate::call;
 use crate::pattern;
 use crate::reference::Target;
 use crate::reference::count_if;
 use crate::reference::tagged_reference;
-use crate::reference::term_target;
+use crate::reference::target_of;
+use crate::scope::reference::ref_error;
+use crate::scope::value::resolve_named;
 use records::Num;
 use records::read_byte;
 use records::read_u16;
-use scope::reference::ref_error;
-use scope::value::resolve_named;
 use state::Reference;
 use state::Scope;
 use state::clear_locals;
@@ -20,9 +20,9 @@ use state::set_locals;
 use texts::Referred;
 
 // A term reference, its tag at `at`: its arguments stay until all its text is written, and are cleared after it.
-pub fn refer(
-    store: &[u8],
-    args: &[u8],
+pub(crate) fn refer<'a>(
+    store: &'a [u8],
+    args: &'a [u8],
     text: &mut [u8],
     list: &mut [u8],
     work: &mut [u8],
@@ -68,9 +68,9 @@ pub fn refer(
 }
 
 // The term that a reference names, looked up and written.
-pub fn found(
-    store: &[u8],
-    args: &[u8],
+pub(crate) fn found<'a>(
+    store: &'a [u8],
+    args: &'a [u8],
     text: &mut [u8],
     list: &mut [u8],
     work: &mut [u8],
@@ -83,7 +83,7 @@ pub fn found(
     if st.refused != 0 {
         return st;
     }
-    match term_target(store, at) {
+    match target_of(store, at, true) {
         Target::At(q) => pattern::track(store, args, text, list, work, trail, st, at, q),
         Target::NoValue(_, _) => st,
         Target::Missing(lost) => {

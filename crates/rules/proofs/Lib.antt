@@ -1,3 +1,2 @@
--- Laws that the proofs of several functions cite.
-pub mod Run
-pub mod SameBytes
+-- Laws that the crates above cite.
+pub mod WellFormed

@@ -1,3 +1,1 @@
-pub mod Run
 pub mod Rules
-pub mod Same

@@ -1,23 +1,14 @@
--- The rules for the bytes of a Str: identifiers, text, literals. Each is an automaton over the bytes.
-use Prim.Native.Nat.{ℕ, _+_, _-_}
+-- The rules for the bytes of a Str: identifiers, text, string literals. Each is an automaton over the bytes. Number literals are those of the crate `literals`.
+use Prim.Native.Nat.{ℕ, _-_}
 use mathlib.Core.List.{List}
-use mathlib.Core.Bool.{Bool, true, false, _&&_, _||_}
+use mathlib.Core.Bool.{Bool, _&&_, _||_}
 use lib.ListN.{length}
 use lib.Dec.{ltb, leb, eqb}
-use Rattle.rules.specs.Run.{run}
+use Rattle.decimals.specs.Bytes.{run, choose, within, digit}
 
-abbrev pub choose : Bool → ℕ → ℕ → ℕ
-choose true a b = a
-choose false a b = b
-
-abbrev pub within : ℕ → ℕ → ℕ → Bool
-within lo hi b = leb lo b && leb b hi
-
+-- "letters": `A` (65) to `Z` (90), `a` (97) to `z` (122) in ASCII
 unfoldable pub letter : ℕ → Bool
 letter b = within 65 90 b || within 97 122 b
-
-unfoldable pub digit : ℕ → Bool
-digit b = within 48 57 b
 
 -- 0 before the first byte, 1 in an identifier, 2 no identifier
 unfoldable pub idStep : ℕ → ℕ → ℕ
@@ -64,19 +55,7 @@ isUtf8 t = eqb (run utf8Step 0 t) 0
 unfoldable pub isText : List ℕ → Bool
 isText t = ltb 0 (length t) && isUtf8 t
 
--- A number literal's shape: 0 before all, 1 after the sign, 2 in the whole part, 3 after the dot, 4 in the fraction, 5 none
-unfoldable pub numberStep : ℕ → ℕ → ℕ
-numberStep q b =
-    choose (digit b) (choose (ltb q 3) 2 (choose (ltb q 5) 4 5))
-    (choose (eqb b 45) (choose (eqb q 0) 1 5)
-    (choose (eqb b 46) (choose (eqb q 2) 3 5) 5))
-
-unfoldable pub digitStep : ℕ → ℕ → ℕ
-digitStep n b = choose (digit b) (n + 1) n
-
-unfoldable pub isNumber : List ℕ → Bool
-isNumber t = (eqb (run numberStep 0 t) 2 || eqb (run numberStep 0 t) 4) && leb (run digitStep 0 t) 15
-
+-- "hexadecimal digits": digits, `A` (65) to `F` (70), `a` (97) to `f` (102)
 unfoldable pub hex : ℕ → Bool
 hex b = digit b || (within 65 70 b || within 97 102 b)
 

@@ -1,8 +1,10 @@
 // Classes of ASCII bytes.
 ghost use mathlib.Core.Path.{_≡_};
-ghost use Rattle.rules.specs.Rules.{letter, digit, hex};
+ghost use Rattle.rules.specs.Rules.{letter, hex};
+use decimals::bytes::is_digit;
 
-pub fn is_letter(b: u8) -> bool
+// Is a byte a letter?
+pub(crate) fn is_letter(b: u8) -> bool
     ensures { λ r. ⌜ r ≡ letter b ⌝ }
 {
     if b < 65 {
@@ -17,15 +19,7 @@ pub fn is_letter(b: u8) -> bool
     b <= 122
 }
 
-pub fn is_digit(b: u8) -> bool
-    ensures { λ r. ⌜ r ≡ digit b ⌝ }
-{
-    if b < 48 {
-        return false;
-    }
-    b <= 57
-}
-
+// Is a byte a hexadecimal digit?
 pub fn is_hex(b: u8) -> bool
     ensures { λ r. ⌜ r ≡ hex b ⌝ }
 {

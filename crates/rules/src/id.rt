@@ -1,8 +1,8 @@
 // The bytes of an Id.
 ghost use mathlib.Core.Path.{_≡_};
 ghost use Rattle.rules.specs.Rules.{idStep, isId};
-use crate::ascii::is_digit;
 use crate::ascii::is_letter;
+use decimals::bytes::is_digit;
 
 fn id_step(q: u8, b: u8) -> u8
     ensures { λ r. ⌜ r ≡ idStep q b ⌝ }

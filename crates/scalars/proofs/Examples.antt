@@ -1,7 +1,7 @@
 -- Worked examples of the definitions.
 use mathlib.Core.Path.{_≡_, refl}
 use mathlib.Core.List.{List, [], _∷_, map}
-use Rattle.rules.specs.Rules.{digit}
+use Rattle.decimals.specs.Bytes.{digit}
 use Rattle.scalars.specs.Scalars.{hexValue}
 
 -- the 22 digits

@@ -1,56 +1,68 @@
 -- Laws of hexadecimal digits and Unicode scalars.
-use mathlib.Core.Path.{_≡_}
+use mathlib.Core.Path.{_≡_, refl}
 use mathlib.Core.List.{List, [], _∷_}
 use mathlib.Core.Bool.{Bool, true, false}
 use Prim.Native.Nat.{ℕ, _+_, _-_, _/_, _%_, _≤_, _<_}
 use native.Mathlib.Omega.{arith}
 use lib.ListN.{length}
 use lib.Dec.{leb, ltb}
-use borrow.Author.Tests.{lt-ltb, le-ltb, le-leb, lt-leb}
-use Rattle.rules.specs.Rules.{digit, hex}
-use Rattle.buffers.specs.Given.{given}
+use borrow.Author.Tests.{lt-ltb, le-ltb, le-leb, lt-leb, leb-true}
+use Rattle.decimals.proofs.Tests.{and-true}
+use Rattle.decimals.specs.Bytes.{choose, digit, given, within}
+use Rattle.rules.specs.Rules.{hex}
 use Rattle.scalars.specs.Scalars.{hexValue, encScalar}
 
 pub never : {A : Type 0} {t : Bool} → t ≡ false → t ≡ true → A
 never p q = let z : _≡_ {A = ℕ} 0 1 = cc in absurd (omega arith)
 
--- the hexadecimal digits, from the lowest byte up
+-- the hexadecimal digits' values, from the lowest byte up
 module _ (b : ℕ) where
-  pub hex-before : b < 48 → hex b ≡ false
-  unfolding hex digit
-  hex-before h = simp (lt-leb 48 b h, lt-leb 65 b (omega arith), lt-leb 97 b (omega arith))
-
-  pub hex-digit : 48 ≤ b → b ≤ 57 → hex b ≡ true
-  unfolding hex digit
-  hex-digit h g = simp (le-leb 48 b h, le-leb b 57 g)
-
-  pub hex-between : 57 < b → b < 65 → hex b ≡ false
-  unfolding hex digit
-  hex-between h g = simp (le-leb 48 b (omega arith), lt-leb b 57 h, lt-leb 65 b g, lt-leb 97 b (omega arith))
-
-  pub hex-upper : 65 ≤ b → b ≤ 70 → hex b ≡ true
-  unfolding hex digit
-  hex-upper h g = simp (le-leb 48 b (omega arith), lt-leb b 57 (omega arith), le-leb 65 b h, le-leb b 70 g)
-
-  pub hex-past : 70 < b → b < 97 → hex b ≡ false
-  unfolding hex digit
-  hex-past h g = simp (le-leb 48 b (omega arith), lt-leb b 57 (omega arith), le-leb 65 b (omega arith), lt-leb b 70 h, lt-leb 97 b g)
-
   pub hex-lower : 97 ≤ b → hex b ≡ leb b 102
   unfolding hex digit
   hex-lower h = simp (le-leb 48 b (omega arith), lt-leb b 57 (omega arith), le-leb 65 b (omega arith), lt-leb b 70 (omega arith), le-leb 97 b h)
+
+  pub value-before : b < 48 → hexValue b ≡ 0
+  unfolding hexValue digit
+  value-before h = simp (lt-leb 48 b h, lt-leb 65 b (omega arith), lt-leb 97 b (omega arith))
 
   pub value-digit : 48 ≤ b → b ≤ 57 → hexValue b ≡ b - 48
   unfolding hexValue digit
   value-digit h g = simp (le-leb 48 b h, le-leb b 57 g)
 
+  pub value-between : 57 < b → b < 65 → hexValue b ≡ 0
+  unfolding hexValue digit
+  value-between h g = simp (le-leb 48 b (omega arith), lt-leb b 57 h, lt-leb 65 b g, lt-leb 97 b (omega arith))
+
   pub value-upper : 65 ≤ b → b ≤ 70 → hexValue b ≡ b - 55
   unfolding hexValue digit
-  value-upper h g = simp (le-leb 48 b (omega arith), lt-leb b 57 (omega arith), le-leb 65 b h, le-leb b 70 g) (omega arith)
+  value-upper h g = simp (le-leb 48 b (omega arith), lt-leb b 57 (omega arith), le-leb 65 b h, le-leb b 70 g)
 
-  pub value-lower : 97 ≤ b → hexValue b ≡ b - 87
+  pub value-past : 70 < b → b < 97 → hexValue b ≡ 0
   unfolding hexValue digit
-  value-lower h = simp (le-leb 48 b (omega arith), lt-leb b 57 (omega arith), le-leb 65 b (omega arith), lt-leb b 70 (omega arith)) (omega arith)
+  value-past h g = simp (le-leb 48 b (omega arith), lt-leb b 57 (omega arith), le-leb 65 b (omega arith), lt-leb b 70 h, lt-leb 97 b g)
+
+  pub value-lower : 97 ≤ b → b ≤ 102 → hexValue b ≡ b - 87
+  unfolding hexValue digit
+  value-lower h g = simp (le-leb 48 b (omega arith), lt-leb b 57 (omega arith), le-leb 65 b (omega arith), lt-leb b 70 (omega arith), le-leb 97 b h, le-leb b 102 g)
+
+  pub value-after : 102 < b → hexValue b ≡ 0
+  unfolding hexValue digit
+  value-after h = simp (le-leb 48 b (omega arith), lt-leb b 57 (omega arith), le-leb 65 b (omega arith), lt-leb b 70 (omega arith), le-leb 97 b (omega arith), lt-leb b 102 h)
+
+choose-below : (m : ℕ) (t : Bool) (x y : ℕ) → (t ≡ true → x < m) → y < m → choose t x y < m
+choose-below m true x y h g = h refl
+choose-below m false x y h g = g
+
+within-most : (lo hi b : ℕ) → within lo hi b ≡ true → b ≤ hi
+within-most lo hi b h = leb-true b hi (and-true (leb lo b) (leb b hi) h .1)
+
+-- each value is below 16
+pub value-below : (b : ℕ) → hexValue b < 16
+unfolding hexValue digit
+value-below b =
+    choose-below 16 (within 48 57 b) (b - 48) _ (λ h. let l = within-most 48 57 b h in omega arith)
+    (choose-below 16 (within 65 70 b) (b - 55) _ (λ h. let l = within-most 65 70 b h in omega arith)
+    (choose-below 16 (within 97 102 b) (b - 87) 0 (λ h. let l = within-most 97 102 b h in omega arith) (omega arith)))
 
 given-short : (x : Bool) (a b : List ℕ) → length a ≤ 4 → length b ≤ 4 → length (given x a b) ≤ 4
 given-short true a b h g = h

@@ -1,48 +1,27 @@
-// Hexadecimal digits, and the Unicode scalars that escapes write.
+// The values of hexadecimal digits, and the Unicode scalars that escapes write.
 ghost use mathlib.Core.Path.{_≡_};
-ghost use mathlib.Core.Bool.{true};
 ghost use Prim.Native.Nat.{ℕ, _<_};
 ghost use lib.ListN.{length};
-ghost use Rattle.rules.specs.Rules.{hex};
 ghost use Rattle.scalars.specs.Scalars.{hexValue, scalarOr, encScalar};
 
-pub fn is_hex(b: u8) -> bool
-    ensures { λ r. ⌜ r ≡ hex b ⌝ }
-{
-    if b < 48 {
-        return false;
-    }
-    if b <= 57 {
-        return true;
-    }
-    if b < 65 {
-        return false;
-    }
-    if b <= 70 {
-        return true;
-    }
-    if b < 97 {
-        return false;
-    }
-    b <= 102
-}
-
-// The value of a hexadecimal digit. Of another byte nothing is said.
-pub fn hex_value(b: u8) -> u8
-    ensures { λ r. ⌜ (hex b ≡ true → (r ≡ hexValue b) × (r < 16)) ⌝ }
+// The value of a hexadecimal digit; 0 of any other byte.
+pub fn hex_value(b: u8) -> u32
+    ensures { λ r. ⌜ r ≡ hexValue b ⌝ }
 {
     if b < 48 {
         0
     } else if b <= 57 {
-        b - 48
+        (b - 48) as u32
     } else if b < 65 {
         0
     } else if b <= 70 {
-        b - 55
+        (b - 55) as u32
     } else if b < 97 {
         0
+    } else if b <= 102 {
+        (b - 87) as u32
     } else {
-        b - 87
+        0
     }
 }
 

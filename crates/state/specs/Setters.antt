@@ -85,3 +85,11 @@ missingS old s = unknownS (backS old (countedS s))
 -- whether one placeable more may be begun
 abbrev pub mayBegin : Scope → Bool
 mayBegin s = ltb (s .begun) 100
+
+-- one placeable more is begun, where it may be; else nothing changes
+unfoldable pub begunIf : Bool → Scope → Scope
+begunIf true s = begunS (s .begun + 1) (s .dirty) s
+begunIf false s = s
+
+unfoldable pub beginS : Scope → Scope
+beginS s = begunIf (mayBegin s) s

@@ -1,8 +1,9 @@
 // The state of a formatting, by value: the Rust's Scope, and where the three buffers stand; the values that it finds; and each single step of it.
 ghost use mathlib.Core.Path.{_≡_};
+ghost use mathlib.Core.Bool.{true};
 ghost use Prim.Native.Nat.{_+_, _<_};
 ghost use lib.ListN.{set};
-ghost use Rattle.state.specs.Setters.{refuseS, depthS, begunS, mayBegin, backS, asideS, keptS, localsS, clearS, countedS, missingS, newS};
+ghost use Rattle.state.specs.Setters.{refuseS, depthS, begunS, mayBegin, beginS, backS, asideS, keptS, localsS, clearS, countedS, missingS, newS};
 use decimals::types::Number;
 
 // What changes while a message is formatted.
@@ -160,12 +161,22 @@ pub fn may_begin(st: Scope) -> bool
     st.begun < 100
 }
 
-// A placeable more is begun.
+// A placeable more is begun, where fewer than 100 were; else nothing changes.
 pub fn begin(mut st: Scope) -> Scope
-    requires { ⌜ st .begun < 100 ⌝ }
-    ensures { λ r. ⌜ r ≡ begunS (st .begun + 1) (st .dirty) st ⌝ }
+    ensures { λ r. ⌜ r ≡ beginS st ⌝ }
 {
-    st.begun = st.begun + 1;
+    if may_begin(st) {
+        st.begun = st.begun + 1;
+    }
+    st
+}
+
+// The 101st placeable is begun: from here on nothing more is written.
+pub fn begin_last(mut st: Scope) -> Scope
+    ensures { λ r. ⌜ r ≡ begunS 101 true st ⌝ }
+{
+    st.begun = 101;
+    st.dirty = true;
     st
 }
 
@@ -194,7 +205,7 @@ pub fn new(room: usize) -> Scope
 }
 
 // The first pattern of a trail, and the depth after it.
-pub fn first_on(trail: &mut [usize; 102], st: Scope, q: usize) -> Scope
+pub(crate) fn first_on(trail: &mut [usize; 102], st: Scope, q: usize) -> Scope
     ensures { λ r. ⌜ (r ≡ depthS 1 st) × (now (trail .exit) ≡ set (now (trail .entry)) 0 q) ⌝ }
 {
     trail[0] = q;

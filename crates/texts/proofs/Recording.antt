@@ -6,22 +6,24 @@ use mathlib.Core.Option.{Option, some, none}
 use Prim.Native.Nat.{ℕ, zero, suc, _+_, _-_, _≤_, _<_}
 use native.Mathlib.Omega.{arith}
 use lib.ListN.{length, take, drop, set, length-append}
-use lib.Seq.{sets, paste, take-append-add, drop-at, length-take-le, take-add}
+use lib.Seq.{take-append-add, drop-at, length-take-le, take-add}
 use lib.Dec.{leb, ltb}
 use borrow.Author.Tests.{le-leb, lt-leb, lt-ltb, le-ltb, leb-true, leb-false, ltb-true, ltb-false}
 use Rattle.records.specs.Bytes.{toBe, part}
 use Rattle.records.specs.Images as images
 use Rattle.records.specs.Encode.{encStr, encOptional, encKind, encAll, encWhole}
 use Rattle.records.specs.Errors.{Referred, Error, overriding, reference, noValue, encReferred, encRecord, encError, encErrors, listHeader}
-use Rattle.buffers.specs.Given.{given}
+use Rattle.decimals.specs.Bytes.{given}
 use Rattle.buffers.specs.Relations.Append.{over, attempt}
-use Rattle.texts.specs.Optional.{optionOf}
+use Rattle.records.specs.Optional.{optionOf}
 use Rattle.texts.specs.Relations.Report.{plainOf, roomFor, attributeLen, recorded, header, headed}
 use Rattle.texts.specs.declared.errors.Plain.{Plain}
 use Rattle.texts.specs.declared.errors.Plain.the-variants as plain
 use Rattle.buffers.specs.declared.Wrote.{Wrote}
 use Rattle.buffers.specs.declared.Wrote.the-variants.{At, Full}
-use Rattle.buffers.proofs.Place.{sets-over, set-over, paste-over, then-over, then-set, length-over, take-over, attempt-at, attempt-no}
+use Rattle.records.specs.Relations.Write.{overFit}
+use Rattle.records.proofs.Writing.{fits-over, length-fit}
+use Rattle.buffers.proofs.Place.{set-over, then-over, then-set, length-over, take-over, attempt-at, attempt-no}
 
 pub length-u16 : (n : ℕ) → length (toBe 2 n) ≡ 2
 unfolding toBe
@@ -96,10 +98,10 @@ unfolding toBe
 length-head n tag = refl
 
 module _ (d : List ℕ) (at n : ℕ) where
-  pub head-written : {e : List ℕ} (tag : ℕ) → at + 3 ≤ length d → e ≡ sets d at (toBe 2 n) → set e (at + 2) tag ≡ over d at (toBe 2 n ++ (tag ∷ []))
+  pub head-written : {e : List ℕ} (tag : ℕ) → at + 3 ≤ length d → e ≡ overFit d at (toBe 2 n) → set e (at + 2) tag ≡ over d at (toBe 2 n ++ (tag ∷ []))
   head-written tag h q =
       let l = length-u16 n in
-      then-set d at (toBe 2 n) tag (q ∙ sets-over d at (toBe 2 n) (omega arith)) (omega arith) (omega arith)
+      then-set d at (toBe 2 n) tag (q ∙ fits-over d at (toBe 2 n) (omega arith)) (omega arith) (omega arith)
 
   module _ (tag kind : ℕ) (t : List ℕ) (h : at + (6 + length t) ≤ length d) {e : List ℕ} (p : e ≡ over d at (toBe 2 n ++ (tag ∷ []))) where
     kind-written : set e (at + 3) kind ≡ over d at (toBe 2 n ++ (tag ∷ []) ++ (kind ∷ []))
@@ -111,11 +113,12 @@ module _ (d : List ℕ) (at n : ℕ) where
         let s = length-str t in
         q ∙ then-over d at (toBe 2 n ++ (tag ∷ []) ++ (kind ∷ [])) (encStr t) kind-written (omega arith) (omega arith) ∙ ap (over d at) (simp append-assoc)
 
-pub str-written : (d : List ℕ) (at : ℕ) (t : List ℕ) {e f : List ℕ} → at + (2 + length t) ≤ length d → e ≡ sets d at (toBe 2 (length t)) → f ≡ paste e (at + 2) t (length t) → f ≡ over d at (encStr t)
+pub str-written : (d : List ℕ) (at : ℕ) (t : List ℕ) {e f : List ℕ} → at + (2 + length t) ≤ length d → e ≡ overFit d at (toBe 2 (length t)) → f ≡ overFit e (at + 2) t → f ≡ over d at (encStr t)
 unfolding encStr
 str-written d at t {e} h p q =
     let l = length-u16 (length t) in
-    q ∙ paste-over e (at + 2) t ∙ then-over d at (toBe 2 (length t)) t (p ∙ sets-over d at (toBe 2 (length t)) (omega arith)) (omega arith) (omega arith)
+    let k : length e ≡ length d = ap length p ∙ length-fit d at (toBe 2 (length t)) in
+    q ∙ fits-over e (at + 2) t (omega arith) ∙ then-over d at (toBe 2 (length t)) t (p ∙ fits-over d at (toBe 2 (length t)) (omega arith)) (omega arith) (omega arith)
 
 -- a name past a record's tag
 pub name-written : (d : List ℕ) (at n tag : ℕ) (t : List ℕ) {e f : List ℕ} → at + (5 + length t) ≤ length d → e ≡ over d at (toBe 2 n ++ (tag ∷ [])) → f ≡ over e (at + 3) (encStr t) → f ≡ over d at (toBe 2 n ++ (tag ∷ []) ++ encStr t)
@@ -332,11 +335,11 @@ module _ (d : List ℕ) (w : ℕ) where
   unfolding headed listHeader
   headed-long h g = rw (le-leb _ _ h, le-ltb _ _ g)
 
-  pub header-written : {e : List ℕ} → 5 ≤ length d → e ≡ sets d 0 (toBe 4 w) → set e 4 1 ≡ over d 0 (header w)
+  pub header-written : {e : List ℕ} → 5 ≤ length d → e ≡ overFit d 0 (toBe 4 w) → set e 4 1 ≡ over d 0 (header w)
   unfolding header
   header-written h q =
       let l = length-u32 w in
-      then-set d 0 (toBe 4 w) 1 (q ∙ sets-over d 0 (toBe 4 w) (omega arith)) (omega arith) (omega arith)
+      then-set d 0 (toBe 4 w) 1 (q ∙ fits-over d 0 (toBe 4 w) (omega arith)) (omega arith) (omega arith)
 
 -- A header over records is the error list.
 headed-whole : (d b : List ℕ) → 5 + length b ≤ length d → 5 + length b < 4294967296 → part d 5 (length b) ≡ b → take (5 + length b) (headed d (5 + length b)) ≡ encWhole (1 ∷ b)

@@ -1,3 +1,2 @@
-pub mod Optional
 pub mod ErrorList
 pub mod Relations

@@ -7,7 +7,7 @@ ghost use Rattle.records.specs.Bytes.{toBe};
 ghost use Rattle.records.specs.Encode.{encStr, encOptional, encKind};
 ghost use Rattle.records.specs.Errors.{overriding, reference, noValue, encReferred, encError};
 ghost use Rattle.buffers.specs.Relations.Append.{over};
-ghost use Rattle.texts.specs.Optional.{optionOf};
+ghost use Rattle.records.specs.Optional.{optionOf};
 ghost use Rattle.texts.specs.Relations.Report.{kindOf, referredOf, plainOf, roomFor, attributeLen, recorded, headed};
 use buffers::Wrote;
 use records::write_bytes;

@@ -2,7 +2,8 @@
 use mathlib.Core.Path.{_≡_, refl}
 use mathlib.Core.List.{List, [], _∷_}
 use Prim.Native.Nat.{ℕ}
-use Rattle.rules.specs.Rules.{digit, hex}
+use Rattle.rules.specs.Rules.{hex}
+use Rattle.decimals.specs.Bytes.{digit}
 use Rattle.scalars.specs.Scalars.{hexValue, isScalar, scalarOr, encScalar}
 use Rattle.unescape.specs.Unescape.{digitsOf, scalarPiece, scalarOf, escapeOf, pieceOf, moreOf, readsAs, unescapeFrom, unescape}
 

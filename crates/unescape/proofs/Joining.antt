@@ -7,9 +7,8 @@ use native.Mathlib.Omega.{arith}
 use lib.ListN.{length, drop}
 use lib.Dec.{eqb}
 use borrow.Author.Tests.{eq-eqb, ne-eqb, eqb-true, eqb-false}
-use Rattle.rules.specs.Run.{run}
-use Rattle.rules.specs.Rules.{choose, hex, escapeStep, isUtf8, isString}
-use Rattle.buffers.specs.Given.{given}
+use Rattle.decimals.specs.Bytes.{run, choose, given}
+use Rattle.rules.specs.Rules.{hex, escapeStep, isUtf8, isString}
 use Rattle.scalars.specs.Scalars.{hexValue}
 use Rattle.unescape.specs.Unescape.{digitsOf, scalarPiece, scalarOf, escapeOf, pieceOf, readsAs, moreOf, unescapeFrom, unescape}
 use Rattle.unescape.specs.declared.Digits.{Digits}

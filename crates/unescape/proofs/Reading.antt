@@ -11,7 +11,7 @@ use lib.Seq.{drop-cons, drop-drop}
 use lib.Dec.{eqb}
 use borrow.Author.Tests.{eq-eqb, ne-eqb}
 use Rattle.rules.specs.Rules.{hex}
-use Rattle.buffers.specs.Given.{given}
+use Rattle.decimals.specs.Bytes.{given}
 use Rattle.buffers.specs.Relations.Append.{over}
 use Rattle.buffers.proofs.Place.{over-none, over-over, then-over, length-over}
 use Rattle.scalars.specs.Scalars.{hexValue, scalarOr, encScalar}

@@ -1,43 +1,25 @@
 -- A text that is well-formed reads as one that is: an escape is ASCII, and it reads as the UTF-8 of a scalar.
 use mathlib.Core.Path.{_≡_, refl, ap, sym, subst, _∙_}
-use mathlib.Core.List.{List, [], _∷_, _++_}
+use mathlib.Core.List.{List, [], _∷_, _++_, append-nil}
 use mathlib.Core.Bool.{Bool, true, false, _&&_, _||_}
 use Prim.Native.Nat.{ℕ, zero, suc, _+_, _-_, _*_, _/_, _%_, _≤_, _<_}
 use native.Mathlib.Omega.{arith}
 use lib.ListN.{length, drop}
 use lib.Dec.{eqb, ltb, leb}
 use borrow.Author.Tests.{eq-eqb, ne-eqb, eqb-true, eqb-false, lt-ltb, le-ltb, ltb-true, ltb-false, leb-true, leb-false, le-leb, lt-leb}
-use Rattle.rules.specs.Run.{run}
-use Rattle.rules.specs.Rules.{choose, within, hex, utf8First, utf8Low, utf8High, utf8Rest, utf8Step, isUtf8}
-use Rattle.buffers.specs.Given.{given}
+use Rattle.decimals.specs.Bytes.{run, choose, within, given}
+use Rattle.rules.specs.Rules.{hex, utf8First, utf8Low, utf8High, utf8Rest, utf8Step, isUtf8}
+use Rattle.decimals.proofs.Run.{run-append, run-stays}
+use Rattle.rules.proofs.WellFormed.{utf8-stays}
 use Rattle.scalars.specs.Scalars.{hexValue, isScalar, scalarOr, encScalar}
-use Rattle.scalars.proofs.Scalars.{never, hex-lower, scalar-1, scalar-2, scalar-3, scalar-4}
+use Rattle.scalars.proofs.Scalars.{never, hex-lower}
+use Rattle.scalars.proofs.Utf8.{accept}
 use Rattle.unescape.specs.Unescape.{digitsOf, scalarPiece, scalarOf, escapeOf, pieceOf, readsAs, moreOf, unescapeFrom, unescape}
 use Rattle.unescape.specs.declared.Digits.{Digits}
 use Rattle.unescape.specs.declared.Digits.the-variants.{Value, Broken}
 use Rattle.unescape.specs.declared.Piece.{Piece}
 use Rattle.unescape.specs.declared.Piece.the-variants.{Byte, Scalar}
 use Rattle.unescape.proofs.Reading.{Sized, piece-sized}
-
-run-append : (q : ℕ) (a b : List ℕ) → run utf8Step q (a ++ b) ≡ run utf8Step (run utf8Step q a) b
-unfolding run
-run-append q [] b = refl
-run-append q (c ∷ a) b = run-append (utf8Step q c) a b
-
--- once ill-formed, always so
-eight : (x y : Bool) → choose x 8 (choose y 8 8) ≡ 8
-eight true y = refl
-eight false true = refl
-eight false false = refl
-
-step-8 : (b : ℕ) → utf8Step 8 b ≡ 8
-unfolding utf8Step utf8Rest
-step-8 b = eight (ltb b (utf8Low 8)) (ltb (utf8High 8) b)
-
-utf8-stays : (t : List ℕ) → run utf8Step 8 t ≡ 8
-unfolding run
-utf8-stays [] = refl
-utf8-stays (b ∷ t) = rw (step-8 b) (utf8-stays t)
 
 -- an ASCII byte stands between scalars
 least : (x y : Bool) → 0x80 ≤ choose x 0xA0 (choose y 0x90 0x80)
@@ -61,7 +43,7 @@ ascii-between q b t h g = go (eqb q 0) refl where
   go true e = eqb-true _ _ e
   go false e =
       let a : run utf8Step 8 t ≡ 0 = rw (ascii-inside q b (eqb-false _ _ e) h) at g in
-      let z = utf8-stays t in
+      let z = run-stays utf8Step 8 utf8-stays t in
       absurd (omega arith)
 
 -- digits are ASCII
@@ -81,163 +63,19 @@ digits-ascii v zero t h = refl
 digits-ascii v (suc n) [] h = refl
 digits-ascii v (suc n) (c ∷ t) h = digit-ascii (hex c) c n t refl (digits-ascii (v * 16 + hexValue c) n t) h
 
--- the first byte of each length
-module _ (b : ℕ) where
-  first-2 : 0xC2 ≤ b → b < 0xE0 → utf8First b ≡ 1
-  unfolding utf8First
-  first-2 h g = rw (le-ltb b 0x80 (omega arith), le-ltb b 0xC2 h, lt-ltb b 0xE0 g)
-
-  first-3 : 0xE0 < b → b < 0xF0 → (b ≡ 0xED → ⊥) → utf8First b ≡ 2
-  unfolding utf8First
-  first-3 h g f =
-      let a : b ≡ 0xE0 → ⊥ = λ e. omega arith in
-      rw (le-ltb b 0x80 (omega arith), le-ltb b 0xC2 (omega arith), le-ltb b 0xE0 (omega arith), ne-eqb b 0xE0 a, ne-eqb b 0xED f, lt-ltb b 0xF0 g)
-
-  first-4 : 0xF0 < b → b < 0xF4 → utf8First b ≡ 3
-  unfolding utf8First
-  first-4 h g =
-      let a : b ≡ 0xE0 → ⊥ = λ e. omega arith in
-      let c : b ≡ 0xED → ⊥ = λ e. omega arith in
-      let d : b ≡ 0xF0 → ⊥ = λ e. omega arith in
-      rw (le-ltb b 0x80 (omega arith), le-ltb b 0xC2 (omega arith), le-ltb b 0xE0 (omega arith), ne-eqb b 0xE0 a, ne-eqb b 0xED c, le-ltb b 0xF0 (omega arith), ne-eqb b 0xF0 d, lt-ltb b 0xF4 g)
-
-  first-e0 : b ≡ 0xE0 → utf8First b ≡ 4
-  unfolding utf8First
-  first-e0 e = rw e
-
-  first-ed : b ≡ 0xED → utf8First b ≡ 5
-  unfolding utf8First
-  first-ed e = rw e
-
-  first-f0 : b ≡ 0xF0 → utf8First b ≡ 6
-  unfolding utf8First
-  first-f0 e = rw e
-
-  first-f4 : b ≡ 0xF4 → utf8First b ≡ 7
-  unfolding utf8First
-  first-f4 e = rw e
-
--- a byte within the bounds of a state
-step-in : (q b : ℕ) → eqb q 0 ≡ false → utf8Low q ≤ b → b ≤ utf8High q → utf8Step q b ≡ utf8Rest q
-unfolding utf8Step
-step-in q b e h g = rw (e, le-ltb b (utf8Low q) h, le-ltb (utf8High q) b g)
-
-module _ (b : ℕ) where
-  last-1 : 0x80 ≤ b → b ≤ 0xBF → utf8Step 1 b ≡ 0
-  unfolding utf8Low utf8High utf8Rest
-  last-1 h g = step-in 1 b refl h g
-
-  last-2 : 0x80 ≤ b → b ≤ 0xBF → utf8Step 2 b ≡ 1
-  unfolding utf8Low utf8High utf8Rest
-  last-2 h g = step-in 2 b refl h g
-
-  last-3 : 0x80 ≤ b → b ≤ 0xBF → utf8Step 3 b ≡ 2
-  unfolding utf8Low utf8High utf8Rest
-  last-3 h g = step-in 3 b refl h g
-
-  last-4 : 0xA0 ≤ b → b ≤ 0xBF → utf8Step 4 b ≡ 1
-  unfolding utf8Low utf8High utf8Rest
-  last-4 h g = step-in 4 b refl h g
-
-  last-5 : 0x80 ≤ b → b ≤ 0x9F → utf8Step 5 b ≡ 1
-  unfolding utf8Low utf8High utf8Rest
-  last-5 h g = step-in 5 b refl h g
-
-  last-6 : 0x90 ≤ b → b ≤ 0xBF → utf8Step 6 b ≡ 2
-  unfolding utf8Low utf8High utf8Rest
-  last-6 h g = step-in 6 b refl h g
-
-  last-7 : 0x80 ≤ b → b ≤ 0x8F → utf8Step 7 b ≡ 2
-  unfolding utf8Low utf8High utf8Rest
-  last-7 h g = step-in 7 b refl h g
-
-step-0 : (b : ℕ) → utf8Step 0 b ≡ utf8First b
-unfolding utf8Step
-step-0 b = refl
-
--- two, three and four bytes
-run-2 : (a b : ℕ) → utf8First a ≡ 1 → 0x80 ≤ b → b ≤ 0xBF → run utf8Step 0 (a ∷ b ∷ []) ≡ 0
-unfolding run
-run-2 a b h l g = rw (step-0 a, h) (last-1 b l g)
-
-run-3 : (q a b c : ℕ) → utf8First a ≡ q → utf8Step q b ≡ 1 → 0x80 ≤ c → c ≤ 0xBF → run utf8Step 0 (a ∷ b ∷ c ∷ []) ≡ 0
-unfolding run
-run-3 q a b c h k l g = rw (step-0 a, h, k) (last-1 c l g)
-
-run-4 : (q a b c d : ℕ) → utf8First a ≡ q → utf8Step q b ≡ 2 → 0x80 ≤ c → c ≤ 0xBF → 0x80 ≤ d → d ≤ 0xBF → run utf8Step 0 (a ∷ b ∷ c ∷ d ∷ []) ≡ 0
-unfolding run
-run-4 q a b c d h k l g m n = rw (step-0 a, h, k, last-2 c l g) (last-1 d m n)
-
-one-utf8 : (v : ℕ) → v < 0x80 → run utf8Step 0 (v ∷ []) ≡ 0
-unfolding run
-one-utf8 v h = ascii-first v h
-
--- below the surrogates, where not past them
-below : (v : ℕ) → v < 0xE000 → (0xD800 ≤ v → 0xE000 ≤ v) → v < 0xD800
-below v h s = go (ltb v 0xD800) refl where
-  go : (x : Bool) → ltb v 0xD800 ≡ x → v < 0xD800
-  go true e = ltb-true _ _ e
-  go false e = let a = s (ltb-false _ _ e) in absurd (omega arith)
-
--- the UTF-8 of a scalar is well-formed
-module _ (v : ℕ) where
-  in-three : 0x800 ≤ v → v < 0x10000 → (0xD800 ≤ v → 0xE000 ≤ v) → run utf8Step 0 ((224 + v / 4096) ∷ (128 + v / 64 % 64) ∷ (128 + v % 64) ∷ []) ≡ 0
-  in-three h g s = go (eqb (224 + v / 4096) 0xE0) refl (eqb (224 + v / 4096) 0xED) refl where
-    go : (x : Bool) → eqb (224 + v / 4096) 0xE0 ≡ x → (y : Bool) → eqb (224 + v / 4096) 0xED ≡ y → run utf8Step 0 ((224 + v / 4096) ∷ (128 + v / 64 % 64) ∷ (128 + v % 64) ∷ []) ≡ 0
-    go true e y f =
-        let a : 224 + v / 4096 ≡ 0xE0 = eqb-true _ _ e in
-        run-3 4 (224 + v / 4096) (128 + v / 64 % 64) (128 + v % 64) (first-e0 _ a) (last-4 _ (omega arith) (omega arith)) (omega arith) (omega arith)
-    go false e true f =
-        let a : 224 + v / 4096 ≡ 0xED = eqb-true _ _ f in
-        let b : v < 0xD800 = below v (omega arith) s in
-        run-3 5 (224 + v / 4096) (128 + v / 64 % 64) (128 + v % 64) (first-ed _ a) (last-5 _ (omega arith) (omega arith)) (omega arith) (omega arith)
-    go false e false f =
-        let a : 224 + v / 4096 ≡ 0xE0 → ⊥ = eqb-false _ _ e in
-        let b : 224 + v / 4096 ≡ 0xED → ⊥ = eqb-false _ _ f in
-        run-3 2 (224 + v / 4096) (128 + v / 64 % 64) (128 + v % 64) (first-3 _ (omega arith) (omega arith) b) (last-2 _ (omega arith) (omega arith)) (omega arith) (omega arith)
-
-  in-four : 0x10000 ≤ v → v ≤ 0x10FFFF → run utf8Step 0 ((240 + v / 262144) ∷ (128 + v / 4096 % 64) ∷ (128 + v / 64 % 64) ∷ (128 + v % 64) ∷ []) ≡ 0
-  in-four h g = go (eqb (240 + v / 262144) 0xF0) refl (eqb (240 + v / 262144) 0xF4) refl where
-    go : (x : Bool) → eqb (240 + v / 262144) 0xF0 ≡ x → (y : Bool) → eqb (240 + v / 262144) 0xF4 ≡ y → run utf8Step 0 ((240 + v / 262144) ∷ (128 + v / 4096 % 64) ∷ (128 + v / 64 % 64) ∷ (128 + v % 64) ∷ []) ≡ 0
-    go true e y f =
-        let a : 240 + v / 262144 ≡ 0xF0 = eqb-true _ _ e in
-        run-4 6 (240 + v / 262144) (128 + v / 4096 % 64) (128 + v / 64 % 64) (128 + v % 64) (first-f0 _ a) (last-6 _ (omega arith) (omega arith)) (omega arith) (omega arith) (omega arith) (omega arith)
-    go false e true f =
-        let a : 240 + v / 262144 ≡ 0xF4 = eqb-true _ _ f in
-        run-4 7 (240 + v / 262144) (128 + v / 4096 % 64) (128 + v / 64 % 64) (128 + v % 64) (first-f4 _ a) (last-7 _ (omega arith) (omega arith)) (omega arith) (omega arith) (omega arith) (omega arith)
-    go false e false f =
-        let a : 240 + v / 262144 ≡ 0xF0 → ⊥ = eqb-false _ _ e in
-        let b : 240 + v / 262144 ≡ 0xF4 → ⊥ = eqb-false _ _ f in
-        run-4 3 (240 + v / 262144) (128 + v / 4096 % 64) (128 + v / 64 % 64) (128 + v % 64) (first-4 _ (omega arith) (omega arith)) (last-3 _ (omega arith) (omega arith)) (omega arith) (omega arith) (omega arith) (omega arith)
-
-  encoded-utf8 : v ≤ 0x10FFFF → (0xD800 ≤ v → 0xE000 ≤ v) → run utf8Step 0 (encScalar v) ≡ 0
-  encoded-utf8 h s = go (ltb v 0x80) refl (ltb v 0x800) refl (ltb v 0x10000) refl where
-    go : (x : Bool) → ltb v 0x80 ≡ x → (y : Bool) → ltb v 0x800 ≡ y → (z : Bool) → ltb v 0x10000 ≡ z → run utf8Step 0 (encScalar v) ≡ 0
-    go true e y f z g = let a : v < 0x80 = ltb-true _ _ e in rw (scalar-1 v a) (one-utf8 v a)
-    go false e true f z g =
-        let a : 0x80 ≤ v = ltb-false _ _ e in
-        let b : v < 0x800 = ltb-true _ _ f in
-        rw (scalar-2 v a b) (run-2 (192 + v / 64) (128 + v % 64) (first-2 _ (omega arith) (omega arith)) (omega arith) (omega arith))
-    go false e false f true g = let a : 0x80 ≤ v = ltb-false _ _ e in let b : 0x800 ≤ v = ltb-false _ _ f in let c : v < 0x10000 = ltb-true _ _ g in rw (scalar-3 v a b c) (in-three b c s)
-    go false e false f false g = let a : 0x80 ≤ v = ltb-false _ _ e in let b : 0x800 ≤ v = ltb-false _ _ f in let c : 0x10000 ≤ v = ltb-false _ _ g in rw (scalar-4 v a b c) (in-four c h)
-
 -- what `scalarOr` gives is a scalar
-record Ranged (v : ℕ) : Type 0 where
-  most : v ≤ 0x10FFFF
-  apart : 0xD800 ≤ v → 0xE000 ≤ v
+either-scalar : (v : ℕ) (t : Bool) → isScalar v ≡ t → isScalar (choose t v 0xFFFD) ≡ true
+unfolding isScalar
+either-scalar v true e = e
+either-scalar v false e = refl
 
-ranged : (v : ℕ) (x y z : Bool) → ltb v 0xD800 ≡ x → leb 0xE000 v ≡ y → leb v 0x10FFFF ≡ z → Ranged (choose (x || (y && z)) v 0xFFFD)
-ranged v true y z a b c = let l : v < 0xD800 = ltb-true _ _ a in record { most = omega arith; apart = λ h. omega arith }
-ranged v false true true a b c = let l : 0xE000 ≤ v = leb-true _ _ b in let m : v ≤ 0x10FFFF = leb-true _ _ c in record { most = m; apart = λ h. l }
-ranged v false false z a b c = record { most = omega arith; apart = λ h. omega arith }
-ranged v false true false a b c = record { most = omega arith; apart = λ h. omega arith }
-
-scalar-ranged : (v : ℕ) → Ranged (scalarOr v)
-unfolding scalarOr isScalar
-scalar-ranged v = ranged v (ltb v 0xD800) (leb 0xE000 v) (leb v 0x10FFFF) refl refl refl
+scalar-or : (v : ℕ) → isScalar (scalarOr v) ≡ true
+unfolding scalarOr
+scalar-or v = either-scalar v (isScalar v) refl
 
 scalar-utf8 : (v : ℕ) → run utf8Step 0 (encScalar (scalarOr v)) ≡ 0
-scalar-utf8 v = let r = scalar-ranged v in encoded-utf8 (scalarOr v) (r .most) (r .apart)
+unfolding run
+scalar-utf8 v = ap (λ (t : List ℕ). run utf8Step 0 t) (sym (append-nil (encScalar (scalarOr v)))) ∙ accept (scalarOr v) [] (scalar-or v)
 
 -- a piece, read, leads to where its bytes lead
 unfoldable Leads : ℕ → Piece → List ℕ → Type 0
@@ -299,7 +137,7 @@ from-utf8 (suc k) q [] l h = absurd (omega arith)
 from-utf8 (suc k) q (c ∷ t) l h = from-utf8 k q t (omega arith) h
 from-utf8 zero q (c ∷ t) l h =
     let z = piece-sized c t in
-    rw (run-append q (readsAs (pieceOf c t)) (unescapeFrom (moreOf (pieceOf c t)) t)) (from-utf8 (moreOf (pieceOf c t)) (run utf8Step q (readsAs (pieceOf c t))) t (z .inside) (piece-leads q c t h))
+    rw (run-append utf8Step q (readsAs (pieceOf c t)) (unescapeFrom (moreOf (pieceOf c t)) t)) (from-utf8 (moreOf (pieceOf c t)) (run utf8Step q (readsAs (pieceOf c t))) t (z .inside) (piece-leads q c t h))
 
 pub unescape-utf8 : (t : List ℕ) → isUtf8 t ≡ true → isUtf8 (unescape t) ≡ true
 unfolding isUtf8 unescape

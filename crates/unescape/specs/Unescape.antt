@@ -5,7 +5,7 @@ use mathlib.Core.Bool.{Bool, true, false, _||_}
 use mathlib.Core.List.{List, [], _∷_, _++_}
 use lib.Dec.{eqb}
 use Rattle.rules.specs.Rules.{hex}
-use Rattle.buffers.specs.Given.{given}
+use Rattle.decimals.specs.Bytes.{given}
 use Rattle.scalars.specs.Scalars.{hexValue, scalarOr, encScalar}
 use Rattle.unescape.specs.declared.Digits.{Digits}
 use Rattle.unescape.specs.declared.Digits.the-variants.{Value, Broken}

@@ -6,8 +6,8 @@ ghost use Rattle.buffers.specs.Relations.Append.{over, appended};
 ghost use Rattle.scalars.specs.Scalars.{encScalar};
 ghost use Rattle.unescape.specs.Unescape.{hasBackslash, digitsOf, scalarOf, escapeOf, pieceOf, readsAs, moreOf, unescape};
 use buffers::Wrote;
+use rules::is_hex;
 use scalars::hex_value;
-use scalars::is_hex;
 use scalars::scalar_len;
 use scalars::scalar_or;
 
@@ -36,12 +36,6 @@ pub fn has_backslash(s: &[u8]) -> bool
     false
 }
 
-fn wide(x: u8) -> u32
-    ensures { λ r. ⌜ (r ≡ x) × (r < 256) ⌝ }
-{
-    x as u32
-}
-
 // The value of n hexadecimal digits from `at` on.
 fn digits_at(s: &[u8], at: usize, n: usize) -> Digits
     requires { ⌜ (at ≤ length (now s)) × (n ≤ 6) ⌝ }
@@ -56,7 +50,7 @@ fn digits_at(s: &[u8], at: usize, n: usize) -> Digits
         }
         let b = s[i];
         if is_hex(b) {
-            v = v * 16 + wide(hex_value(b));
+            v = v * 16 + hex_value(b);
         } else {
             return Digits::Broken;
         }

@@ -1,3 +1,5 @@
 -- Laws that the proofs of several functions cite.
 pub mod Clamp
 pub mod Same
+pub mod Fronts
+pub mod Counting

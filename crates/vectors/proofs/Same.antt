@@ -9,7 +9,7 @@ use lib.ListN.{length, drop, getD, drop-of-length-le}
 use lib.Seq.{drop-cons}
 use lib.Dec.{eqb}
 use borrow.Author.Tests.{eq-eqb, ne-eqb}
-use Rattle.rules.specs.Same.{sameBytes}
+use Rattle.decimals.specs.Bytes.{sameBytes}
 use Rattle.vectors.specs.Readings.{partIn, allAre, beginsWith}
 
 pub all-more : (s : List ℕ) (v i : ℕ) → i < length s → allAre (drop i s) v ≡ eqb (getD s i 0) v && allAre (drop (i + 1) s) v

@@ -1,11 +1,12 @@
 // The bytes that a case lends, and comparing bytes.
 use crate::fields::part;
 use crate::fields::tail;
+use decimals::bytes::same_bytes;
 use records::write_bytes;
-use rules::same_bytes;
 ghost use mathlib.Core.Path.{_≡_};
 ghost use lib.ListN.{length};
 ghost use Rattle.vectors.specs.Readings.{allAre, beginsWith, differing};
+ghost use Rattle.vectors.specs.Lendings.{fronted, lentBytes, letters};
 
 // Has every byte this value?
 pub fn all_are(s: &[u8], v: u8) -> bool
@@ -38,9 +39,20 @@ pub fn differs(same: bool) -> u64
     if same { 0 } else { 1 }
 }
 
-// Bytes to lend, AA in each. Only the length is told.
+// Puts bytes at the front of others, if there is room.
+fn put_front(d: &mut [u8], front: &[u8])
+    ensures { λ _. ⌜ now (d .exit) ≡ fronted (now (d .entry)) (now (front .entry)) ⌝ }
+{
+    if d.len() < front.len() {
+        return;
+    }
+    write_bytes(d, 0, front);
+}
+
+// Bytes to lend, AA in each. Lending them as a slice needs their length, here and below.
 pub fn lent() -> [u8; 8192]
     ensures { λ r. ⌜ 8192 ≡ length r ⌝ }
+    ensures { λ r. ⌜ r ≡ lentBytes ⌝ }
 {
     [0xAA; 8192]
 }
@@ -48,11 +60,26 @@ pub fn lent() -> [u8; 8192]
 // The same, with some bytes at the front, if there is room.
 pub fn copied(front: &[u8]) -> [u8; 8192]
     ensures { λ r. ⌜ 8192 ≡ length r ⌝ }
+    ensures { λ r. ⌜ r ≡ fronted lentBytes (now (front .entry)) ⌝ }
 {
     let mut r = lent();
-    if 8192 < front.len() {
-        return r;
-    }
-    write_bytes(&mut r, 0, front);
+    put_front(&mut r, front);
+    r
+}
+
+fn all_letters() -> [u8; 65537]
+    ensures { λ r. ⌜ 65537 ≡ length r ⌝ }
+    ensures { λ r. ⌜ r ≡ letters ⌝ }
+{
+    [120; 65537]
+}
+
+// A text that is too long for a vector: a byte more than the longest image, the letter x in each, with some bytes at the front.
+pub fn headed(head: &[u8]) -> [u8; 65537]
+    ensures { λ r. ⌜ 65537 ≡ length r ⌝ }
+    ensures { λ r. ⌜ r ≡ fronted letters (now (head .entry)) ⌝ }
+{
+    let mut r = all_letters();
+    put_front(&mut r, head);
     r
 }

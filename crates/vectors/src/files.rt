@@ -1,7 +1,10 @@
 // Files of vectors: WVEC, version 1, u32 count of cases, and the cases, each after its u32 length; and the counts that are printed.
-use crate::fields::part;
 use crate::fields::u32_at;
 use libc::STDOUT_FILENO;
+ghost use mathlib.Core.Path.{_≡_};
+ghost use Prim.Native.Nat.{_<_, _≤_};
+ghost use lib.ListN.{length};
+ghost use Rattle.vectors.specs.Lendings.{noCounts, countedAt};
 
 // A descriptor; below 0, and said so, where there is no such file.
 pub fn open(name: &[u8]) -> i32 {
@@ -13,7 +16,9 @@ pub fn open(name: &[u8]) -> i32 {
 }
 
 // How many cases the file has that starts here.
-pub fn case_count(fd: i32) -> u64 {
+pub fn case_count(fd: i32) -> u64
+    ensures { λ r. ⌜ r < 4294967296 ⌝ }
+{
     let mut head = [0u8; 9];
     io::read_full(fd, &mut head);
     u32_at(&head, 5)
@@ -26,7 +31,9 @@ fn next_length(fd: i32) -> usize {
 }
 
 // The next case, put at the front of a buffer: its length, and 0 where the file ends before it does, or the buffer.
-pub fn next_case(fd: i32, buffer: &mut [u8]) -> usize {
+pub fn next_case(fd: i32, buffer: &mut [u8]) -> usize
+    ensures { λ r. ⌜ r ≤ length (now (buffer .exit)) ⌝ }
+{
     let n = next_length(fd);
     if buffer.len() < n {
         return 0;
@@ -43,12 +50,16 @@ pub struct Counts {
     pub n: [u64; 128],
 }
 
-pub fn no_counts() -> Counts {
+pub fn no_counts() -> Counts
+    ensures { λ r. ⌜ r ≡ record { n = noCounts } ⌝ }
+{
     Counts { n: [0; 128] }
 }
 
 // The count at a place, so much higher.
-pub fn counted(c: Counts, place: usize, by: u64) -> Counts {
+pub fn counted(c: Counts, place: usize, by: u64) -> Counts
+    ensures { λ r. ⌜ r ≡ record { n = countedAt (c .n) place by } ⌝ }
+{
     let mut r = c;
     if place < 128 {
         r.n[place] = std::num::wrapping_add_u64(r.n[place], by);
@@ -56,10 +67,10 @@ pub fn counted(c: Counts, place: usize, by: u64) -> Counts {
     r
 }
 
-// The count at a place, and the words that stand in a text from a position on, so many bytes.
-pub fn line(c: Counts, place: usize, text: &[u8], at: usize, length: usize) {
+// The count at a place, and words.
+pub fn line(c: Counts, place: usize, words: &[u8]) {
     if place < 128 {
         io::print_decimal(STDOUT_FILENO, c.n[place]);
-        io::write_all(STDOUT_FILENO, part(text, at, length));
+        io::write_all(STDOUT_FILENO, words);
     }
 }

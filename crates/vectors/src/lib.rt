@@ -7,6 +7,7 @@ pub use compare::all_are;
 pub use compare::begins;
 pub use compare::copied;
 pub use compare::differs;
+pub use compare::headed;
 pub use compare::lent;
 pub use fields::blob;
 pub use fields::byte;

@@ -1,3 +1,3 @@
--- Laws that the proofs of several functions cite.
+-- Laws that the proofs of several functions cite, and what the outlines have to do with the decoders.
 pub mod Steps
-pub mod Trail
+pub mod Passing

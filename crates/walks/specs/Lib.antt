@@ -1,1 +1,2 @@
+pub mod Outline
 pub mod Relations

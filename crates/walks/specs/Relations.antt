@@ -1,2 +1,2 @@
--- Relations that inner contracts and proofs use.
-pub mod Trail
+-- Relations that contracts and proofs use.
+pub mod Passes

@@ -1,21 +1,10 @@
-// Walking checked bytes: past an expression, an element, a pattern, by the lengths that stand there. No byte of a text is looked at.
+// Walking over records by the lengths that stand there: past an expression, an element, a pattern. No byte of a text is looked at.
 //
-// Each function takes every slice whatsoever. What it ensures speaks of the bytes at which a decoder reads: there the answer is the position past what
-// the decoder reads, or what the definition says of it.
+// Each function takes every slice whatsoever, and answers where the outline of the record ends. Where a decoder reads the record, it ends there too
+// (the laws of proofs/Passing).
 ghost use mathlib.Core.Path.{_≡_};
-ghost use mathlib.Core.List.{List, [], _∷_};
-ghost use Prim.Native.Nat.{ℕ, _≤_};
-ghost use lib.ListN.{length};
-ghost use Rattle.records.specs.declared.Next.the-variants as next;
-ghost use Rattle.records.specs.Got.{got};
-ghost use Rattle.records.specs.Bytes.{numberAt};
-ghost use Rattle.rules.specs.Same.{sameBytes};
-ghost use Rattle.records.specs.Tree.{no-variant, or};
-ghost use Rattle.records.specs.Decode.{many, idAt, optionalAt, namedAt, elementAt, patternAt, variantAt, inlinesAt, argumentsAt, termArgumentsAt, expression, inline};
-ghost use Rattle.entries.specs.Relations.Meets.{Passes};
-ghost use Rattle.resolution.specs.Resolve.{onTrail};
-ghost use Rattle.walks.specs.Relations.Trail.{patternBytes, trailOf, EndAt};
-use reader::read_size;
+ghost use Rattle.records.specs.Relations.Answer.{nextOf};
+ghost use Rattle.walks.specs.Outline.{sizedAt, strOutline, manyOutline, optionalOutline, namedOutline, variantOutline, argumentsOutline, expressionOutline, elementOutline};
 use records::Next;
 use records::Num;
 use records::read_byte;
@@ -23,11 +12,10 @@ use records::read_u16;
 use records::read_u32;
 use records::skip_bytes;
 use records::skip_str;
-use rules::same_bytes;
 
 // Past a pattern, by its length.
 pub fn skip_pattern(s: &[u8], at: usize) -> Next
-    ensures { λ r. ⌜ ((d : ℕ) → Passes (patternAt (expression d) (now (s .entry)) at) r) × ((f : ℕ) → r ≡ next.At f → (at ≤ f) × (f ≤ length (now (s .entry)))) ⌝ }
+    ensures { λ r. ⌜ r ≡ nextOf (sizedAt 4 (now (s .entry)) at) ⌝ }
 {
     let Num::At(n, p) = read_u32(s, at) else {
         return Next::Bad;
@@ -36,8 +24,8 @@ pub fn skip_pattern(s: &[u8], at: usize) -> Next
 }
 
 // Past a Flag and the Str that it announces.
-pub fn skip_optional(s: &[u8], at: usize) -> Next
-    ensures { λ r. ⌜ Passes (optionalAt idAt (now (s .entry)) at) r ⌝ }
+fn skip_optional(s: &[u8], at: usize) -> Next
+    ensures { λ r. ⌜ r ≡ nextOf (optionalOutline strOutline (now (s .entry)) at) ⌝ }
 {
     let Num::At(flag, e) = read_byte(s, at) else {
         return Next::Bad;
@@ -50,7 +38,7 @@ pub fn skip_optional(s: &[u8], at: usize) -> Next
 
 // Past a named argument: an Id and a literal.
 fn skip_name(s: &[u8], at: usize) -> Next
-    ensures { λ r. ⌜ Passes (namedAt (now (s .entry)) at) r ⌝ }
+    ensures { λ r. ⌜ r ≡ nextOf (namedOutline (now (s .entry)) at) ⌝ }
 {
     let Next::At(p) = skip_str(s, at) else {
         return Next::Bad;
@@ -62,8 +50,8 @@ fn skip_name(s: &[u8], at: usize) -> Next
 }
 
 // Past `count` named arguments.
-pub fn skip_named(s: &[u8], from: usize, count: usize) -> Next
-    ensures { λ r. ⌜ Passes (many [] _∷_ count namedAt (now (s .entry)) from) r ⌝ }
+fn skip_named(s: &[u8], from: usize, count: usize) -> Next
+    ensures { λ r. ⌜ r ≡ nextOf (manyOutline count namedOutline (now (s .entry)) from) ⌝ }
 {
     let mut at = from;
     let mut left = count;
@@ -79,7 +67,7 @@ pub fn skip_named(s: &[u8], from: usize, count: usize) -> Next
 
 // Past a variant: a key kind, a key, a Flag and a pattern.
 fn skip_variant(s: &[u8], at: usize) -> Next
-    ensures { λ r. ⌜ ((d : ℕ) → Passes (variantAt (expression d) (now (s .entry)) at) r) ⌝ }
+    ensures { λ r. ⌜ r ≡ nextOf (variantOutline (now (s .entry)) at) ⌝ }
 {
     let Num::At(_, p) = read_byte(s, at) else {
         return Next::Bad;
@@ -94,8 +82,8 @@ fn skip_variant(s: &[u8], at: usize) -> Next
 }
 
 // Past `count` variants.
-pub fn skip_variants(s: &[u8], from: usize, count: usize) -> Next
-    ensures { λ r. ⌜ ((d : ℕ) → Passes (many no-variant or count (variantAt (expression d)) (now (s .entry)) from) r) ⌝ }
+fn skip_variants(s: &[u8], from: usize, count: usize) -> Next
+    ensures { λ r. ⌜ r ≡ nextOf (manyOutline count variantOutline (now (s .entry)) from) ⌝ }
 {
     let mut at = from;
     let mut left = count;
@@ -111,7 +99,7 @@ pub fn skip_variants(s: &[u8], from: usize, count: usize) -> Next
 
 // Past an expression that nests at most `left` deep.
 pub fn skip_expression(s: &[u8], at: usize, left: usize) -> Next
-    ensures { λ r. ⌜ Passes (expression left (now (s .entry)) at) r × Passes (inline left (now (s .entry)) at) r ⌝ }
+    ensures { λ r. ⌜ r ≡ nextOf (expressionOutline left (now (s .entry)) at) ⌝ }
 {
     if left == 0 {
         return Next::Bad;
@@ -151,7 +139,7 @@ pub fn skip_expression(s: &[u8], at: usize, left: usize) -> Next
 
 // Past the arguments of a term reference, if it has any.
 fn skip_term_arguments(s: &[u8], at: usize, left: usize) -> Next
-    ensures { λ r. ⌜ Passes (termArgumentsAt (inline left) (now (s .entry)) at) r ⌝ }
+    ensures { λ r. ⌜ r ≡ nextOf (optionalOutline (argumentsOutline (expressionOutline left)) (now (s .entry)) at) ⌝ }
 {
     let Num::At(flag, e) = read_byte(s, at) else {
         return Next::Bad;
@@ -164,7 +152,7 @@ fn skip_term_arguments(s: &[u8], at: usize, left: usize) -> Next
 
 // Past the arguments of a call.
 fn skip_arguments(s: &[u8], at: usize, left: usize) -> Next
-    ensures { λ r. ⌜ Passes (argumentsAt (inline left) (now (s .entry)) at) r ⌝ }
+    ensures { λ r. ⌜ r ≡ nextOf (argumentsOutline (expressionOutline left) (now (s .entry)) at) ⌝ }
 {
     let Num::At(n, p) = read_u16(s, at) else {
         return Next::Bad;
@@ -179,8 +167,8 @@ fn skip_arguments(s: &[u8], at: usize, left: usize) -> Next
 }
 
 // Past `count` inline expressions.
-pub fn skip_inlines(s: &[u8], from: usize, count: usize, left: usize) -> Next
-    ensures { λ r. ⌜ Passes (inlinesAt (inline left) count (now (s .entry)) from) r ⌝ }
+fn skip_inlines(s: &[u8], from: usize, count: usize, left: usize) -> Next
+    ensures { λ r. ⌜ r ≡ nextOf (manyOutline count (expressionOutline left) (now (s .entry)) from) ⌝ }
 {
     let mut at = from;
     let mut i = count;
@@ -196,7 +184,7 @@ pub fn skip_inlines(s: &[u8], from: usize, count: usize, left: usize) -> Next
 
 // Past an element.
 pub fn skip_element(s: &[u8], at: usize, left: usize) -> Next
-    ensures { λ r. ⌜ Passes (elementAt (expression left) (now (s .entry)) at) r ⌝ }
+    ensures { λ r. ⌜ r ≡ nextOf (elementOutline left (now (s .entry)) at) ⌝ }
 {
     let Num::At(tag, p) = read_byte(s, at) else {
         return Next::Bad;
@@ -205,47 +193,4 @@ pub fn skip_element(s: &[u8], at: usize, left: usize) -> Next
         return skip_str(s, p);
     }
     skip_expression(s, p, left)
-}
-
-// Where the bytes of the pattern at p end: where its length says, or with the slice.
-fn pattern_end(s: &[u8], p: usize) -> Next
-    ensures { λ r. ⌜ EndAt (now (s .entry)) p r ⌝ }
-{
-    let r = read_size(s, p);
-    let size = r.size;
-    let Num::At(n, _) = size else {
-        return Next::Bad;
-    };
-    if r.left < n {
-        return Next::At(s.len());
-    }
-    Next::At(r.at + n)
-}
-
-// Have the patterns at a and b the same bytes?
-pub fn same_pattern(s: &[u8], a: usize, b: usize) -> bool
-    ensures { λ r. ⌜ ((n q : ℕ) → numberAt 4 (now (s .entry)) b ≡ got n q → r ≡ sameBytes (patternBytes (now (s .entry)) a) (patternBytes (now (s .entry)) b)) ⌝ }
-{
-    let Next::At(e) = pattern_end(s, a) else {
-        return false;
-    };
-    let Next::At(f) = pattern_end(s, b) else {
-        return false;
-    };
-    same_bytes(&s[a..e], &s[b..f])
-}
-
-// `traveled.contains`: is the pattern at `at` among the first n of the trail? Its caller shows that the trail has as many.
-pub fn on_trail(s: &[u8], trail: &[usize; 102], n: usize, at: usize) -> bool
-    requires { ⌜ n ≤ 102 ⌝ }
-    ensures { λ r. ⌜ ((m q : ℕ) → numberAt 4 (now (s .entry)) at ≡ got m q → r ≡ onTrail (patternBytes (now (s .entry)) at) (trailOf (now (s .entry)) (now (trail .entry)) n)) ⌝ }
-{
-    let mut i = n;
-    while 0 < i {
-        i -= 1;
-        if same_pattern(s, trail[i], at) {
-            return true;
-        }
-    }
-    false
 }

@@ -1,22 +1,23 @@
 -- `buffers::put_bytes` meets its contract: the length first, then the bytes.
-use Rattle.buffers.proofs.Place.{appended-fits, appended-full, paste-over}
+use Rattle.buffers.proofs.Place.{appended-fits, appended-full}
+use Rattle.records.proofs.Laws.{there}
+use Rattle.records.proofs.Writing.{fits-over}
 use borrow.Author.Needs.{needs}
-use mathlib.Core.Path.{_∙_, refl}
+use borrow.Author.Tests.{leb-false}
+use denote.Ref.{now}
+use lib.ListN.{length}
+use mathlib.Core.Path.{_∙_, refl, sym}
 use native.Mathlib.Omega.{arith}
 use Rattle.buffers.proofs.put_bytes.Statement.{statement}
 use Rattle.buffers.proofs.put_bytes.Tie as tie
 
-returns : tie.Need-returns
-returns c = appended-full _ _ _ (omega arith)
-
-sub-if2 : tie.Need-sub-if2
-sub-if2 c = search needs
-
-returns-2 : tie.Need-returns-2
-returns-2 c = appended-full _ _ _ (omega arith)
+has-bytes-requires : tie.Need-has-bytes-requires
+has-bytes-requires c κs = search needs
 
 add-end : tie.Need-add-end
-add-end c = search needs
+add-end c =
+    let room = there (now (c .before .before .before .before .args .d)) (c .before .before .before .before .args .at) (length (now (c .before .before .before .before .args .src))) (c .before .has-bytes .ensures) (c .if1 .taken) in
+    let h = room in omega arith
 
 write-bytes-requires : tie.Need-write-bytes-requires
 write-bytes-requires c κs = search needs
@@ -24,8 +25,13 @@ write-bytes-requires c κs = search needs
 same-length : tie.Need-same-length
 same-length c = search needs
 
-returns-3 : tie.Need-returns-3
-returns-3 c = appended-fits _ _ _ (omega arith) refl (c .before .before .write-bytes .ensures ∙ paste-over _ _ _)
+returns : tie.Need-returns
+returns c =
+    let room = there (now (c .before .before .before .before .before .before .before .before .args .d)) (c .before .before .before .before .before .before .before .before .args .at) (length (now (c .before .before .before .before .before .before .before .before .args .src))) (c .before .before .before .before .before .has-bytes .ensures) (c .before .before .before .before .if1 .taken) in
+    appended-fits _ _ _ room refl (c .before .before .write-bytes .ensures ∙ fits-over _ _ _ room)
+
+returns-2 : tie.Need-returns-2
+returns-2 c = appended-full _ _ _ (leb-false _ _ (sym (c .before .has-bytes .ensures) ∙ c .if1 .left))
 
 pub put-bytes-spec : {M : Type 1} → statement M
-put-bytes-spec = tie.close (tie.spec returns sub-if2 returns-2 add-end write-bytes-requires same-length returns-3)
+put-bytes-spec = tie.close (tie.spec has-bytes-requires add-end write-bytes-requires same-length returns returns-2)

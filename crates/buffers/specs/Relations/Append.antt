@@ -2,17 +2,14 @@
 use mathlib.Core.Path.{_≡_}
 use Prim.Native.Nat.{ℕ, _+_}
 use mathlib.Core.Bool.{Bool, true, false, _&&_}
-use mathlib.Core.List.{List, _++_}
+use mathlib.Core.List.{List}
 use lib.ListN.{length, take, drop}
 use lib.Dec.{leb}
 use Rattle.records.specs.Bytes.{part}
-use Rattle.buffers.specs.Given.{given}
+unfoldable pub use Rattle.records.specs.Relations.Write.{over}
+use Rattle.decimals.specs.Bytes.{given}
 use Rattle.buffers.specs.declared.Wrote.{Wrote}
 use Rattle.buffers.specs.declared.Wrote.the-variants.{At, Full}
-
--- a buffer, and bytes over what stands from a position on
-unfoldable pub over : List ℕ → ℕ → List ℕ → List ℕ
-over d at bs = take at d ++ bs ++ drop (at + length bs) d
 
 -- What an attempt to write bytes at a position answers, and what it leaves: past them, and the bytes are there; or Full, and nothing changes.
 unfoldable pub attempt : Bool → List ℕ → ℕ → List ℕ → Wrote × List ℕ

@@ -17,9 +17,9 @@ pub data ResourcePlace (s image : List ℕ) (r : Place) : Type 0 where
   resource-4 : storeOf s ≡ bad → r ≡ place.Refused 4 → ResourcePlace s image r
   resource-5 : (st : Store) (u : ℕ) → storeOf s ≡ got st u → resourceOf image ≡ bad → r ≡ place.Refused 5 → ResourcePlace s image r
   resource-6 : (st : Store) (u : ℕ) (es : List Entry) (e : ℕ) → storeOf s ≡ got st u → resourceOf image ≡ got es e
-      → hasRoom s u (length (st .items)) (1 + length image) ≡ false → r ≡ place.Refused 6 → ResourcePlace s image r
+      → hasRoom (length s) u (length (st .items)) (1 + length image) ≡ false → r ≡ place.Refused 6 → ResourcePlace s image r
   resource-at : (st : Store) (u : ℕ) (es : List Entry) (e : ℕ) → storeOf s ≡ got st u → resourceOf image ≡ got es e
-      → hasRoom s u (length (st .items)) (1 + length image) ≡ true → r ≡ place.At u (length (st .items)) → ResourcePlace s image r
+      → hasRoom (length s) u (length (st .items)) (1 + length image) ≡ true → r ≡ place.At u (length (st .items)) → ResourcePlace s image r
 
 -- of a function
 pub data FunctionPlace (s id : List ℕ) (code : ℕ) (r : Place) : Type 0 where
@@ -28,6 +28,6 @@ pub data FunctionPlace (s id : List ℕ) (code : ℕ) (r : Place) : Type 0 where
   function-9 : (st : Store) (u : ℕ) → storeOf s ≡ got st u → isId id ≡ true → (code ≡ 1 → ⊥) → r ≡ place.Refused 9 → FunctionPlace s id code r
   function-10 : (st : Store) (u : ℕ) → storeOf s ≡ got st u → isId id ≡ true → code ≡ 1 → isSome (findIn (st .items) id) ≡ true → r ≡ place.Refused 10 → FunctionPlace s id code r
   function-6 : (st : Store) (u : ℕ) → storeOf s ≡ got st u → isId id ≡ true → code ≡ 1 → isSome (findIn (st .items) id) ≡ false
-      → hasRoom s u (length (st .items)) (9 + length id) ≡ false → r ≡ place.Refused 6 → FunctionPlace s id code r
+      → hasRoom (length s) u (length (st .items)) (9 + length id) ≡ false → r ≡ place.Refused 6 → FunctionPlace s id code r
   function-at : (st : Store) (u : ℕ) → storeOf s ≡ got st u → isId id ≡ true → code ≡ 1 → isSome (findIn (st .items) id) ≡ false
-      → hasRoom s u (length (st .items)) (9 + length id) ≡ true → r ≡ place.At u (length (st .items)) → FunctionPlace s id code r
+      → hasRoom (length s) u (length (st .items)) (9 + length id) ≡ true → r ≡ place.At u (length (st .items)) → FunctionPlace s id code r

@@ -3,8 +3,9 @@ use Prim.Native.Nat.{ℕ}
 use mathlib.Core.List.{List, []}
 use mathlib.Core.Bool.{Bool, true, false}
 use mathlib.Core.Option.{Option, none, some}
-use lib.ListN.{take}
+use lib.ListN.{length, take}
 use Rattle.decimals.specs.Decimal.{Options, Number}
+use Rattle.decimals.specs.Text.{textLimit, padded}
 use Rattle.decimals.specs.declared.types.Count.{Count}
 use Rattle.decimals.specs.declared.types.Count.the-variants.{Unset, Set}
 use Rattle.decimals.specs.declared.types.Options as code-options
@@ -47,3 +48,7 @@ told n = record { negative = n .negative; digits = n .digits; scale = n .scale; 
 -- the bytes that a text holds
 abbrev pub textOf : code-text.NumberText → List ℕ
 textOf t = take (t .len) (t .bytes)
+
+-- the code's text that holds these bytes
+abbrev pub heldText : List ℕ → code-text.NumberText
+heldText t = record { bytes = padded textLimit t; len = length t }

@@ -1,7 +1,6 @@
 -- `exports::weszlagyo_new` meets its contract: the two cases of what the bundle's `new` answers.
-use Rattle.exports.proofs.Told.{answer-is, done-number, refused-number, slice-is}
+use Rattle.exports.proofs.Told.{done-told, refused-told}
 use borrow.Author.Needs.{needs}
-use mathlib.Core.List.{[]}
 use Rattle.exports.proofs.weszlagyo_new.Statement.{statement}
 use Rattle.exports.proofs.weszlagyo_new.Tie as tie
 
@@ -19,18 +18,16 @@ same-length c = search needs
 
 returns : tie.Need-returns
 returns c =
-    let answered = answer-is (c .before .before .before .before .new .result) (c .before .before .before .before .new .last .0) [] (c .before .before .before .before .new .ensures) in
-    let left = slice-is (c .before .before .before .before .new .result) (c .before .before .before .before .new .last .0) [] (c .before .before .before .before .new .ensures) in
-    (done-number (c .enum-told .given .1) answered, left)
+    let t = done-told 0 (c .before .before .before .before .new .ensures) (c .enum-told .given .1) in
+    (t .0, t .1 .0)
 
 same-length-2 : tie.Need-same-length-2
 same-length-2 c = search needs
 
 returns-2 : tie.Need-returns-2
 returns-2 c =
-    let answered = answer-is (c .before .before .before .before .before .new .result) (c .before .before .before .before .before .new .last .0) [] (c .before .before .before .before .before .new .ensures) in
-    let left = slice-is (c .before .before .before .before .before .new .result) (c .before .before .before .before .before .new .last .0) [] (c .before .before .before .before .before .new .ensures) in
-    (refused-number (c .before .n .given .1) answered, left)
+    let t = refused-told 0 (c .before .before .before .before .before .new .ensures) (c .before .n .given .1) in
+    (t .0, t .1 .0)
 
 pub weszlagyo-new-spec : {M : Type 1} → statement M
 weszlagyo-new-spec = tie.close (tie.spec new-requires enum-told enum-known-n same-length returns same-length-2 returns-2)

@@ -1,6 +1,6 @@
 -- `growth::put_function` meets its contract: the pieces of the record, one behind the other.
 use Prim.Native.Nat.{_+_}
-use Rattle.growth.proofs.Items.{function-head-length, function-put-length, function-written, written-length}
+use Rattle.growth.proofs.Items.{function-put-length, function-written, written-length}
 use Rattle.records.specs.Bytes.{toBe}
 use borrow.Author.Needs.{needs}
 use lib.ListN.{length, length-set}
@@ -19,7 +19,7 @@ add-write-u32-2 : tie.Need-add-write-u32-2
 add-write-u32-2 c = search needs
 
 write-u32-requires : tie.Need-write-u32-requires
-write-u32-requires c κs = let h = c .before .before .before .pre in simp length-set (omega arith)
+write-u32-requires c κs = search needs
 
 add-slice : tie.Need-add-slice
 add-slice c = search needs
@@ -37,13 +37,13 @@ add-write-u16 : tie.Need-add-write-u16
 add-write-u16 c = search needs
 
 write-u16-requires : tie.Need-write-u16-requires
-write-u16-requires c κs = let h = c .before .before .before .before .before .before .before .pre in let l = written-length (c .before .before .before .before .before .before .before .args .slice .now) (c .before .before .before .before .before .before .before .args .at) 3 (c .before .before .before .before .before .before .before .args .at + 1) (toBe 4 (8 + length (c .before .before .before .before .before .before .before .args .id .now))) (c .before .before .before .write-u32 .ensures) in simp length-set (omega arith)
+write-u16-requires c κs = search needs
 
 add-write-bytes : tie.Need-add-write-bytes
 add-write-bytes c = search needs
 
 write-bytes-requires : tie.Need-write-bytes-requires
-write-bytes-requires c κs = let h = c .before .before .before .before .before .before .before .before .before .before .before .pre in let l = function-head-length (c .before .before .before .before .before .before .before .before .before .before .before .args .slice .now) (c .before .before .before .before .before .before .before .before .before .before .before .args .at) (c .before .before .before .before .before .before .before .before .before .before .before .args .id .now) (c .before .before .before .before .before .before .before .write-u32 .ensures) (c .before .before .before .write-u16 .ensures) in omega arith
+write-bytes-requires c κs = search needs
 
 same-length : tie.Need-same-length
 same-length c =

@@ -1,9 +1,7 @@
 -- `growth::put_resource` meets its contract: the mode, and the image behind it.
 use Rattle.growth.proofs.Items.{resource-length, resource-written}
 use borrow.Author.Needs.{needs}
-use lib.ListN.{length-set}
 use mathlib.Core.Path.{refl}
-use native.Mathlib.Omega.{arith}
 use Rattle.growth.proofs.put_resource.Statement.{statement}
 use Rattle.growth.proofs.put_resource.Tie as tie
 
@@ -14,7 +12,7 @@ add-write-bytes : tie.Need-add-write-bytes
 add-write-bytes c = search needs
 
 write-bytes-requires : tie.Need-write-bytes-requires
-write-bytes-requires c κs = let h = c .before .before .before .pre in simp length-set (omega arith)
+write-bytes-requires c κs = search needs
 
 same-length : tie.Need-same-length
 same-length c =

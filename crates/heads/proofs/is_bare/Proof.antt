@@ -1,6 +1,7 @@
 -- `heads::is_bare` meets its contract: the tag of an expression tells whether it stands bare.
+use Rattle.heads.proofs.Heads.{bare-none, bare-tag}
+use Rattle.heads.specs.Tags.{bareTag}
 use Rattle.records.proofs.Views.{num-is, num-none}
-use Rattle.heads.proofs.Heads.{bare-bad, bare-is, bareTag}
 use borrow.Author.Needs.{needs}
 use borrow.Author.Tests.{eq-eqb, ne-eqb}
 use Rattle.heads.proofs.is_bare.Statement.{statement}
@@ -16,19 +17,19 @@ enum-told : tie.Need-enum-told
 enum-told c = search needs
 
 returns : tie.Need-returns
-returns c = λ d x f h. bare-bad _ _ _ h (num-none (c .before .before .read-byte .ensures) (c .enum-told .given .1))
+returns c = bare-none _ _ (num-none (c .before .before .read-byte .ensures) (c .enum-told .given .1))
 
 returns-2 : tie.Need-returns-2
 unfolding bareTag
-returns-2 c = λ d x f h. bare-is _ _ _ h _ _ (num-is (c .before .before .before .before .read-byte .ensures) (c .before .before .tag .given .1)) (rw (eq-eqb _ 1 (c .if1 .taken)))
+returns-2 c = bare-tag _ _ (num-is (c .before .before .before .before .read-byte .ensures) (c .before .before .tag .given .1)) (rw (eq-eqb _ 1 (c .if1 .taken)))
 
 returns-3 : tie.Need-returns-3
 unfolding bareTag
-returns-3 c = λ d x f h. bare-is _ _ _ h _ _ (num-is (c .before .before .before .before .before .read-byte .ensures) (c .before .before .before .tag .given .1)) (rw (ne-eqb _ 1 (c .before .if1 .left), eq-eqb _ 4 (c .if2 .taken)))
+returns-3 c = bare-tag _ _ (num-is (c .before .before .before .before .before .read-byte .ensures) (c .before .before .before .tag .given .1)) (rw (ne-eqb _ 1 (c .before .if1 .left), eq-eqb _ 4 (c .if2 .taken)))
 
 returns-4 : tie.Need-returns-4
 unfolding bareTag
-returns-4 c = λ d x f h. bare-is _ _ _ h _ _ (num-is (c .before .before .before .before .before .read-byte .ensures) (c .before .before .before .tag .given .1)) (rw (ne-eqb _ 1 (c .before .if1 .left), ne-eqb _ 4 (c .if2 .left)))
+returns-4 c = bare-tag _ _ (num-is (c .before .before .before .before .before .read-byte .ensures) (c .before .before .before .tag .given .1)) (rw (ne-eqb _ 1 (c .before .if1 .left), ne-eqb _ 4 (c .if2 .left)))
 
 pub is-bare-spec : {M : Type 1} → statement M
 is-bare-spec = tie.close (tie.spec read-byte-requires enum-known-tag enum-told returns returns-2 returns-3 returns-4)

@@ -2,7 +2,6 @@
 use Prim.Native.Nat.{_-_, ℕ}
 use Rattle.listing.proofs.Records.{ListFrom, list-next, list-no-count, list-none, list-start, list-stuck}
 use Rattle.entries.proofs.Lengths.{u16-small}
-use Rattle.entries.proofs.Walk.{told}
 use Rattle.records.proofs.Views.{num-is, num-none}
 use borrow.Author.Needs.{needs}
 use lib.ListN.{length}
@@ -57,7 +56,7 @@ same-length c = c .before .before .before .before .before .list-entry .ensures .
 returns-2 : tie.Need-returns-2 Inv-loop μ-loop
 returns-2 c =
     let count = num-is (c .before .before .before .before .before .before .before .before .before .before .before .before .before .read-u16 .ensures) (c .before .before .before .before .before .before .before .before .before .before .before .count .given .1) in
-    list-start _ _ _ _ count (c .before .before .before .before .before .before .before .before .before .loop .inv .0 _ (list-stuck _ _ (omega arith) (told (c .before .before .skip-entry .ensures) (c .enum-told2 .given .1))))
+    list-start _ _ _ _ count (c .before .before .before .before .before .before .before .before .before .loop .inv .0 _ (list-stuck _ _ (omega arith) (c .before .before .skip-entry .ensures) (c .enum-told2 .given .1)))
 
 add-k : tie.Need-add-k Inv-loop μ-loop
 add-k c =
@@ -69,7 +68,7 @@ loop-less : tie.Need-loop-less Inv-loop μ-loop
 loop-less c = search needs
 
 loop-again : tie.Need-loop-again Inv-loop μ-loop
-loop-again c = ((λ out h. c .before .before .before .before .before .before .before .before .before .before .loop .inv .0 out (list-next _ _ _ (c .before .before .before .before .before .before .before .before .before .loop-test .taken) (c .before .before .before .before .before .before .list-entry .ensures) (told (c .before .before .before .skip-entry .ensures) (c .before .next .given .1)) h)), c .before .before .before .before .before .before .list-entry .ensures .same ∙ c .before .before .before .before .before .before .before .before .before .before .loop .inv .1)
+loop-again c = ((λ out h. c .before .before .before .before .before .before .before .before .before .before .loop .inv .0 out (list-next _ _ _ (c .before .before .before .before .before .before .before .before .before .loop-test .taken) (c .before .before .before .before .before .before .list-entry .ensures) (c .before .before .before .skip-entry .ensures) (c .before .next .given .1) h)), c .before .before .before .before .before .before .list-entry .ensures .same ∙ c .before .before .before .before .before .before .before .before .before .before .loop .inv .1)
 
 same-length-2 : tie.Need-same-length-2 Inv-loop μ-loop
 same-length-2 c = c .before .loop .inv .1

@@ -2,7 +2,7 @@
 use Prim.Native.Nat.{_*_, _-_, _≤_}
 use Rattle.listing.proofs.Tallying.{TallyFrom, tally-bad, tally-next, tally-no-count, tally-none, tally-start, tally-stuck}
 use Rattle.entries.proofs.Lengths.{id-small, u16-small}
-use Rattle.entries.proofs.Walk.{behind-in, told}
+use Rattle.entries.proofs.Walk.{behind-in}
 use Rattle.listing.specs.declared.Tally.{Tally}
 use Rattle.records.proofs.Views.{num-is, num-none}
 use borrow.Author.Needs.{needs}
@@ -81,7 +81,7 @@ returns-3 c =
     let span = num-is (c .before .before .before .before .before .before .before .before .read-str-behind .ensures) (c .before .before .before .before .before .before .a .given .1) in
     let small = u16-small _ _ (λ i. omega (arith, c .before .before .before .before .before .before .before .before .before .before .before .before .before .before .before .shared-slice-known .given i)) count in
     let short = id-small _ _ (λ i. omega (arith, c .before .before .before .before .before .before .before .before .before .before .before .before .before .before .before .shared-slice-known .given i)) span in
-    ((tally-start _ _ count (c .before .before .before .before .before .before .before .before .before .before .loop .inv .0 _ (tally-stuck _ _ (omega arith) (told (c .before .before .skip-entry .ensures) (c .enum-told3 .given .1))))), let s = small in let d = short in let f = c .before .before .before .tally-more .ensures .small in omega arith)
+    ((tally-start _ _ count (c .before .before .before .before .before .before .before .before .before .before .loop .inv .0 _ (tally-stuck _ _ (omega arith) (c .before .before .skip-entry .ensures) (c .enum-told3 .given .1)))), let s = small in let d = short in let f = c .before .before .before .tally-more .ensures .small in omega arith)
 
 add-k : tie.Need-add-k Inv-loop μ-loop
 add-k c =
@@ -96,7 +96,7 @@ loop-again : tie.Need-loop-again Inv-loop μ-loop
 loop-again c =
     let span = num-is (c .before .before .before .before .before .before .before .before .before .read-str-behind .ensures) (c .before .before .before .before .before .before .before .a .given .1) in
     let short = id-small _ _ (λ i. omega (arith, c .before .before .before .before .before .before .before .before .before .before .before .before .before .before .before .before .shared-slice-known .given i)) span in
-    ((λ r h. c .before .before .before .before .before .before .before .before .before .before .before .loop .inv .0 r (tally-next _ _ _ (c .before .before .before .before .before .before .before .before .before .before .loop-test .taken) span (c .before .before .before .before .tally-more .ensures) (told (c .before .before .before .skip-entry .ensures) (c .before .next .given .1)) h)), (let f = c .before .before .before .before .tally-more .ensures .few in omega arith), (let d = short in let f = c .before .before .before .before .tally-more .ensures .small in omega arith), omega arith)
+    ((λ r h. c .before .before .before .before .before .before .before .before .before .before .before .loop .inv .0 r (tally-next _ _ _ (c .before .before .before .before .before .before .before .before .before .before .loop-test .taken) span (c .before .before .before .before .tally-more .ensures) (c .before .before .before .skip-entry .ensures) (c .before .next .given .1) h)), (let f = c .before .before .before .before .tally-more .ensures .few in omega arith), (let d = short in let f = c .before .before .before .before .tally-more .ensures .small in omega arith), omega arith)
 
 returns-4 : tie.Need-returns-4 Inv-loop μ-loop
 returns-4 c =

@@ -69,8 +69,8 @@ pub +check-arguments+check-body+check-element+check-elements+check-expression+ch
     μ-check-variant
     μ-check-variants
     (λ t. check-arguments-lts.spec (check-arguments-claims t) (check-arguments-at t) check-arguments-reads.Post (check-arguments-needs.read-u16-requires t) (check-arguments-needs.enum-known-n t) (check-arguments-needs.enum-told t) (check-arguments-needs.returns t) (check-arguments-needs.check-inlines-requires t) (check-arguments-needs.enum-known-q t) (check-arguments-needs.enum-told-2 t) (check-arguments-needs.returns-2 t) (check-arguments-needs.read-u16-requires-2 t) (check-arguments-needs.enum-known-m t) (check-arguments-needs.enum-told-3 t) (check-arguments-needs.returns-3 t) (check-arguments-needs.check-named-arguments-requires t) (check-arguments-needs.returns-4 t))
-    (λ t. check-body-lts.spec (check-body-claims t) (check-body-at t) check-body-reads.Post (check-body-needs.check-string-requires t) (check-body-needs.returns t) (check-body-needs.check-number-requires t) (check-body-needs.returns-2 t) (check-body-needs.check-id-requires t) (check-body-needs.enum-known-q t) (check-body-needs.enum-told t) (check-body-needs.returns-3 t) (check-body-needs.check-arguments-requires t) (check-body-needs.returns-4 t) (check-body-needs.check-id-requires-2 t) (check-body-needs.enum-known-q-2 t) (check-body-needs.enum-told-2 t) (check-body-needs.returns-5 t) (check-body-needs.check-optional-id-requires t) (check-body-needs.returns-6 t) (check-body-needs.check-term-requires t) (check-body-needs.returns-7 t) (check-body-needs.check-id-requires-3 t) (check-body-needs.returns-8 t) (check-body-needs.check-expression-requires t) (check-body-needs.returns-9 t) (check-body-needs.returns-10 t))
-    (λ t. check-element-lts.spec (check-element-claims t) (check-element-at t) check-element-reads.Post (check-element-needs.read-byte-requires t) (check-element-needs.enum-known-tag t) (check-element-needs.enum-told t) (check-element-needs.returns t) (check-element-needs.check-text-requires t) (check-element-needs.check-expression-requires t) (check-element-needs.returns-2 t) (check-element-needs.returns-3 t) (check-element-needs.returns-4 t))
+    (λ t. check-body-lts.spec (check-body-claims t) (check-body-at t) check-body-reads.Post (check-body-needs.check-ruled-requires t) (check-body-needs.returns t) (check-body-needs.check-ruled-requires-2 t) (check-body-needs.returns-2 t) (check-body-needs.check-id-requires t) (check-body-needs.enum-known-q t) (check-body-needs.enum-told t) (check-body-needs.returns-3 t) (check-body-needs.check-arguments-requires t) (check-body-needs.returns-4 t) (check-body-needs.check-id-requires-2 t) (check-body-needs.enum-known-q-2 t) (check-body-needs.enum-told-2 t) (check-body-needs.returns-5 t) (check-body-needs.check-optional-id-requires t) (check-body-needs.returns-6 t) (check-body-needs.check-term-requires t) (check-body-needs.returns-7 t) (check-body-needs.check-id-requires-3 t) (check-body-needs.returns-8 t) (check-body-needs.check-expression-requires t) (check-body-needs.returns-9 t) (check-body-needs.returns-10 t))
+    (λ t. check-element-lts.spec (check-element-claims t) (check-element-at t) check-element-reads.Post (check-element-needs.read-byte-requires t) (check-element-needs.enum-known-tag t) (check-element-needs.enum-told t) (check-element-needs.returns t) (check-element-needs.check-ruled-requires t) (check-element-needs.check-expression-requires t) (check-element-needs.returns-2 t) (check-element-needs.returns-3 t) (check-element-needs.returns-4 t))
     (λ t. check-elements-lts.spec (check-elements-claims t) (check-elements-at t) check-elements-reads.Post check-elements-needs.Inv-loop check-elements-needs.μ-loop (check-elements-needs.loop-holds t) (check-elements-needs.check-element-requires t) (check-elements-needs.enum-known-e t) (check-elements-needs.enum-told t) (check-elements-needs.returns t) (check-elements-needs.sub-left t) (check-elements-needs.loop-less t) (check-elements-needs.loop-again t) (check-elements-needs.returns-2 t))
     (λ t. check-expression-lts.spec (check-expression-claims t) (check-expression-at t) check-expression-reads.Post (check-expression-needs.returns t) (check-expression-needs.read-byte-requires t) (check-expression-needs.enum-known-tag t) (check-expression-needs.enum-told t) (check-expression-needs.returns-2 t) (check-expression-needs.sub-check-select t) (check-expression-needs.check-select-requires t) (check-expression-needs.sub-check-body t) (check-expression-needs.check-body-requires t) (check-expression-needs.returns-3 t) (check-expression-needs.returns-4 t))
     (λ t. check-inline-lts.spec (check-inline-claims t) (check-inline-at t) check-inline-reads.Post (check-inline-needs.returns t) (check-inline-needs.read-byte-requires t) (check-inline-needs.enum-known-tag t) (check-inline-needs.enum-told t) (check-inline-needs.returns-2 t) (check-inline-needs.sub-check-body t) (check-inline-needs.check-body-requires t) (check-inline-needs.returns-3 t))

@@ -7,12 +7,12 @@ use mathlib.Core.Option.{none}
 use lib.ListN.{length, getD, set}
 use lib.Dec.{eqb}
 use Rattle.records.specs.Got.{got}
-use Rattle.rules.specs.Run.{run}
+use Rattle.decimals.specs.Bytes.{run}
 use Rattle.records.specs.Bytes.{part, numberAt, spanAt}
 use Rattle.records.specs.Decode.{many}
 use Rattle.records.specs.Images.{Entry, Item, isSome, entryAt, itemAt}
 use Rattle.entries.specs.Lookup.{Find, firstEntry, holderAfter}
-use Rattle.entries.specs.Relations.Meets.{behind}
+use Rattle.entries.specs.Outline.{behind}
 
 -- a number for an id, by its bytes
 unfoldable pub hashStep : ℕ → ℕ → ℕ

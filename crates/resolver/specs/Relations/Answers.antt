@@ -7,9 +7,9 @@ use Rattle.records.specs.Got.{got}
 use Rattle.records.specs.Bytes.{part, numberAt, spanAt}
 use Rattle.state.specs.declared.Scope.{Scope}
 use Rattle.state.specs.declared.Value as code-value
-use Rattle.scope.specs.Relations.Meets.{World, world, env}
-use Rattle.scope.specs.Relations.Leaves.{NamedAt}
-use Rattle.scope.specs.Relations.Members.{PositionalAt, CalledAt}
+use Rattle.resolver.specs.Relations.Meets.{World, world, env}
+use Rattle.resolver.specs.Relations.Leaves.{NamedAt}
+use Rattle.resolver.specs.Relations.Members.{PositionalAt, CalledAt}
 
 -- what is answered where the positional arguments end at `base` and the named ones are known: the call's answer, its arguments freed down to `old`
 pub record AnswerAt (s w2 : List ℕ) (s2 : Scope) (id : List ℕ) (named m base : ℕ) (first : code-value.Value) (old : ℕ) (r : Scope) (found : Bool) (c : code-value.Value) : Type 0 where

@@ -13,20 +13,23 @@ use Rattle.records.specs.Errors.{encError, encErrors}
 use Rattle.growth.specs.Items.{atFront}
 use Rattle.resolution.specs.Effect.{Bytes}
 use Rattle.resolution.specs.Exec.{Machine, Ran, ran, refused}
-use Rattle.resolution.specs.Format.{Answer, finished, refusedBefore, refusedRunning, Buffers, limitsOf, refuse, ended, runPattern, formatArguments, format}
+use Rattle.resolution.specs.Format.{Answer, finished, refusedBefore, refusedRunning, Buffers, Formatted, limitsOf, refuse, ended, runPattern, formatArguments, format}
 use Rattle.state.specs.declared.Scope.{Scope}
-use Rattle.scope.specs.Relations.Meets.{Env, Setup, settingOf, findOf}
+use Rattle.resolver.specs.Relations.Meets.{Env, Setup, settingOf, findOf}
 use Rattle.state.specs.Setters.{maxUnfound}
 use Rattle.resolver.specs.declared.format.Answer as code-answer
-use Rattle.resolver.specs.declared.format.Answer.the-variants as ans
+use Rattle.resolver.specs.Formats.{gave}
 use Rattle.resolver.specs.declared.format.Part as code-part
 use Rattle.resolver.specs.declared.format.Part.the-variants as part-answer
 
 -- the same with a count of lookups unfound that stops at 2^64 - 1, as the code counts; no store reaches that
-unfoldable pub stoppedOf : Answer → code-answer.Answer
-stoppedOf (finished t e b u w) = ans.Finished (record { text = t; errors = e; begun = b; unfound = min u maxUnfound; work = w })
-stoppedOf (refusedBefore n) = ans.Refused n
-stoppedOf (refusedRunning n) = ans.Cleared n
+unfoldable pub stoppedOf : Answer → Answer
+stoppedOf (finished t e b u w) = finished t e b (min u maxUnfound) w
+stoppedOf (refusedBefore n) = refusedBefore n
+stoppedOf (refusedRunning n) = refusedRunning n
+
+unfoldable pub stopped : Formatted → Formatted
+stopped f = record { answer = stoppedOf (f .answer); buffers = f .buffers }
 
 -- the pattern that is asked for, by its position, or the refusal before the run: 4, 8, 11, 12
 pub data PatternFound (s id : Bytes) (a : Option Bytes) (r : code-part.Part) : Type 0 where
@@ -53,7 +56,4 @@ pub record RunAt (e : Env) (q : ℕ) (x l w x′ l′ w′ : Bytes) (r : Scope) 
 -- what the buffers hold in the end, whatever the run's outcome was
 pub record FinishAt (st : Scope) (x₁ l₁ w₁ x₂ l₂ w₂ : Bytes) (r : code-answer.Answer) : Type 0 where
   pub finishes : (o : Ran) (x l w : Bytes) → RanAs o x l x₁ l₁ st → length x₁ ≡ length x → length l₁ ≡ length l → length w₁ ≡ length w
-      → (r ≡ stoppedOf (ended o (record { text = x; list = l; work = w }) .answer))
-      × (x₂ ≡ ended o (record { text = x; list = l; work = w }) .buffers .text)
-      × (l₂ ≡ ended o (record { text = x; list = l; work = w }) .buffers .list)
-      × (w₂ ≡ ended o (record { text = x; list = l; work = w }) .buffers .work)
+      → gave r x₂ l₂ w₂ ≡ stopped (ended o (record { text = x; list = l; work = w }))

@@ -12,9 +12,14 @@ use Rattle.texts.specs.declared.errors.Referred.the-variants as referred
 use Rattle.resolution.specs.Effect.{report, emit}
 use Rattle.state.specs.declared.Scope.{Scope}
 use Rattle.state.specs.Setters.{countedS}
-use Rattle.scope.specs.Relations.Meets.{World, world, Kept, Acts, env}
-use Rattle.scope.specs.Relations.Leaves.{ErrorAt, RefErrorAt}
-use Rattle.scope.specs.Relations.Members.{TrackAt, MessageAt, FoundTermAt}
+use Rattle.resolver.specs.Relations.Meets.{World, world, Kept, Acts, env}
+use Rattle.resolver.specs.Relations.Leaves.{ErrorAt, RefErrorAt}
+use Rattle.resolver.specs.Relations.Members.{TrackAt, MessageAt, FoundTermAt}
+use Rattle.entries.specs.declared.Found.{Found}
+use Rattle.entries.specs.declared.Found.the-variants as found
+use Rattle.state.specs.declared.Referring.{Referring}
+use Rattle.resolver.specs.declared.reference.Holder.{Holder}
+use Rattle.resolver.specs.declared.reference.Holder.the-variants as holder
 use Rattle.resolver.specs.declared.reference.Target as code-target
 use Rattle.resolver.specs.declared.reference.Target.the-variants as target
 
@@ -47,3 +52,28 @@ pub data TermTarget (s : List ℕ) (at : ℕ) (r : code-target.Target) : Type 0 
       → ((image x l w x′ l′ w′ t : List ℕ) (st s′ : Scope) → RefErrorAt s at (referredOf referred.Term) x l w (countIf lost st) x′ l′ w′ s′
       → FoundTermAt (env s image) at (world s x l w t st) (world s x′ l′ w′ t s′)) → TermTarget s at r
   term-bad : r ≡ target.Bad → ((image : List ℕ) (w : World) → FoundTermAt (env s image) at w w) → TermTarget s at r
+
+-- a reference of the kind that is asked for: a term's, or a message's
+abbrev pub TargetAt : Bool → List ℕ → ℕ → code-target.Target → Type 0
+TargetAt true s at r = TermTarget s at r
+TargetAt false s at r = MessageTarget s at r
+
+-- the entry of a holder that is of the kind asked for; else whether the Id has no entry of any kind
+unfoldable pub holderOf : Bool → Found → Holder
+holderOf true (found.Message q) = holder.Not false
+holderOf false (found.Message q) = holder.Is q
+holderOf true (found.Term q) = holder.Is q
+holderOf false (found.Term q) = holder.Not false
+holderOf true found.Function = holder.Not false
+holderOf false found.Function = holder.Not false
+holderOf true found.Nothing = holder.Not true
+holderOf false found.Nothing = holder.Not true
+
+-- what stands for a part that an entry lacks: a message without a value is NoValue
+unfoldable pub lackingIf : Bool → Referring → code-target.Target
+lackingIf true y = target.Missing false
+lackingIf false y = target.NoValue (y .from) (y .to)
+
+unfoldable pub lackingOf : Bool → Referring → code-target.Target
+lackingOf true y = target.Missing false
+lackingOf false y = lackingIf (y .has) y

@@ -8,7 +8,7 @@ use Rattle.records.specs.Bytes.{toBe}
 use Rattle.records.specs.Images as images
 use Rattle.records.specs.Errors as errors
 use Rattle.records.specs.Errors.{Error, encError, listHeader}
-use Rattle.buffers.specs.Given.{given}
+use Rattle.decimals.specs.Bytes.{given}
 use Rattle.buffers.specs.Relations.Append.{over, attempt}
 use Rattle.buffers.specs.declared.Wrote.{Wrote}
 use Rattle.texts.specs.declared.errors.Kind.{Kind}

@@ -2,6 +2,7 @@
 use Prim.Native.Nat.{_-_, _<_, _^_, _≤_}
 use Rattle.unescape.proofs.Reading.{digits-bound, digits-done, digits-none, digits-not, digits-short, digits-turn}
 use Rattle.unescape.specs.Unescape.{digitsOf}
+use Rattle.scalars.proofs.Scalars.{value-below}
 use borrow.Author.Needs.{needs}
 use lib.ListN.{drop, length}
 use mathlib.Core.Path.{_∙_, _≡_, refl, sym}
@@ -35,12 +36,9 @@ mul-v c =
 hex-value-requires : tie.Need-hex-value-requires Inv-loop μ-loop
 hex-value-requires c κs = search needs
 
-wide-requires : tie.Need-wide-requires Inv-loop μ-loop
-wide-requires c κs = search needs
-
 add-v : tie.Need-add-v Inv-loop μ-loop
 add-v c =
-    let below = digits-bound _ _ _ (c .wide .result) (c .before .before .before .before .before .before .loop-test .taken) (c .before .before .before .before .before .before .before .loop .inv .1) (c .before .before .before .before .before .before .before .before .before .pre .1) (c .before .before .before .before .before .before .before .loop .inv .2) (rw (c .wide .ensures .0) ((c .before .hex-value .ensures (sym (c .before .before .before .is-hex .ensures) ∙ c .before .before .if2 .taken)) .1)) in
+    let below = digits-bound _ _ _ (c .hex-value .result) (c .before .before .before .before .before .loop-test .taken) (c .before .before .before .before .before .before .loop .inv .1) (c .before .before .before .before .before .before .before .before .pre .1) (c .before .before .before .before .before .before .loop .inv .2) (rw (c .hex-value .ensures) (value-below _)) in
     omega arith
 
 returns-2 : tie.Need-returns-2 Inv-loop μ-loop
@@ -57,13 +55,12 @@ loop-less c = omega arith
 
 loop-again : tie.Need-loop-again Inv-loop μ-loop
 loop-again c =
-    let is = sym (c .before .before .before .is-hex .ensures) ∙ c .before .before .if2 .taken in
-    let value = c .before .hex-value .ensures (sym (c .before .before .before .is-hex .ensures) ∙ c .before .before .if2 .taken) in
-    let below = digits-bound _ _ _ (c .wide .result) (c .before .before .before .before .before .before .loop-test .taken) (c .before .before .before .before .before .before .before .loop .inv .1) (c .before .before .before .before .before .before .before .before .before .pre .1) (c .before .before .before .before .before .before .before .loop .inv .2) (rw (c .wide .ensures .0) ((c .before .hex-value .ensures (sym (c .before .before .before .is-hex .ensures) ∙ c .before .before .if2 .taken)) .1)) in
-    (omega arith, omega arith, below .0, digits-turn _ _ _ _ (c .before .before .before .before .before .if1 .left) (c .before .before .before .before .before .before .loop-test .taken) is (c .wide .ensures .0 ∙ value .0) (c .before .before .before .before .before .before .before .loop .inv .3))
+    let is = sym (c .before .before .is-hex .ensures) ∙ c .before .if2 .taken in
+    let below = digits-bound _ _ _ (c .hex-value .result) (c .before .before .before .before .before .loop-test .taken) (c .before .before .before .before .before .before .loop .inv .1) (c .before .before .before .before .before .before .before .before .pre .1) (c .before .before .before .before .before .before .loop .inv .2) (rw (c .hex-value .ensures) (value-below _)) in
+    (omega arith, omega arith, below .0, digits-turn _ _ _ _ (c .before .before .before .before .if1 .left) (c .before .before .before .before .before .loop-test .taken) is (c .hex-value .ensures) (c .before .before .before .before .before .before .loop .inv .3))
 
 returns-3 : tie.Need-returns-3 Inv-loop μ-loop
 returns-3 c = sym (digits-done (c .before .before .before .args .s .now) (c .before .loop .i) (c .before .loop .v) (c .before .loop .left) (c .loop-test .left)) ∙ c .before .loop .inv .3
 
 pub digits-at-spec : {M : Type 1} → statement M
-digits-at-spec = tie.close (tie.spec Inv-loop μ-loop loop-holds returns shared-slice-read-b is-hex-requires mul-v hex-value-requires wide-requires add-v returns-2 add-i sub-left loop-less loop-again returns-3)
+digits-at-spec = tie.close (tie.spec Inv-loop μ-loop loop-holds returns shared-slice-read-b is-hex-requires mul-v hex-value-requires add-v returns-2 add-i sub-left loop-less loop-again returns-3)

@@ -1,5 +1,5 @@
--- Past an expression and past what it holds, one cycle of calls: each function answers the position past what the decoder of its record reads. A law
--- stands for each way through a function. The nesting left falls with each expression; within a level each callee's number is smaller.
+-- Past an expression and past what it holds, one cycle of calls: each function answers where the outline of its record ends. A law stands for each
+-- way through a function. The nesting left falls with each expression; within a level each callee's number is smaller.
 mod Base
 mod SkipArguments
 mod SkipExpression

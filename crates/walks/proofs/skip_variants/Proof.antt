@@ -1,21 +1,21 @@
--- What is left of the variants ends where all of them end, however deep they nest.
-use Prim.Native.Nat.{ℕ}
-use Rattle.records.specs.Decode.{expression, variantAt}
-use Rattle.records.specs.Tree.{no-variant, or}
-use Rattle.walks.proofs.Steps.{Rest, rest-all, rest-end, rest-more, rest-stop}
+-- Past what is left of the variants is past all of them.
+use Rattle.records.proofs.Laws.{left-end, left-stop, left-turn}
+use Rattle.records.specs.Relations.Answer.{nextOf}
+use Rattle.walks.specs.Outline.{manyOutline, variantOutline}
 use borrow.Author.Needs.{needs}
 use denote.Ref.{now}
+use mathlib.Core.Path.{_∙_, _≡_, sym}
 use Rattle.walks.proofs.skip_variants.Statement.{statement}
 use Rattle.walks.proofs.skip_variants.Tie as tie
 
 abbrev Inv-loop : tie.InvT-loop
-Inv-loop s from count at₀ left₀ at left = (d : ℕ) → Rest no-variant or (variantAt (expression d)) s count from left at
+Inv-loop s from count at₀ left₀ at left = nextOf (manyOutline left variantOutline s at) ≡ nextOf (manyOutline count variantOutline s from)
 
 abbrev μ-loop : tie.MeasureT-loop
 μ-loop s from count at₀ left₀ at left = left
 
 loop-holds : tie.Need-loop-holds Inv-loop μ-loop
-loop-holds c = λ d. rest-all no-variant or (variantAt (expression d)) (now (c .before .args .s)) (c .before .args .count) (c .before .args .from)
+loop-holds c = search needs
 
 skip-variant-requires : tie.Need-skip-variant-requires Inv-loop μ-loop
 skip-variant-requires c κs = search needs
@@ -27,7 +27,8 @@ enum-told : tie.Need-enum-told Inv-loop μ-loop
 enum-told c = search needs
 
 returns : tie.Need-returns Inv-loop μ-loop
-returns c = λ d. rest-stop no-variant or (variantAt (expression d)) (now (c .before .before .before .before .before .before .args .s)) (c .before .before .before .before .before .before .args .count) (c .before .before .before .before .before .before .args .from) (c .before .before .before .before .loop .left) (c .before .before .before .before .loop .at) (c .before .before .before .before .loop .inv d) (c .before .before .before .loop-test .taken) (c .before .before .skip-variant .ensures d) (c .enum-told .given .1)
+unfolding manyOutline
+returns c = left-stop tt (λ a l. l) variantOutline (now (c .before .before .before .before .before .before .args .s)) (c .before .before .before .before .loop .left) (c .before .before .before .before .loop .at) (c .before .before .before .before .loop .inv) (c .before .before .before .loop-test .taken) (c .before .before .skip-variant .ensures) (c .enum-told .given .1)
 
 sub-left : tie.Need-sub-left Inv-loop μ-loop
 sub-left c = search needs
@@ -36,10 +37,12 @@ loop-less : tie.Need-loop-less Inv-loop μ-loop
 loop-less c = search needs
 
 loop-again : tie.Need-loop-again Inv-loop μ-loop
-loop-again c = λ d. rest-more no-variant or (variantAt (expression d)) (now (c .before .before .before .before .before .before .before .args .s)) (c .before .before .before .before .before .before .before .args .count) (c .before .before .before .before .before .before .before .args .from) (c .before .before .before .before .before .loop .left) (c .before .before .before .before .before .loop .at) (c .before .before .before .before .before .loop .inv d) (c .before .before .before .before .loop-test .taken) (c .before .before .before .skip-variant .ensures d) (c .before .e .given .1)
+unfolding manyOutline
+loop-again c = left-turn tt (λ a l. l) variantOutline (now (c .before .before .before .before .before .before .before .args .s)) (c .before .before .before .before .before .loop .left) (c .before .before .before .before .before .loop .at) (c .before .before .before .before .before .loop .inv) (c .before .before .before .before .loop-test .taken) (c .before .before .before .skip-variant .ensures) (c .before .e .given .1)
 
 returns-2 : tie.Need-returns-2 Inv-loop μ-loop
-returns-2 c = λ d. rest-end no-variant or (variantAt (expression d)) (now (c .before .before .before .args .s)) (c .before .before .before .args .count) (c .before .before .before .args .from) (c .before .loop .left) (c .before .loop .at) (c .before .loop .inv d) (c .loop-test .left)
+unfolding manyOutline
+returns-2 c = left-end tt (λ a l. l) variantOutline (now (c .before .before .before .args .s)) (c .before .loop .left) (c .before .loop .at) (c .before .loop .inv) (c .loop-test .left)
 
 pub skip-variants-spec : {M : Type 1} → statement M
 skip-variants-spec = tie.close (tie.spec Inv-loop μ-loop loop-holds skip-variant-requires enum-known-e enum-told returns sub-left loop-less loop-again returns-2)

@@ -1,11 +1,9 @@
--- A text is a Str, a number is ten bytes, none is no byte.
-use Rattle.arguments.proofs.Views.{argument-number-bytes, value-never, value-nothing, value-number, value-text}
-use Rattle.records.proofs.Views.{next-of, num-is, num-none, ruled-str}
-use Rattle.rules.specs.Rules.{isUtf8}
+-- `arguments::find::skip_argument_value` meets its contract: a text ends where its Str ends, a number is ten bytes, any other tag is alone.
+use Rattle.arguments.proofs.Found.{number-ends, text-ends, value-bad, value-nothing, value-number, value-text}
+use Rattle.records.specs.Relations.Answer.{nextOf}
 use borrow.Author.Needs.{needs}
 use denote.Ref.{now}
-use mathlib.Core.Path.{ap}
-use Rattle.records.specs.declared.Next.the-variants as next
+use mathlib.Core.Path.{_∙_, ap, sym}
 use Rattle.arguments.proofs.find.skip_argument_value.Statement.{statement}
 use Rattle.arguments.proofs.find.skip_argument_value.Tie as tie
 
@@ -19,7 +17,8 @@ enum-told : tie.Need-enum-told
 enum-told c = search needs
 
 returns : tie.Need-returns
-returns c = λ v e h. value-never (now (c .before .before .before .before .args .s)) (c .before .before .before .before .args .at) (num-none (c .before .before .read-byte .ensures) (c .enum-told .given .1)) h
+unfolding nextOf
+returns c = rw (value-bad (now (c .before .before .before .before .args .s)) (c .before .before .before .before .args .at) (c .before .before .read-byte .ensures) (c .enum-told .given .1))
 
 skip-str-requires : tie.Need-skip-str-requires
 skip-str-requires c κs = search needs
@@ -28,19 +27,14 @@ skip-bytes-requires : tie.Need-skip-bytes-requires
 skip-bytes-requires c κs = search needs
 
 returns-2 : tie.Need-returns-2
-returns-2 c =
-    let tag-is = num-is (c .before .before .before .before .before .read-byte .ensures) (c .before .before .before .tag .given .1) in
-    λ v e h. value-text (now (c .before .before .before .before .before .before .before .args .s)) (c .before .before .before .before .before .before .before .args .at) tag-is h (c .before .if1 .taken) (λ t ht _. next-of (c .skip-str .ensures) (ruled-str isUtf8 (now (c .before .before .before .before .before .before .before .args .s)) _ ht))
+returns-2 c = c .skip-str .ensures ∙ text-ends (now (c .before .before .before .before .before .before .before .args .s)) _ ∙ ap nextOf (sym (value-text (now (c .before .before .before .before .before .before .before .args .s)) (c .before .before .before .before .before .before .before .args .at) (c .before .before .before .before .before .read-byte .ensures) (c .before .before .before .tag .given .1) (c .before .if1 .taken)))
 
 returns-3 : tie.Need-returns-3
-returns-3 c =
-    let tag-is = num-is (c .before .before .before .before .before .before .read-byte .ensures) (c .before .before .before .before .tag .given .1) in
-    λ v e h. value-number (now (c .before .before .before .before .before .before .before .before .args .s)) (c .before .before .before .before .before .before .before .before .args .at) tag-is h (c .before .if2 .taken) (λ hn. next-of (c .skip-bytes .ensures) (argument-number-bytes (now (c .before .before .before .before .before .before .before .before .args .s)) _ hn))
+returns-3 c = c .skip-bytes .ensures ∙ number-ends (now (c .before .before .before .before .before .before .before .before .args .s)) _ ∙ ap nextOf (sym (value-number (now (c .before .before .before .before .before .before .before .before .args .s)) (c .before .before .before .before .before .before .before .before .args .at) (c .before .before .before .before .before .before .read-byte .ensures) (c .before .before .before .before .tag .given .1) (c .before .if2 .taken)))
 
 returns-4 : tie.Need-returns-4
-returns-4 c =
-    let tag-is = num-is (c .before .before .before .before .before .read-byte .ensures) (c .before .before .before .tag .given .1) in
-    λ v e h. value-nothing (now (c .before .before .before .before .before .before .before .args .s)) (c .before .before .before .before .before .before .before .args .at) tag-is h (c .before .if1 .left) (c .if2 .left) (λ ep _. ap next.At ep)
+unfolding nextOf
+returns-4 c = rw (value-nothing (now (c .before .before .before .before .before .before .before .args .s)) (c .before .before .before .before .before .before .before .args .at) (c .before .before .before .before .before .read-byte .ensures) (c .before .before .before .tag .given .1) (c .before .if1 .left) (c .if2 .left))
 
 pub skip-argument-value-spec : {M : Type 1} → statement M
 skip-argument-value-spec = tie.close (tie.spec read-byte-requires enum-known-tag enum-told returns skip-str-requires skip-bytes-requires returns-2 returns-3 returns-4)

@@ -1,8 +1,6 @@
 -- `bundle::bundle::add_function` meets its contract: a refusal by its number, or the item at its place.
 use Rattle.bundle.proofs.Adds.{function-filed, function-no-place}
-use Rattle.bundle.proofs.Placing.{function-fits}
 use borrow.Author.Needs.{needs}
-use native.Mathlib.Omega.{arith}
 use Rattle.bundle.proofs.bundle.add_function.Statement.{statement}
 use Rattle.bundle.proofs.bundle.add_function.Tie as tie
 
@@ -16,7 +14,7 @@ enum-known-used : tie.Need-enum-known-used
 enum-known-used c = search needs
 
 file-function-requires : tie.Need-file-function-requires
-file-function-requires c κs = let f = function-fits _ _ (c .before .before .before .before .function-place .ensures) (c .before .before .used .given .1) in omega arith
+file-function-requires c κs = search needs
 
 same-length : tie.Need-same-length
 same-length c = search needs

@@ -1,8 +1,6 @@
 -- `bundle::bundle::add_resource` meets its contract: a refusal by its number, or the list of the repeated entries and the item at its place.
 use Rattle.bundle.proofs.Adds.{plain-filed, plain-no-place, plain-short}
-use Rattle.bundle.proofs.Placing.{resource-fits}
 use borrow.Author.Needs.{needs}
-use native.Mathlib.Omega.{arith}
 use Rattle.bundle.proofs.bundle.add_resource.Statement.{statement}
 use Rattle.bundle.proofs.bundle.add_resource.Tie as tie
 
@@ -37,7 +35,7 @@ returns : tie.Need-returns
 returns c = plain-short _ _ _ _ (c .before .before .before .before .before .before .before .before .before .before .before .before .resource-place .ensures) (c .before .before .before .before .before .before .before .before .before .before .used .given .1) (c .before .before .before .before .before .before .before .mark-image .ensures) (c .before .before .before .before .list-repeats .ensures) (c .enum-told .given .1)
 
 file-resource-requires : tie.Need-file-resource-requires
-file-resource-requires c κs = let f = resource-fits _ _ (c .before .before .before .before .before .before .before .before .before .before .before .before .before .before .resource-place .ensures) (c .before .before .before .before .before .before .before .before .before .before .before .before .used .given .1) in omega arith
+file-resource-requires c κs = search needs
 
 same-length-3 : tie.Need-same-length-3
 same-length-3 c = search needs

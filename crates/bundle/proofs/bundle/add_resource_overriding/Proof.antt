@@ -1,8 +1,6 @@
 -- `bundle::bundle::add_resource_overriding` meets its contract: a refusal by its number, or the item at its place.
 use Rattle.bundle.proofs.Adds.{over-filed, over-no-place}
-use Rattle.bundle.proofs.Placing.{resource-fits}
 use borrow.Author.Needs.{needs}
-use native.Mathlib.Omega.{arith}
 use Rattle.bundle.proofs.bundle.add_resource_overriding.Statement.{statement}
 use Rattle.bundle.proofs.bundle.add_resource_overriding.Tie as tie
 
@@ -16,7 +14,7 @@ enum-known-used : tie.Need-enum-known-used
 enum-known-used c = search needs
 
 file-resource-requires : tie.Need-file-resource-requires
-file-resource-requires c κs = let f = resource-fits _ _ (c .before .before .before .before .resource-place .ensures) (c .before .before .used .given .1) in omega arith
+file-resource-requires c κs = search needs
 
 same-length : tie.Need-same-length
 same-length c = search needs

@@ -1,9 +1,8 @@
 -- `bundle::places::resource_place` meets its contract: each refusal in its order, and then the place.
-use Rattle.bundle.proofs.Placing.{image-small, place-4, place-5, place-6, place-at, store-used}
+use Rattle.bundle.proofs.Placing.{image-small, place-4, place-5, place-6, place-at}
 use Rattle.growth.proofs.Items.{has-room-is, no-room}
 use Rattle.records.proofs.Views.{next-is, next-none}
 use borrow.Author.Needs.{needs}
-use mathlib.Core.Path.{refl}
 use native.Mathlib.Omega.{arith}
 use Rattle.bundle.proofs.places.resource_place.Statement.{statement}
 use Rattle.bundle.proofs.places.resource_place.Tie as tie
@@ -41,22 +40,19 @@ add-has-room c =
     let i = image in omega arith
 
 has-room-requires : tie.Need-has-room-requires
-has-room-requires c κs =
-    let image = image-small _ (c .before .before .before .check-resource .ensures) (c .before .enum-told2 .given .1) in
-    let used = store-used _ (c .before .before .before .before .before .before .before .check-store .ensures) (c .before .before .before .before .before .used .given .1) in
-    let u = used in let i = image in omega arith
+has-room-requires c κs = search needs
 
 returns-3 : tie.Need-returns-3
 returns-3 c =
     let count = c .before .before .count-items .ensures in
-    let room = c .before .has-room .ensures (c .before .before .before .before .before .before .before .before .before .before .before .before .args .slice .now) refl in
+    let room = c .before .has-room .ensures in
     next-is (c .before .before .before .before .before .before .before .before .before .check-store .ensures) (c .before .before .before .before .before .before .before .used .given .1) (λ st hs.
     next-is (c .before .before .before .before .before .check-resource .ensures) (c .before .before .before .enum-told2 .given .1) (λ es hr. place-6 _ _ hs hr (no-room _ _ _ _ (count st _ hs) room (c .if1 .taken))))
 
 returns-4 : tie.Need-returns-4
 returns-4 c =
     let count = c .before .before .count-items .ensures in
-    let room = c .before .has-room .ensures (c .before .before .before .before .before .before .before .before .before .before .before .before .args .slice .now) refl in
+    let room = c .before .has-room .ensures in
     next-is (c .before .before .before .before .before .before .before .before .before .check-store .ensures) (c .before .before .before .before .before .before .before .used .given .1) (λ st hs.
     next-is (c .before .before .before .before .before .check-resource .ensures) (c .before .before .before .enum-told2 .given .1) (λ es hr. place-at _ _ hs hr (count st _ hs) (has-room-is _ _ _ _ (count st _ hs) room (c .if1 .left))))
 

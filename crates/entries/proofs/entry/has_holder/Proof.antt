@@ -1,5 +1,7 @@
 -- `entries::entry::has_holder` meets its contract: by what was found.
-use Rattle.entries.proofs.Held.{held-is, held-not, function-held, message-held, term-held}
+use Rattle.entries.proofs.Held.{is-held}
+use Rattle.entries.specs.Relations.Meets.{heldBy}
+use Rattle.records.specs.Images.{isSome}
 use borrow.Author.Needs.{needs}
 use Rattle.entries.proofs.entry.has_holder.Statement.{statement}
 use Rattle.entries.proofs.entry.has_holder.Tie as tie
@@ -20,16 +22,20 @@ enum-told-4 : tie.Need-enum-told-4
 enum-told-4 c = search needs
 
 returns : tie.Need-returns
-returns c = λ st f h. held-is (c .before .before .find-holder .ensures st f h) (message-held (c .enum-told .given .1))
+unfolding heldBy isSome
+returns c = is-held _ (c .before .before .find-holder .ensures) (c .enum-told .given .1)
 
 returns-2 : tie.Need-returns-2
-returns-2 c = λ st f h. held-is (c .before .before .find-holder .ensures st f h) (term-held (c .enum-told2 .given .1))
+unfolding heldBy isSome
+returns-2 c = is-held _ (c .before .before .find-holder .ensures) (c .enum-told2 .given .1)
 
 returns-3 : tie.Need-returns-3
-returns-3 c = λ st f h. held-is (c .before .before .find-holder .ensures st f h) (function-held (c .enum-told3 .given .1))
+unfolding heldBy isSome
+returns-3 c = is-held _ (c .before .before .find-holder .ensures) (c .enum-told3 .given .1)
 
 returns-4 : tie.Need-returns-4
-returns-4 c = λ st f h. held-not (c .before .before .find-holder .ensures st f h) (c .enum-told4 .given .1)
+unfolding heldBy isSome
+returns-4 c = is-held _ (c .before .before .find-holder .ensures) (c .enum-told4 .given .1)
 
 pub has-holder-spec : {M : Type 1} → statement M
 has-holder-spec = tie.close (tie.spec find-holder-requires enum-told enum-told-2 enum-told-3 enum-told-4 returns returns-2 returns-3 returns-4)

@@ -1,23 +1,23 @@
--- `entries::message::find_named` meets its contract. The loop's invariant: what is found among the attributes that are left is found among all.
-use Rattle.entries.proofs.Parts.{NamedFrom, named-bad, named-here, named-next, named-none, named-stuck}
-use Rattle.entries.proofs.Walk.{told}
+-- `entries::message::find_named` meets its contract. The loop's invariant: the first among the attributes that are left is the first among all.
+use Rattle.entries.proofs.Walk.{attribute-head, attribute-no-head, attribute-past, FirstOf, first-bad, first-here, first-stuck, first-next, first-none}
+use Rattle.entries.specs.Outline.{attributeHead, attributeOutline}
+use Rattle.entries.specs.Relations.Meets.{atPosition}
 use Rattle.records.proofs.Laws.{str-in}
 use Rattle.records.proofs.Views.{str-bad, str-is}
-use Rattle.records.specs.declared.Next.{Next}
 use borrow.Author.Needs.{needs}
-use mathlib.Core.Path.{_∙_, sym}
+use mathlib.Core.Path.{_∙_, _≡_, ap, refl, sym}
 use native.Mathlib.Omega.{arith}
 use Rattle.entries.proofs.message.find_named.Statement.{statement}
 use Rattle.entries.proofs.message.find_named.Tie as tie
 
 abbrev Inv-loop : tie.InvT-loop
-Inv-loop s from count name at₀ left₀ at left = (r : Next) → NamedFrom s name left at r → NamedFrom s name left₀ at₀ r
+Inv-loop s from count name at₀ left₀ at left = FirstOf attributeHead attributeOutline s name left₀ at₀ ≡ FirstOf attributeHead attributeOutline s name left at
 
 abbrev μ-loop : tie.MeasureT-loop
 μ-loop s from count name at₀ left₀ at left = left
 
 loop-holds : tie.Need-loop-holds Inv-loop μ-loop
-loop-holds c = λ r h. h
+loop-holds c = refl
 
 read-str-requires : tie.Need-read-str-requires Inv-loop μ-loop
 read-str-requires c κs = search needs
@@ -29,7 +29,8 @@ enum-told : tie.Need-enum-told Inv-loop μ-loop
 enum-told c = search needs
 
 returns : tie.Need-returns Inv-loop μ-loop
-returns c = c .before .before .before .before .loop .inv _ (named-bad _ _ _ _ (c .before .before .before .loop-test .taken) (str-bad _ _ (c .before .before .read-str .ensures) (c .enum-told .given .1)))
+unfolding atPosition
+returns c = ap atPosition (sym (c .before .before .before .before .loop .inv ∙ first-bad attributeHead attributeOutline _ _ _ _ (attribute-no-head _ _ (str-bad _ _ (c .before .before .read-str .ensures) (c .enum-told .given .1)))))
 
 sub-same-bytes : tie.Need-sub-same-bytes Inv-loop μ-loop
 sub-same-bytes c =
@@ -50,9 +51,8 @@ same-bytes-requires : tie.Need-same-bytes-requires Inv-loop μ-loop
 same-bytes-requires c κs = search needs
 
 returns-2 : tie.Need-returns-2 Inv-loop μ-loop
-returns-2 c =
-    let span = str-is _ _ (c .before .before .before .before .before .before .read-str .ensures) (c .before .before .before .before .a .given .1) in
-    c .before .before .before .before .before .before .before .before .loop .inv _ (named-here _ _ _ _ (c .before .before .before .before .before .before .before .loop-test .taken) _ _ span (sym (c .before .same-bytes .ensures) ∙ c .if1 .taken))
+unfolding atPosition
+returns-2 c = ap atPosition (sym (c .before .before .before .before .before .before .before .before .loop .inv ∙ first-here attributeHead attributeOutline _ _ _ _ (c .before .before .before .before .before .before .before .loop-test .taken) (attribute-head _ _ (str-is _ _ (c .before .before .before .before .before .before .read-str .ensures) (c .before .before .before .before .a .given .1))) (sym (c .before .same-bytes .ensures) ∙ c .if1 .taken)))
 
 skip-pattern-requires : tie.Need-skip-pattern-requires Inv-loop μ-loop
 skip-pattern-requires c κs = search needs
@@ -64,9 +64,8 @@ enum-told-2 : tie.Need-enum-told-2 Inv-loop μ-loop
 enum-told-2 c = search needs
 
 returns-3 : tie.Need-returns-3 Inv-loop μ-loop
-returns-3 c =
-    let span = str-is _ _ (c .before .before .before .before .before .before .before .before .before .read-str .ensures) (c .before .before .before .before .before .before .before .a .given .1) in
-    c .before .before .before .before .before .before .before .before .before .before .before .loop .inv _ (named-stuck _ _ _ _ (c .before .before .before .before .before .before .before .before .before .before .loop-test .taken) _ _ span (told (c .before .before .skip-pattern .ensures) (c .enum-told2 .given .1)))
+unfolding atPosition
+returns-3 c = ap atPosition (sym (c .before .before .before .before .before .before .before .before .before .before .before .loop .inv ∙ first-stuck attributeHead attributeOutline _ _ _ _ (c .before .before .before .before .before .before .before .before .before .before .loop-test .taken) (attribute-head _ _ (str-is _ _ (c .before .before .before .before .before .before .before .before .before .read-str .ensures) (c .before .before .before .before .before .before .before .a .given .1))) (sym (c .before .before .before .before .same-bytes .ensures) ∙ c .before .before .before .if1 .left) (attribute-past _ _ (str-is _ _ (c .before .before .before .before .before .before .before .before .before .read-str .ensures) (c .before .before .before .before .before .before .before .a .given .1)) (c .before .before .skip-pattern .ensures)) (c .enum-told2 .given .1)))
 
 sub-left : tie.Need-sub-left Inv-loop μ-loop
 sub-left c = search needs
@@ -75,12 +74,11 @@ loop-less : tie.Need-loop-less Inv-loop μ-loop
 loop-less c = search needs
 
 loop-again : tie.Need-loop-again Inv-loop μ-loop
-loop-again c =
-    let span = str-is _ _ (c .before .before .before .before .before .before .before .before .before .before .read-str .ensures) (c .before .before .before .before .before .before .before .before .a .given .1) in
-    λ r h. c .before .before .before .before .before .before .before .before .before .before .before .before .loop .inv r (named-next _ _ _ _ (c .before .before .before .before .before .before .before .before .before .before .before .loop-test .taken) _ _ span (sym (c .before .before .before .before .before .same-bytes .ensures) ∙ c .before .before .before .before .if1 .left) (told (c .before .before .before .skip-pattern .ensures) (c .before .next .given .1)) h)
+loop-again c = c .before .before .before .before .before .before .before .before .before .before .before .before .loop .inv ∙ first-next attributeHead attributeOutline _ _ _ _ (c .before .before .before .before .before .before .before .before .before .before .before .loop-test .taken) (attribute-head _ _ (str-is _ _ (c .before .before .before .before .before .before .before .before .before .before .read-str .ensures) (c .before .before .before .before .before .before .before .before .a .given .1))) (sym (c .before .before .before .before .before .same-bytes .ensures) ∙ c .before .before .before .before .if1 .left) (attribute-past _ _ (str-is _ _ (c .before .before .before .before .before .before .before .before .before .before .read-str .ensures) (c .before .before .before .before .before .before .before .before .a .given .1)) (c .before .before .before .skip-pattern .ensures)) (c .before .next .given .1)
 
 returns-4 : tie.Need-returns-4 Inv-loop μ-loop
-returns-4 c = c .before .loop .inv _ (named-none _ _ _ _ (c .loop-test .left))
+unfolding atPosition
+returns-4 c = ap atPosition (sym (c .before .loop .inv ∙ first-none attributeHead attributeOutline _ _ _ _ (c .loop-test .left)))
 
 pub find-named-spec : {M : Type 1} → statement M
 find-named-spec = tie.close (tie.spec Inv-loop μ-loop loop-holds read-str-requires enum-known-a enum-told returns sub-same-bytes part-same-bytes-start part-same-bytes-end same-bytes-requires returns-2 skip-pattern-requires enum-known-next enum-told-2 returns-3 sub-left loop-less loop-again returns-4)

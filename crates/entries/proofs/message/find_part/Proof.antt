@@ -1,6 +1,6 @@
 -- `entries::message::find_part` meets its contract: by what is asked.
-use Rattle.entries.specs.Lookup.{partOf}
-use Rattle.entries.specs.Relations.Meets.{asked}
+use Rattle.entries.specs.Outline.{partIn}
+use Rattle.records.specs.Optional.{optionOf}
 use borrow.Author.Needs.{needs}
 use Rattle.entries.proofs.message.find_part.Statement.{statement}
 use Rattle.entries.proofs.message.find_part.Tie as tie
@@ -9,14 +9,14 @@ find-attribute-requires : tie.Need-find-attribute-requires
 find-attribute-requires c κs = search needs
 
 returns : tie.Need-returns
-unfolding asked partOf
+unfolding optionOf partIn
 returns c = rw (c .before .if1 .taken) (c .find-attribute .ensures)
 
 find-value-requires : tie.Need-find-value-requires
 find-value-requires c κs = search needs
 
 returns-2 : tie.Need-returns-2
-unfolding asked partOf
+unfolding optionOf partIn
 returns-2 c = rw (c .before .if1 .left) (c .find-value .ensures)
 
 pub find-part-spec : {M : Type 1} → statement M

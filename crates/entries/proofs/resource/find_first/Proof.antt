@@ -1,21 +1,22 @@
--- `entries::resource::find_first` meets its contract. The loop's invariant: what is found among the entries that are left is found among all.
-use Rattle.entries.proofs.Walk.{FirstFrom, behind-in, first-bad, first-here, first-next, first-none, first-stuck, told}
-use Rattle.records.proofs.Views.{num-is, num-none}
-use Rattle.records.specs.declared.Next.{Next}
+-- `entries::resource::find_first` meets its contract. The loop's invariant: the first among the entries that are left is the first among all.
+use Rattle.entries.proofs.Held.{none-found}
+use Rattle.entries.proofs.Walk.{behind-in, entry-head, entry-no-head, FirstOf, first-bad, first-here, first-stuck, first-next, first-none}
+use Rattle.entries.specs.Outline.{entryHead, entryOutline}
+use Rattle.entries.specs.Relations.Meets.{foundOf}
 use borrow.Author.Needs.{needs}
-use mathlib.Core.Path.{_∙_, sym}
+use mathlib.Core.Path.{_∙_, _≡_, ap, refl, sym}
 use native.Mathlib.Omega.{arith}
 use Rattle.entries.proofs.resource.find_first.Statement.{statement}
 use Rattle.entries.proofs.resource.find_first.Tie as tie
 
 abbrev Inv-loop : tie.InvT-loop
-Inv-loop s from count id at₀ left₀ at left = (r : Next) → FirstFrom s id left at r → FirstFrom s id left₀ at₀ r
+Inv-loop s from count id at₀ left₀ at left = FirstOf entryHead entryOutline s id left₀ at₀ ≡ FirstOf entryHead entryOutline s id left at
 
 abbrev μ-loop : tie.MeasureT-loop
 μ-loop s from count id at₀ left₀ at left = left
 
 loop-holds : tie.Need-loop-holds Inv-loop μ-loop
-loop-holds c = λ r h. h
+loop-holds c = refl
 
 read-str-behind-requires : tie.Need-read-str-behind-requires Inv-loop μ-loop
 read-str-behind-requires c κs = search needs
@@ -27,7 +28,7 @@ enum-told : tie.Need-enum-told Inv-loop μ-loop
 enum-told c = search needs
 
 returns : tie.Need-returns Inv-loop μ-loop
-returns c = c .before .before .before .before .loop .inv _ (first-bad _ _ _ _ (c .before .before .before .loop-test .taken) (num-none (c .before .before .read-str-behind .ensures) (c .enum-told .given .1)))
+returns c = none-found (c .before .before .before .before .loop .inv ∙ first-bad entryHead entryOutline _ _ _ _ (entry-no-head _ _ (c .before .before .read-str-behind .ensures) (c .enum-told .given .1)))
 
 sub-same-bytes : tie.Need-sub-same-bytes Inv-loop μ-loop
 sub-same-bytes c =
@@ -47,10 +48,11 @@ part-same-bytes-end c =
 same-bytes-requires : tie.Need-same-bytes-requires Inv-loop μ-loop
 same-bytes-requires c κs = search needs
 
+entry-found-requires : tie.Need-entry-found-requires Inv-loop μ-loop
+entry-found-requires c κs = search needs
+
 returns-2 : tie.Need-returns-2 Inv-loop μ-loop
-returns-2 c =
-    let span = num-is (c .before .before .before .before .before .before .read-str-behind .ensures) (c .before .before .before .before .a .given .1) in
-    c .before .before .before .before .before .before .before .before .loop .inv _ (first-here _ _ _ _ (c .before .before .before .before .before .before .before .loop-test .taken) _ _ span (sym (c .before .same-bytes .ensures) ∙ c .if1 .taken))
+returns-2 c = c .entry-found .ensures ∙ ap foundOf (sym (c .before .before .before .before .before .before .before .before .before .loop .inv ∙ first-here entryHead entryOutline _ _ _ _ (c .before .before .before .before .before .before .before .before .loop-test .taken) (entry-head _ _ (c .before .before .before .before .before .before .before .read-str-behind .ensures) (c .before .before .before .before .before .a .given .1)) (sym (c .before .before .same-bytes .ensures) ∙ c .before .if1 .taken)))
 
 skip-entry-requires : tie.Need-skip-entry-requires Inv-loop μ-loop
 skip-entry-requires c κs = search needs
@@ -62,7 +64,7 @@ enum-told-2 : tie.Need-enum-told-2 Inv-loop μ-loop
 enum-told-2 c = search needs
 
 returns-3 : tie.Need-returns-3 Inv-loop μ-loop
-returns-3 c = c .before .before .before .before .before .before .before .before .before .before .before .loop .inv _ (first-stuck _ _ _ _ (c .before .before .before .before .before .before .before .before .before .before .loop-test .taken) (told (c .before .before .skip-entry .ensures) (c .enum-told2 .given .1)))
+returns-3 c = none-found (c .before .before .before .before .before .before .before .before .before .before .before .loop .inv ∙ first-stuck entryHead entryOutline _ _ _ _ (c .before .before .before .before .before .before .before .before .before .before .loop-test .taken) (entry-head _ _ (c .before .before .before .before .before .before .before .before .before .read-str-behind .ensures) (c .before .before .before .before .before .before .before .a .given .1)) (sym (c .before .before .before .before .same-bytes .ensures) ∙ c .before .before .before .if1 .left) (c .before .before .skip-entry .ensures) (c .enum-told2 .given .1))
 
 sub-left : tie.Need-sub-left Inv-loop μ-loop
 sub-left c = search needs
@@ -71,12 +73,10 @@ loop-less : tie.Need-loop-less Inv-loop μ-loop
 loop-less c = search needs
 
 loop-again : tie.Need-loop-again Inv-loop μ-loop
-loop-again c =
-    let span = num-is (c .before .before .before .before .before .before .before .before .before .before .read-str-behind .ensures) (c .before .before .before .before .before .before .before .before .a .given .1) in
-    λ r h. c .before .before .before .before .before .before .before .before .before .before .before .before .loop .inv r (first-next _ _ _ _ (c .before .before .before .before .before .before .before .before .before .before .before .loop-test .taken) _ _ span (sym (c .before .before .before .before .before .same-bytes .ensures) ∙ c .before .before .before .before .if1 .left) (told (c .before .before .before .skip-entry .ensures) (c .before .next .given .1)) h)
+loop-again c = c .before .before .before .before .before .before .before .before .before .before .before .before .loop .inv ∙ first-next entryHead entryOutline _ _ _ _ (c .before .before .before .before .before .before .before .before .before .before .before .loop-test .taken) (entry-head _ _ (c .before .before .before .before .before .before .before .before .before .before .read-str-behind .ensures) (c .before .before .before .before .before .before .before .before .a .given .1)) (sym (c .before .before .before .before .before .same-bytes .ensures) ∙ c .before .before .before .before .if1 .left) (c .before .before .before .skip-entry .ensures) (c .before .next .given .1)
 
 returns-4 : tie.Need-returns-4 Inv-loop μ-loop
-returns-4 c = c .before .loop .inv _ (first-none _ _ _ _ (c .loop-test .left))
+returns-4 c = none-found (c .before .loop .inv ∙ first-none entryHead entryOutline _ _ _ _ (c .loop-test .left))
 
 pub find-first-spec : {M : Type 1} → statement M
-find-first-spec = tie.close (tie.spec Inv-loop μ-loop loop-holds read-str-behind-requires enum-known-a enum-told returns sub-same-bytes part-same-bytes-start part-same-bytes-end same-bytes-requires returns-2 skip-entry-requires enum-known-next enum-told-2 returns-3 sub-left loop-less loop-again returns-4)
+find-first-spec = tie.close (tie.spec Inv-loop μ-loop loop-holds read-str-behind-requires enum-known-a enum-told returns sub-same-bytes part-same-bytes-start part-same-bytes-end same-bytes-requires entry-found-requires returns-2 skip-entry-requires enum-known-next enum-told-2 returns-3 sub-left loop-less loop-again returns-4)

@@ -1,20 +1,22 @@
 -- `entries::resource::find_last` meets its contract. The loop's invariant: what the entries that are left make of the last one so far is what all make of none.
-use Rattle.entries.proofs.Walk.{LastFrom, behind-in, last-bad, last-next, last-none, last-start, last-stuck, told}
-use Rattle.records.proofs.Views.{num-is, num-none}
-use Rattle.records.specs.declared.Next.{Next}
+use Rattle.entries.proofs.Held.{last-found, later-held}
+use Rattle.entries.proofs.Walk.{behind-in, entry-head, entry-no-head, LastOf, last-bad, last-stuck, last-next, last-none}
+use Rattle.entries.specs.Outline.{entryHead, entryOutline}
+use Rattle.entries.specs.Relations.Meets.{heldBy}
 use borrow.Author.Needs.{needs}
+use mathlib.Core.Path.{_∙_, _≡_, ap, refl}
 use native.Mathlib.Omega.{arith}
 use Rattle.entries.proofs.resource.find_last.Statement.{statement}
 use Rattle.entries.proofs.resource.find_last.Tie as tie
 
 abbrev Inv-loop : tie.InvT-loop
-Inv-loop s from count id at₀ left₀ last₀ at left last = (r : Next) → LastFrom s id left at last r → LastFrom s id left₀ at₀ last₀ r
+Inv-loop s from count id at₀ left₀ last₀ at left last = LastOf entryHead entryOutline s id left₀ at₀ (heldBy last₀) ≡ LastOf entryHead entryOutline s id left at (heldBy last)
 
 abbrev μ-loop : tie.MeasureT-loop
 μ-loop s from count id at₀ left₀ last₀ at left last = left
 
 loop-holds : tie.Need-loop-holds Inv-loop μ-loop
-loop-holds c = λ r h. h
+loop-holds c = refl
 
 read-str-behind-requires : tie.Need-read-str-behind-requires Inv-loop μ-loop
 read-str-behind-requires c κs = search needs
@@ -26,7 +28,7 @@ enum-told : tie.Need-enum-told Inv-loop μ-loop
 enum-told c = search needs
 
 returns : tie.Need-returns Inv-loop μ-loop
-returns c = last-start _ _ _ _ (c .before .before .before .before .loop .inv _ (last-bad _ _ _ _ _ (c .before .before .before .loop-test .taken) (num-none (c .before .before .read-str-behind .ensures) (c .enum-told .given .1))))
+returns c = last-found _ (c .before .before .before .before .loop .inv ∙ last-bad entryHead entryOutline _ _ _ _ _ (entry-no-head _ _ (c .before .before .read-str-behind .ensures) (c .enum-told .given .1)))
 
 sub-same-bytes : tie.Need-sub-same-bytes Inv-loop μ-loop
 sub-same-bytes c =
@@ -59,7 +61,7 @@ enum-told-2 : tie.Need-enum-told-2 Inv-loop μ-loop
 enum-told-2 c = search needs
 
 returns-2 : tie.Need-returns-2 Inv-loop μ-loop
-returns-2 c = last-start _ _ _ _ (c .before .before .before .before .before .before .before .before .before .before .before .loop .inv _ (last-stuck _ _ _ _ _ (c .before .before .before .before .before .before .before .before .before .before .loop-test .taken) (told (c .before .before .skip-entry .ensures) (c .enum-told2 .given .1))))
+returns-2 c = last-found _ (c .before .before .before .before .before .before .before .before .before .before .before .loop .inv ∙ last-stuck entryHead entryOutline _ _ _ _ _ (c .before .before .before .before .before .before .before .before .before .before .loop-test .taken) (entry-head _ _ (c .before .before .before .before .before .before .before .before .before .read-str-behind .ensures) (c .before .before .before .before .before .before .before .a .given .1)) (c .before .before .skip-entry .ensures) (c .enum-told2 .given .1) ∙ later-held _ _ _ _ (c .before .before .before .before .same-bytes .ensures) (c .before .before .before .later .ensures))
 
 sub-left : tie.Need-sub-left Inv-loop μ-loop
 sub-left c = search needs
@@ -68,12 +70,10 @@ loop-less : tie.Need-loop-less Inv-loop μ-loop
 loop-less c = search needs
 
 loop-again : tie.Need-loop-again Inv-loop μ-loop
-loop-again c =
-    let span = num-is (c .before .before .before .before .before .before .before .before .before .before .read-str-behind .ensures) (c .before .before .before .before .before .before .before .before .a .given .1) in
-    λ r h. c .before .before .before .before .before .before .before .before .before .before .before .before .loop .inv r (last-next _ _ _ _ _ (c .before .before .before .before .before .before .before .before .before .before .before .loop-test .taken) span (c .before .before .before .before .before .same-bytes .ensures) (c .before .before .before .before .later .ensures) (told (c .before .before .before .skip-entry .ensures) (c .before .next .given .1)) h)
+loop-again c = c .before .before .before .before .before .before .before .before .before .before .before .before .loop .inv ∙ last-next entryHead entryOutline _ _ _ _ _ (c .before .before .before .before .before .before .before .before .before .before .before .loop-test .taken) (entry-head _ _ (c .before .before .before .before .before .before .before .before .before .before .read-str-behind .ensures) (c .before .before .before .before .before .before .before .before .a .given .1)) (c .before .before .before .skip-entry .ensures) (c .before .next .given .1) ∙ ap (LastOf entryHead entryOutline _ _ _ _) (later-held _ _ _ _ (c .before .before .before .before .before .same-bytes .ensures) (c .before .before .before .before .later .ensures))
 
 returns-3 : tie.Need-returns-3 Inv-loop μ-loop
-returns-3 c = last-start _ _ _ _ (c .before .loop .inv _ (last-none _ _ _ _ _ (c .loop-test .left)))
+returns-3 c = last-found _ (c .before .loop .inv ∙ last-none entryHead entryOutline _ _ _ _ _ (c .loop-test .left))
 
 pub find-last-spec : {M : Type 1} → statement M
 find-last-spec = tie.close (tie.spec Inv-loop μ-loop loop-holds read-str-behind-requires enum-known-a enum-told returns sub-same-bytes part-same-bytes-start part-same-bytes-end same-bytes-requires later-requires skip-entry-requires enum-known-next enum-told-2 returns-2 sub-left loop-less loop-again returns-3)

@@ -1,17 +1,16 @@
 -- `entries::resource::skip_attributes` meets its contract. The loop's invariant: where the attributes that are left end, all of them end.
-use Rattle.entries.proofs.Walk.{attribute-bad, attribute-step, attributes-bad, attributes-start, many-ends, many-goes, many-stuck, told}
-use Rattle.entries.specs.Relations.Meets.{Passes}
-use Rattle.records.proofs.Views.{next-is, next-none, num-is, num-none}
-use Rattle.records.specs.Decode.{many}
-use Rattle.records.specs.Images.{attributeAt}
-use Rattle.records.specs.declared.Next.{Next}
+use Rattle.entries.specs.Outline.{attributeOutline, attributesOutline}
+use Rattle.records.specs.Relations.Answer.{nextOf}
+use Rattle.walks.specs.Outline.{manyOutline}
 use borrow.Author.Needs.{needs}
-use mathlib.Core.List.{[], _∷_}
+use mathlib.Core.Path.{_≡_, refl}
+use Rattle.records.proofs.Laws.{left-end, left-stop, left-turn, num-stop, num-step}
+use Rattle.entries.proofs.Walk.{attribute-stop, attribute-step}
 use Rattle.entries.proofs.resource.skip_attributes.Statement.{statement}
 use Rattle.entries.proofs.resource.skip_attributes.Tie as tie
 
 abbrev Inv-loop : tie.InvT-loop
-Inv-loop s from count start at₀ left₀ at left = (r : Next) → Passes (many [] _∷_ left attributeAt s at) r → Passes (many [] _∷_ left₀ attributeAt s at₀) r
+Inv-loop s from count start at₀ left₀ at left = nextOf (manyOutline left attributeOutline s at) ≡ nextOf (manyOutline left₀ attributeOutline s at₀)
 
 abbrev μ-loop : tie.MeasureT-loop
 μ-loop s from count start at₀ left₀ at left = left
@@ -26,10 +25,11 @@ enum-told : tie.Need-enum-told Inv-loop μ-loop
 enum-told c = search needs
 
 returns : tie.Need-returns Inv-loop μ-loop
-returns c = attributes-bad _ _ (num-none (c .before .before .read-u16 .ensures) (c .enum-told .given .1))
+unfolding attributesOutline
+returns c = num-stop _ _ (c .before .before .read-u16 .ensures) (c .enum-told .given .1)
 
 loop-holds : tie.Need-loop-holds Inv-loop μ-loop
-loop-holds c = λ r h. h
+loop-holds c = refl
 
 skip-str-requires : tie.Need-skip-str-requires Inv-loop μ-loop
 skip-str-requires c κs = search needs
@@ -41,9 +41,8 @@ enum-told-2 : tie.Need-enum-told-2 Inv-loop μ-loop
 enum-told-2 c = search needs
 
 returns-2 : tie.Need-returns-2 Inv-loop μ-loop
-returns-2 c =
-    let count = num-is (c .before .before .before .before .before .before .before .before .read-u16 .ensures) (c .before .before .before .before .before .before .count .given .1) in
-    attributes-start _ _ count (c .before .before .before .before .loop .inv _ (many-stuck attributeAt _ _ _ (c .before .before .before .loop-test .taken) (attribute-bad _ _ (next-none (c .before .before .skip-str .ensures) (c .enum-told2 .given .1)))))
+unfolding attributesOutline manyOutline
+returns-2 c = num-step _ _ (c .before .before .before .before .before .before .before .before .read-u16 .ensures) (c .before .before .before .before .before .before .count .given .1) (left-stop tt (λ a l. l) attributeOutline _ _ _ (c .before .before .before .before .loop .inv) (c .before .before .before .loop-test .taken) (attribute-stop _ _ (c .before .before .skip-str .ensures) (c .enum-told2 .given .1)) refl)
 
 skip-pattern-requires : tie.Need-skip-pattern-requires Inv-loop μ-loop
 skip-pattern-requires c κs = search needs
@@ -55,9 +54,8 @@ enum-told-3 : tie.Need-enum-told-3 Inv-loop μ-loop
 enum-told-3 c = search needs
 
 returns-3 : tie.Need-returns-3 Inv-loop μ-loop
-returns-3 c =
-    let count = num-is (c .before .before .before .before .before .before .before .before .before .before .before .before .read-u16 .ensures) (c .before .before .before .before .before .before .before .before .before .before .count .given .1) in
-    next-is (c .before .before .before .before .before .before .skip-str .ensures) (c .before .before .before .before .p .given .1) (λ t ht. attributes-start _ _ count (c .before .before .before .before .before .before .before .before .loop .inv _ (many-stuck attributeAt _ _ _ (c .before .before .before .before .before .before .before .loop-test .taken) (attribute-step _ _ ht (told (c .before .before .skip-pattern .ensures) (c .enum-told3 .given .1))))))
+unfolding attributesOutline manyOutline
+returns-3 c = num-step _ _ (c .before .before .before .before .before .before .before .before .before .before .before .before .read-u16 .ensures) (c .before .before .before .before .before .before .before .before .before .before .count .given .1) (left-stop tt (λ a l. l) attributeOutline _ _ _ (c .before .before .before .before .before .before .before .before .loop .inv) (c .before .before .before .before .before .before .before .loop-test .taken) (attribute-step _ _ (c .before .before .before .before .before .before .skip-str .ensures) (c .before .before .before .before .p .given .1) (c .before .before .skip-pattern .ensures)) (c .enum-told3 .given .1))
 
 sub-left : tie.Need-sub-left Inv-loop μ-loop
 sub-left c = search needs
@@ -66,12 +64,12 @@ loop-less : tie.Need-loop-less Inv-loop μ-loop
 loop-less c = search needs
 
 loop-again : tie.Need-loop-again Inv-loop μ-loop
-loop-again c = λ r h. next-is (c .before .before .before .before .before .before .before .skip-str .ensures) (c .before .before .before .before .before .p .given .1) (λ t ht. c .before .before .before .before .before .before .before .before .before .loop .inv r (many-goes attributeAt _ _ _ (c .before .before .before .before .before .before .before .before .loop-test .taken) (attribute-step _ _ ht (told (c .before .before .before .skip-pattern .ensures) (c .before .e .given .1))) h))
+unfolding manyOutline
+loop-again c = left-turn tt (λ a l. l) attributeOutline _ _ _ (c .before .before .before .before .before .before .before .before .before .loop .inv) (c .before .before .before .before .before .before .before .before .loop-test .taken) (attribute-step _ _ (c .before .before .before .before .before .before .before .skip-str .ensures) (c .before .before .before .before .before .p .given .1) (c .before .before .before .skip-pattern .ensures)) (c .before .e .given .1)
 
 returns-4 : tie.Need-returns-4 Inv-loop μ-loop
-returns-4 c =
-    let count = num-is (c .before .before .before .before .before .read-u16 .ensures) (c .before .before .before .count .given .1) in
-    attributes-start _ _ count (c .before .loop .inv _ (many-ends attributeAt _ _ _ (c .loop-test .left)))
+unfolding attributesOutline manyOutline
+returns-4 c = num-step _ _ (c .before .before .before .before .before .read-u16 .ensures) (c .before .before .before .count .given .1) (left-end tt (λ a l. l) attributeOutline _ _ _ (c .before .loop .inv) (c .loop-test .left))
 
 pub skip-attributes-spec : {M : Type 1} → statement M
 skip-attributes-spec = tie.close (tie.spec Inv-loop μ-loop read-u16-requires enum-known-count enum-told returns loop-holds skip-str-requires enum-known-p enum-told-2 returns-2 skip-pattern-requires enum-known-e enum-told-3 returns-3 sub-left loop-less loop-again returns-4)

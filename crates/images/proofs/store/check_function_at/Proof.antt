@@ -1,10 +1,9 @@
--- The length, the version, the code, the Id, and nothing left over.
-use Prim.Native.Nat.{_+_}
-use Rattle.records.proofs.Laws.{fails, next-got, next-step, next-stop, num-step, num-stop, passes}
+-- `images::store::check_function_at` meets its contract: the length, the version, the code, the Id, and nothing left over.
+use Rattle.records.proofs.ImageHead.{ends-alike}
+use Rattle.records.proofs.Laws.{next-step, next-stop, num-step, num-stop}
 use Rattle.records.specs.Images.{functionAt}
 use borrow.Author.Needs.{needs}
-use mathlib.Core.Path.{_≡_}
-use native.Mathlib.Omega.{arith}
+use mathlib.Core.Path.{_∙_}
 use Rattle.images.proofs.store.check_function_at.Statement.{statement}
 use Rattle.images.proofs.store.check_function_at.Tie as tie
 
@@ -58,25 +57,22 @@ enum-told-4 c = search needs
 
 returns-4 : tie.Need-returns-4
 unfolding functionAt
-returns-4 c = num-step _ _ (c .before .before .before .before .before .before .before .before .before .before .before .before .before .before .read-u32 .ensures) (c .before .before .before .before .before .before .before .before .before .before .before .before .n .given .1) (next-step _ _ (c .before .before .before .before .before .before .before .before .before .before .check-one .ensures) (c .before .before .before .before .before .before .before .before .q .given .1) (λ _. next-step _ _ (c .before .before .before .before .before .before .check-one2 .ensures) (c .before .before .before .before .r .given .1) (λ _. next-stop _ _ (c .before .before .check-id .ensures) (c .enum-told4 .given .1))))
+returns-4 c =
+    num-step _ _ (c .before .before .before .before .before .before .before .before .before .before .before .before .before .before .read-u32 .ensures) (c .before .before .before .before .before .before .before .before .before .before .before .before .n .given .1)
+    (next-step _ _ (c .before .before .before .before .before .before .before .before .before .before .check-one .ensures) (c .before .before .before .before .before .before .before .before .q .given .1) (λ _.
+    next-step _ _ (c .before .before .before .before .before .before .check-one2 .ensures) (c .before .before .before .before .r .given .1) (λ _.
+    next-stop _ _ (c .before .before .check-id .ensures) (c .enum-told4 .given .1))))
+
+ends-at-requires : tie.Need-ends-at-requires
+ends-at-requires c κs = search needs
 
 returns-5 : tie.Need-returns-5
 unfolding functionAt
 returns-5 c =
-    let e : c .before .before .before .e .given .0 .0 ≡ c .before .before .before .before .before .before .before .before .before .before .before .before .before .before .before .before .before .before .before .args .at + c .before .before .before .before .before .before .before .before .before .before .before .before .before .before .before .n .given .0 .0 = omega arith in
-    num-step _ _ (c .before .before .before .before .before .before .before .before .before .before .before .before .before .before .before .before .before .read-u32 .ensures) (c .before .before .before .before .before .before .before .before .before .before .before .before .before .before .before .n .given .1) (next-step _ _ (c .before .before .before .before .before .before .before .before .before .before .before .before .before .check-one .ensures) (c .before .before .before .before .before .before .before .before .before .before .before .q .given .1) (λ _. next-step _ _ (c .before .before .before .before .before .before .before .before .before .check-one2 .ensures) (c .before .before .before .before .before .before .before .r .given .1) (λ _. next-step _ _ (c .before .before .before .before .before .check-id .ensures) (c .before .before .before .e .given .1) (λ _. passes _ e (next-got _ _)))))
-
-returns-6 : tie.Need-returns-6
-unfolding functionAt
-returns-6 c =
-    let e : c .before .before .before .e .given .0 .0 ≡ c .before .before .before .before .before .before .before .before .before .before .before .before .before .before .before .before .before .before .before .args .at + c .before .before .before .before .before .before .before .before .before .before .before .before .before .before .before .n .given .0 .0 → ⊥ = λ q. c .if2 .left (omega arith) in
-    num-step _ _ (c .before .before .before .before .before .before .before .before .before .before .before .before .before .before .before .before .before .read-u32 .ensures) (c .before .before .before .before .before .before .before .before .before .before .before .before .before .before .before .n .given .1) (next-step _ _ (c .before .before .before .before .before .before .before .before .before .before .before .before .before .check-one .ensures) (c .before .before .before .before .before .before .before .before .before .before .before .q .given .1) (λ _. next-step _ _ (c .before .before .before .before .before .before .before .before .before .check-one2 .ensures) (c .before .before .before .before .before .before .before .r .given .1) (λ _. next-step _ _ (c .before .before .before .before .before .check-id .ensures) (c .before .before .before .e .given .1) (λ _. fails _ e))))
-
-returns-7 : tie.Need-returns-7
-unfolding functionAt
-returns-7 c =
-    let e : c .before .before .e .given .0 .0 ≡ c .before .before .before .before .before .before .before .before .before .before .before .before .before .before .before .before .before .before .args .at + c .before .before .before .before .before .before .before .before .before .before .before .before .before .before .n .given .0 .0 → ⊥ = λ q. omega arith in
-    num-step _ _ (c .before .before .before .before .before .before .before .before .before .before .before .before .before .before .before .before .read-u32 .ensures) (c .before .before .before .before .before .before .before .before .before .before .before .before .before .before .n .given .1) (next-step _ _ (c .before .before .before .before .before .before .before .before .before .before .before .before .check-one .ensures) (c .before .before .before .before .before .before .before .before .before .before .q .given .1) (λ _. next-step _ _ (c .before .before .before .before .before .before .before .before .check-one2 .ensures) (c .before .before .before .before .before .before .r .given .1) (λ _. next-step _ _ (c .before .before .before .before .check-id .ensures) (c .before .before .e .given .1) (λ _. fails _ e))))
+    num-step _ _ (c .before .before .before .before .before .before .before .before .before .before .before .before .before .before .before .before .read-u32 .ensures) (c .before .before .before .before .before .before .before .before .before .before .before .before .before .before .n .given .1)
+    (next-step _ _ (c .before .before .before .before .before .before .before .before .before .before .before .before .check-one .ensures) (c .before .before .before .before .before .before .before .before .before .before .q .given .1) (λ _.
+    next-step _ _ (c .before .before .before .before .before .before .before .before .check-one2 .ensures) (c .before .before .before .before .before .before .r .given .1) (λ _.
+    next-step _ _ (c .before .before .before .before .check-id .ensures) (c .before .before .e .given .1) (λ i. c .ends-at .ensures ∙ ends-alike _ _ i _))))
 
 pub check-function-at-spec : {M : Type 1} → statement M
-check-function-at-spec = tie.close (tie.spec read-u32-requires enum-known-n enum-told returns check-one-requires enum-known-q enum-told-2 returns-2 check-one-requires-2 enum-known-r enum-told-3 returns-3 check-id-requires enum-known-e enum-told-4 returns-4 returns-5 returns-6 returns-7)
+check-function-at-spec = tie.close (tie.spec read-u32-requires enum-known-n enum-told returns check-one-requires enum-known-q enum-told-2 returns-2 check-one-requires-2 enum-known-r enum-told-3 returns-3 check-id-requires enum-known-e enum-told-4 returns-4 ends-at-requires returns-5)

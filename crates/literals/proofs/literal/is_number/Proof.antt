@@ -1,6 +1,7 @@
 -- `literals::literal::is_number` meets its contract: the state and the count, run on over what is left, end as over the whole.
 use Prim.Native.Nat.{_+_, _-_, _≤_}
-use Rattle.literals.proofs.Runs.{count-end, count-more, one-or-none, run-done, run-turn}
+use Rattle.literals.proofs.Counting.{count-end, count-more, one-or-none}
+use Rattle.decimals.proofs.Run.{run-done, run-turn}
 use Rattle.decimals.specs.Bytes.{digit, run}
 use Rattle.literals.specs.Literal.{digitCount, isNumber, numberStep}
 use borrow.Author.Needs.{needs}

@@ -40,12 +40,10 @@ use Rattle.patterns.proofs.check_variants.Kinds as check-variants-kinds
 use Rattle.patterns.proofs.+check_arguments+check_body+check_element+check_elements+check_expression+check_inline+check_inlines+check_pattern+check_select+check_term+check_variant+check_variants.Lts-check_variants as check-variants-lts
 use Rattle.records.proofs.bytes.read_u16.Reads as read-u16-reads
 use Rattle.records.proofs.call_arguments.check_named_arguments.Reads as check-named-arguments-reads
-use Rattle.records.proofs.literal.check_string.Reads as check-string-reads
-use Rattle.records.proofs.literal.check_number.Reads as check-number-reads
+use Rattle.records.proofs.literal.check_ruled.Reads as check-ruled-reads
 use Rattle.records.proofs.literal.check_id.Reads as check-id-reads
 use Rattle.records.proofs.literal.check_optional_id.Reads as check-optional-id-reads
 use Rattle.records.proofs.bytes.read_byte.Reads as read-byte-reads
-use Rattle.records.proofs.literal.check_text.Reads as check-text-reads
 use Rattle.records.proofs.bytes.read_u32.Reads as read-u32-reads
 use Rattle.records.proofs.literal.check_key.Reads as check-key-reads
 use Rattle.records.proofs.literal.check_flag.Reads as check-flag-reads
@@ -174,10 +172,10 @@ abbrev pub check-arguments-claims : ℕ → check-arguments-lts.Claims
 check-arguments-claims t = (read-u16-reads.Asked, read-u16-reads.Learnt, check-inlines-below t, check-inlines-reads.Post, check-named-arguments-reads.Asked, check-named-arguments-reads.Learnt)
 
 abbrev pub check-body-claims : ℕ → check-body-lts.Claims
-check-body-claims t = (check-string-reads.Asked, check-string-reads.Learnt, check-number-reads.Asked, check-number-reads.Learnt, check-id-reads.Asked, check-id-reads.Learnt, check-arguments-below t, check-arguments-reads.Post, check-optional-id-reads.Asked, check-optional-id-reads.Learnt, check-term-below t, check-term-reads.Post, check-expression-below t, check-expression-reads.Post)
+check-body-claims t = (check-ruled-reads.Asked, check-ruled-reads.Learnt, check-id-reads.Asked, check-id-reads.Learnt, check-arguments-below t, check-arguments-reads.Post, check-optional-id-reads.Asked, check-optional-id-reads.Learnt, check-term-below t, check-term-reads.Post, check-expression-below t, check-expression-reads.Post)
 
 abbrev pub check-element-claims : ℕ → check-element-lts.Claims
-check-element-claims t = (read-byte-reads.Asked, read-byte-reads.Learnt, check-text-reads.Asked, check-text-reads.Learnt, check-expression-below t, check-expression-reads.Post)
+check-element-claims t = (read-byte-reads.Asked, read-byte-reads.Learnt, check-ruled-reads.Asked, check-ruled-reads.Learnt, check-expression-below t, check-expression-reads.Post)
 
 abbrev pub check-elements-claims : ℕ → check-elements-lts.Claims
 check-elements-claims t = (check-element-below t, check-element-reads.Post)

@@ -1,26 +1,27 @@
 -- What is left of `check_body`.
 use Prim.Native.Nat.{ℕ}
 use Rattle.records.proofs.Laws.{fails, isnt, next-end, next-step, next-stop, passes, is as is-tag}
-use Rattle.records.specs.Decode.{inlineBody}
+use Rattle.records.specs.Decode.{inlineBody, literalNumberAt, stringAt}
+use Rattle.records.specs.Relations.Rule.{ruleOf}
 use borrow.Author.Needs.{needs}
 use native.Mathlib.Omega.{arith}
 use Rattle.patterns.proofs.check_body.Reads as check-body-reads
 use Rattle.patterns.proofs.+check_arguments+check_body+check_element+check_elements+check_expression+check_inline+check_inlines+check_pattern+check_select+check_term+check_variant+check_variants.Lts-check_body as check-body-lts
 use Rattle.patterns.proofs.+check_arguments+check_body+check_element+check_elements+check_expression+check_inline+check_inlines+check_pattern+check_select+check_term+check_variant+check_variants.Proof.Base.{check-body-at, check-body-claims}
 
-pub check-string-requires : (t : ℕ) → check-body-lts.Need-check-string-requires (check-body-claims t) (check-body-at t) check-body-reads.Post
-check-string-requires t c κs = search needs
+pub check-ruled-requires : (t : ℕ) → check-body-lts.Need-check-ruled-requires (check-body-claims t) (check-body-at t) check-body-reads.Post
+check-ruled-requires t c κs = search needs
 
 pub returns : (t : ℕ) → check-body-lts.Need-returns (check-body-claims t) (check-body-at t) check-body-reads.Post
-unfolding inlineBody
-returns t c = is-tag _ _ (c .before .if1 .taken) (next-end _ _ (c .check-string .ensures))
+unfolding inlineBody stringAt ruleOf
+returns t c = is-tag _ _ (c .before .if1 .taken) (next-end _ _ (c .check-ruled .ensures))
 
-pub check-number-requires : (t : ℕ) → check-body-lts.Need-check-number-requires (check-body-claims t) (check-body-at t) check-body-reads.Post
-check-number-requires t c κs = search needs
+pub check-ruled-requires-2 : (t : ℕ) → check-body-lts.Need-check-ruled-requires-2 (check-body-claims t) (check-body-at t) check-body-reads.Post
+check-ruled-requires-2 t c κs = search needs
 
 pub returns-2 : (t : ℕ) → check-body-lts.Need-returns-2 (check-body-claims t) (check-body-at t) check-body-reads.Post
-unfolding inlineBody
-returns-2 t c = isnt _ _ (c .before .before .if1 .left) (is-tag _ _ (c .before .if2 .taken) (next-end _ _ (c .check-number .ensures)))
+unfolding inlineBody literalNumberAt ruleOf
+returns-2 t c = isnt _ _ (c .before .before .if1 .left) (is-tag _ _ (c .before .if2 .taken) (next-end _ _ (c .check-ruled2 .ensures)))
 
 pub check-id-requires : (t : ℕ) → check-body-lts.Need-check-id-requires (check-body-claims t) (check-body-at t) check-body-reads.Post
 check-id-requires t c κs = search needs

@@ -1,7 +1,8 @@
 -- What is left of `check_element`.
 use Prim.Native.Nat.{ℕ}
 use Rattle.records.proofs.Laws.{fails, isnt, next-end, num-step, num-stop, passes, is as is-tag}
-use Rattle.records.specs.Decode.{elementAt}
+use Rattle.records.specs.Decode.{elementAt, textAt}
+use Rattle.records.specs.Relations.Rule.{ruleOf}
 use borrow.Author.Needs.{needs}
 use native.Mathlib.Omega.{arith}
 use Rattle.patterns.proofs.check_element.Reads as check-element-reads
@@ -21,15 +22,15 @@ pub returns : (t : ℕ) → check-element-lts.Need-returns (check-element-claims
 unfolding elementAt
 returns t c = num-stop _ _ (c .before .before .read-byte .ensures) (c .enum-told .given .1)
 
-pub check-text-requires : (t : ℕ) → check-element-lts.Need-check-text-requires (check-element-claims t) (check-element-at t) check-element-reads.Post
-check-text-requires t c κs = search needs
+pub check-ruled-requires : (t : ℕ) → check-element-lts.Need-check-ruled-requires (check-element-claims t) (check-element-at t) check-element-reads.Post
+check-ruled-requires t c κs = search needs
 
 pub check-expression-requires : (t : ℕ) → check-element-lts.Need-check-expression-requires (check-element-claims t) (check-element-at t) check-element-reads.Post
 check-expression-requires t c κs = omega arith
 
 pub returns-2 : (t : ℕ) → check-element-lts.Need-returns-2 (check-element-claims t) (check-element-at t) check-element-reads.Post
-unfolding elementAt
-returns-2 t c = num-step _ _ (c .before .before .before .before .before .read-byte .ensures) (c .before .before .before .tag .given .1) (is-tag _ _ (c .before .if1 .taken) (next-end _ _ (c .check-text .ensures)))
+unfolding elementAt textAt ruleOf
+returns-2 t c = num-step _ _ (c .before .before .before .before .before .read-byte .ensures) (c .before .before .before .tag .given .1) (is-tag _ _ (c .before .if1 .taken) (next-end _ _ (c .check-ruled .ensures)))
 
 pub returns-3 : (t : ℕ) → check-element-lts.Need-returns-3 (check-element-claims t) (check-element-at t) check-element-reads.Post
 unfolding elementAt

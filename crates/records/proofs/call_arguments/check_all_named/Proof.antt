@@ -1,11 +1,11 @@
 -- What is left of the named arguments ends where all of them end.
-use Rattle.records.proofs.Laws.{many-more, many-none, many-stop}
+use Rattle.records.proofs.Laws.{left-end, left-stop, left-turn}
 use Rattle.records.specs.Decode.{many, namedAt}
 use Rattle.records.specs.Relations.Answer.{nextOf}
 use borrow.Author.Needs.{needs}
 use denote.Ref.{now}
 use mathlib.Core.List.{[], _∷_}
-use mathlib.Core.Path.{_∙_, _≡_, refl, sym}
+use mathlib.Core.Path.{_≡_, refl}
 use native.Mathlib.Omega.{arith}
 use Rattle.records.proofs.call_arguments.check_all_named.Statement.{statement}
 use Rattle.records.proofs.call_arguments.check_all_named.Tie as tie
@@ -29,7 +29,7 @@ enum-told : tie.Need-enum-told Inv-loop μ-loop
 enum-told c = search needs
 
 returns : tie.Need-returns Inv-loop μ-loop
-returns c = many-stop [] _∷_ namedAt (now (c .before .before .before .before .before .before .args .s)) (c .before .before .before .before .loop .left) (c .before .before .before .before .loop .at) (c .before .before .before .loop-test .taken) (c .before .before .check-named .ensures) (c .enum-told .given .1) ∙ c .before .before .before .before .loop .inv
+returns c = left-stop [] _∷_ namedAt (now (c .before .before .before .before .before .before .args .s)) (c .before .before .before .before .loop .left) (c .before .before .before .before .loop .at) (c .before .before .before .before .loop .inv) (c .before .before .before .loop-test .taken) (c .before .before .check-named .ensures) (c .enum-told .given .1)
 
 sub-left : tie.Need-sub-left Inv-loop μ-loop
 sub-left c = omega arith
@@ -38,10 +38,10 @@ loop-less : tie.Need-loop-less Inv-loop μ-loop
 loop-less c = omega arith
 
 loop-again : tie.Need-loop-again Inv-loop μ-loop
-loop-again c = sym (many-more [] _∷_ namedAt (now (c .before .before .before .before .before .before .before .args .s)) (c .before .before .before .before .before .loop .left) (c .before .before .before .before .before .loop .at) (c .before .before .before .before .loop-test .taken) (c .before .before .before .check-named .ensures) (c .before .e .given .1)) ∙ c .before .before .before .before .before .loop .inv
+loop-again c = left-turn [] _∷_ namedAt (now (c .before .before .before .before .before .before .before .args .s)) (c .before .before .before .before .before .loop .left) (c .before .before .before .before .before .loop .at) (c .before .before .before .before .before .loop .inv) (c .before .before .before .before .loop-test .taken) (c .before .before .before .check-named .ensures) (c .before .e .given .1)
 
 returns-2 : tie.Need-returns-2 Inv-loop μ-loop
-returns-2 c = many-none [] _∷_ namedAt (now (c .before .before .before .args .s)) (c .before .loop .left) (c .before .loop .at) (c .loop-test .left) ∙ c .before .loop .inv
+returns-2 c = left-end [] _∷_ namedAt (now (c .before .before .before .args .s)) (c .before .loop .left) (c .before .loop .at) (c .before .loop .inv) (c .loop-test .left)
 
 pub check-all-named-spec : {M : Type 1} → statement M
 check-all-named-spec = tie.close (tie.spec Inv-loop μ-loop loop-holds check-named-requires enum-known-e enum-told returns sub-left loop-less loop-again returns-2)

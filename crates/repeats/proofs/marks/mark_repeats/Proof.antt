@@ -2,7 +2,7 @@
 use Prim.Native.Nat.{_-_, ℕ}
 use Rattle.repeats.proofs.Marking.{MarkFrom, marks-bad, marks-next, marks-no-count, marks-none, marks-start, marks-stuck}
 use Rattle.entries.proofs.Lengths.{u16-small}
-use Rattle.entries.proofs.Walk.{behind-in, told}
+use Rattle.entries.proofs.Walk.{behind-in}
 use Rattle.entries.specs.Lookup.{findIn}
 use Rattle.repeats.specs.Relations.Slots.{Ready}
 use Rattle.records.proofs.Views.{num-is, num-none}
@@ -73,7 +73,7 @@ returns-3 : tie.Need-returns-3 Inv-loop μ-loop
 returns-3 c =
     let count = num-is (c .before .before .before .before .before .before .before .before .before .before .before .before .before .read-u16 .ensures) (c .before .before .before .before .before .before .before .before .before .before .before .count .given .1) in
     let marks = set (c .before .before .before .before .before .before .before .before .before .loop .marks) (c .before .before .before .before .before .before .before .before .before .loop .k) (c .before .before .before .mark-at .result) in
-    marks-start _ _ _ (c .before .before .before .before .before .before .before .before .before .before .before .before .before .before .before .before .before .before .args .t5) marks count (c .before .before .before .before .before .before .before .before .before .loop .inv .0 marks (marks-stuck _ _ _ _ _ _ _ (c .before .before .before .before .before .before .before .before .before .loop .marks) marks (omega arith) (told (c .before .before .skip-entry .ensures) (c .enum-told3 .given .1))))
+    marks-start _ _ _ (c .before .before .before .before .before .before .before .before .before .before .before .before .before .before .before .before .before .before .args .t5) marks count (c .before .before .before .before .before .before .before .before .before .loop .inv .0 marks (marks-stuck _ _ _ _ _ _ _ (c .before .before .before .before .before .before .before .before .before .loop .marks) marks (omega arith) (c .before .before .skip-entry .ensures) (c .enum-told3 .given .1)))
 
 add-k : tie.Need-add-k Inv-loop μ-loop
 add-k c =
@@ -90,7 +90,7 @@ loop-again c =
     let span = num-is (c .before .before .before .before .before .before .before .before .read-str-behind .ensures) (c .before .before .before .before .before .before .a .given .1) in
     let small = u16-small _ _ (λ i. omega (arith, c .before .before .before .before .before .before .before .before .before .before .before .before .before .before .before .before .before .shared-slice-known2 .given i)) count in
     let marks = set (c .before .before .before .before .before .before .before .before .before .before .loop .marks) (c .before .before .before .before .before .before .before .before .before .before .loop .k) (c .before .before .before .before .mark-at .result) in
-    ((λ out h. c .before .before .before .before .before .before .before .before .before .before .loop .inv .0 out (marks-next _ _ _ _ _ _ _ (c .before .before .before .before .before .before .before .before .before .before .loop .marks) (c .before .before .before .before .mark-at .result) marks out (c .before .before .before .before .before .before .before .before .before .loop-test .taken) (let h = small in let l = c .before .before .before .before .before .before .before .before .before .before .loop .inv .1 in omega arith) span (λ st f pre hs r hp. c .before .before .before .before .mark-at .ensures st f _ pre hs r count (omega arith) hp span) refl (told (c .before .before .before .skip-entry .ensures) (c .before .next .given .1)) h)), search needs)
+    ((λ out h. c .before .before .before .before .before .before .before .before .before .before .loop .inv .0 out (marks-next _ _ _ _ _ _ _ (c .before .before .before .before .before .before .before .before .before .before .loop .marks) (c .before .before .before .before .mark-at .result) marks out (c .before .before .before .before .before .before .before .before .before .loop-test .taken) (let h = small in let l = c .before .before .before .before .before .before .before .before .before .before .loop .inv .1 in omega arith) span (λ st f pre hs r hp. c .before .before .before .before .mark-at .ensures st f _ pre hs r count (omega arith) hp span) refl (c .before .before .before .skip-entry .ensures) (c .before .next .given .1) h)), search needs)
 
 returns-4 : tie.Need-returns-4 Inv-loop μ-loop
 returns-4 c =

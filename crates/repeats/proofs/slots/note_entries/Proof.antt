@@ -1,7 +1,7 @@
 -- `repeats::slots::note_entries` meets its contract. The loop's invariant: what is noted of the entries that are left is noted of all.
 use Prim.Native.Nat.{ℕ}
 use Rattle.repeats.proofs.Notes.{entries-bad, entries-next, entries-none, entries-stuck}
-use Rattle.entries.proofs.Walk.{behind-in, told}
+use Rattle.entries.proofs.Walk.{behind-in}
 use Rattle.repeats.specs.Relations.Slots.{NotesEntries}
 use Rattle.records.proofs.Views.{num-is, num-none}
 use borrow.Author.Needs.{needs}
@@ -69,7 +69,7 @@ same-length-2 c =
     kept
 
 returns-2 : tie.Need-returns-2 Inv-loop μ-loop
-returns-2 c = c .before .before .before .before .before .before .before .before .before .before .before .before .before .loop .inv .0 _ (entries-stuck _ _ _ (c .before .before .before .before .before .before .before .before .before .before .before .before .loop-test .taken) (told (c .before .before .skip-entry .ensures) (c .enum-told2 .given .1)))
+returns-2 c = c .before .before .before .before .before .before .before .before .before .before .before .before .before .loop .inv .0 _ (entries-stuck _ _ _ (c .before .before .before .before .before .before .before .before .before .before .before .before .loop-test .taken) (c .before .before .skip-entry .ensures) (c .enum-told2 .given .1))
 
 sub-left : tie.Need-sub-left Inv-loop μ-loop
 sub-left c = search needs
@@ -81,7 +81,7 @@ loop-again : tie.Need-loop-again Inv-loop μ-loop
 loop-again c =
     let span = num-is (c .before .before .before .before .before .before .before .before .before .before .before .before .read-str-behind .ensures) (c .before .before .before .before .before .before .before .before .before .before .a .given .1) in
     let kept = c .before .before .before .before .before .before .note-id .ensures .same ∙ c .before .before .before .before .before .before .before .before .before .before .before .before .before .before .loop .inv .1 in
-    ((λ out h. c .before .before .before .before .before .before .before .before .before .before .before .before .before .before .loop .inv .0 out (entries-next _ _ _ (c .before .before .before .before .before .before .before .before .before .before .before .before .before .loop-test .taken) span (c .before .before .before .before .before .before .note-id .ensures) (told (c .before .before .before .skip-entry .ensures) (c .before .next .given .1)) h)), kept)
+    ((λ out h. c .before .before .before .before .before .before .before .before .before .before .before .before .before .before .loop .inv .0 out (entries-next _ _ _ (c .before .before .before .before .before .before .before .before .before .before .before .before .before .loop-test .taken) span (c .before .before .before .before .before .before .note-id .ensures) (c .before .before .before .skip-entry .ensures) (c .before .next .given .1) h)), kept)
 
 same-length-3 : tie.Need-same-length-3 Inv-loop μ-loop
 same-length-3 c = c .before .loop .inv .1

@@ -1,6 +1,7 @@
 -- `repeats::slots::note_store` meets its contract. The loop's invariant: what is noted of the items that are left is noted of all.
 use Prim.Native.Nat.{ℕ}
 use Rattle.repeats.proofs.Notes.{NotesItems, items-next, items-none, items-stuck, store-noted, store-unread}
+use Rattle.entries.proofs.Decoded.{item-past}
 use Rattle.entries.proofs.Walk.{told}
 use Rattle.records.proofs.Views.{num-is, num-none}
 use borrow.Author.Needs.{needs}
@@ -49,7 +50,7 @@ same-length c = search needs
 returns-2 : tie.Need-returns-2 Inv-loop μ-loop
 returns-2 c =
     let count = num-is (c .before .before .before .before .before .before .before .before .before .before .before .before .read-u16 .ensures) (c .before .before .before .before .before .before .before .before .before .before .count .given .1) in
-    store-noted _ _ _ _ _ count (c .before .before .before .before .before .before .before .before .loop .inv .0 _ (items-stuck _ _ _ (c .before .before .before .before .before .before .before .loop-test .taken) (told (c .before .before .skip-item .ensures) (c .enum-told2 .given .1))))
+    store-noted _ _ _ _ _ count (c .before .before .before .before .before .before .before .before .loop .inv .0 _ (items-stuck _ _ _ (c .before .before .before .before .before .before .before .loop-test .taken) (told (item-past _ _ (c .before .before .skip-item .ensures)) (c .enum-told2 .given .1))))
 
 sub-left : tie.Need-sub-left Inv-loop μ-loop
 sub-left c = search needs
@@ -58,7 +59,7 @@ loop-less : tie.Need-loop-less Inv-loop μ-loop
 loop-less c = search needs
 
 loop-again : tie.Need-loop-again Inv-loop μ-loop
-loop-again c = ((λ out h. c .before .before .before .before .before .before .before .before .before .loop .inv .0 out (items-next _ _ _ (c .before .before .before .before .before .before .before .before .loop-test .taken) (c .before .before .before .before .before .before .note-item .ensures) (told (c .before .before .before .skip-item .ensures) (c .before .next .given .1)) h)), search needs)
+loop-again c = ((λ out h. c .before .before .before .before .before .before .before .before .before .loop .inv .0 out (items-next _ _ _ (c .before .before .before .before .before .before .before .before .loop-test .taken) (c .before .before .before .before .before .before .note-item .ensures) (told (item-past _ _ (c .before .before .before .skip-item .ensures)) (c .before .next .given .1)) h)), search needs)
 
 same-length-2 : tie.Need-same-length-2 Inv-loop μ-loop
 same-length-2 c = c .before .loop .inv .1

@@ -2,7 +2,7 @@
 use Prim.Native.Nat.{_-_, ℕ}
 use Rattle.entries.proofs.Lengths.{u16-small}
 use Rattle.repeats.proofs.Places.{PlaceFrom, place-all, place-bad, place-next, place-none, place-stuck, place-unread, place-vacant, placed-length}
-use Rattle.entries.proofs.Walk.{behind-in, told}
+use Rattle.entries.proofs.Walk.{behind-in}
 use Rattle.records.proofs.Views.{num-is, num-none}
 use borrow.Author.Needs.{needs}
 use lib.ListN.{length}
@@ -92,7 +92,7 @@ returns-4 : tie.Need-returns-4 Inv-loop μ-loop
 returns-4 c =
     let count = num-is (c .before .before .before .before .before .before .before .before .before .before .before .before .before .before .before .before .before .before .read-u16 .ensures) (c .before .before .before .before .before .before .before .before .before .before .before .before .before .before .before .before .count .given .1) in
     let kept = ap length (c .before .before .before .before .before .place .ensures) ∙ placed-length _ _ _ ∙ c .before .before .before .before .before .before .before .before .before .before .before .before .before .before .loop .inv .1 in
-    λ es f hr cl. place-all count (c .before .before .before .before .before .before .before .before .before .before .before .before .before .before .loop .inv .0 _ (place-stuck _ _ (omega arith) (told (c .before .before .skip-entry .ensures) (c .enum-told3 .given .1)))) kept es f hr cl
+    λ es f hr cl. place-all count (c .before .before .before .before .before .before .before .before .before .before .before .before .before .before .loop .inv .0 _ (place-stuck _ _ (omega arith) (c .before .before .skip-entry .ensures) (c .enum-told3 .given .1))) kept es f hr cl
 
 add-k : tie.Need-add-k Inv-loop μ-loop
 add-k c =
@@ -107,7 +107,7 @@ loop-again : tie.Need-loop-again Inv-loop μ-loop
 loop-again c =
     let span = num-is (c .before .before .before .before .before .before .before .before .before .before .before .before .before .read-str-behind .ensures) (c .before .before .before .before .before .before .before .before .before .before .before .a .given .1) in
     let kept = ap length (c .before .before .before .before .before .before .place .ensures) ∙ placed-length _ _ _ ∙ c .before .before .before .before .before .before .before .before .before .before .before .before .before .before .before .loop .inv .1 in
-    ((λ out h. c .before .before .before .before .before .before .before .before .before .before .before .before .before .before .before .loop .inv .0 out (place-next _ _ _ (c .before .before .before .before .before .before .before .before .before .before .before .before .before .before .loop-test .taken) span (c .before .before .before .before .before .before .before .before .before .before .before .before .before .before .before .loop .inv .1) (c .before .before .before .before .before .before .before .slot .ensures .0) (c .before .before .before .before .before .before .before .slot .ensures .1) (c .before .before .before .before .before .before .place .ensures) (told (c .before .before .before .skip-entry .ensures) (c .before .next .given .1)) h)), kept)
+    ((λ out h. c .before .before .before .before .before .before .before .before .before .before .before .before .before .before .before .loop .inv .0 out (place-next _ _ _ (c .before .before .before .before .before .before .before .before .before .before .before .before .before .before .loop-test .taken) span (c .before .before .before .before .before .before .before .before .before .before .before .before .before .before .before .loop .inv .1) (c .before .before .before .before .before .before .before .slot .ensures .0) (c .before .before .before .before .before .before .before .slot .ensures .1) (c .before .before .before .before .before .before .place .ensures) (c .before .before .before .skip-entry .ensures) (c .before .next .given .1) h)), kept)
 
 same-length-3 : tie.Need-same-length-3 Inv-loop μ-loop
 same-length-3 c = c .before .loop .inv .1

@@ -1,8 +1,8 @@
 -- `repeats::slots::slot` meets its contract. The loop's invariant: what the bytes that are left make of the number so far is what all make of 0; and it is small.
 use Prim.Native.Nat.{_%_, _*_, _+_, _-_, _<_, ℕ}
 use Rattle.repeats.specs.Relations.Slots.{hashStep, slotOf}
-use Rattle.rules.proofs.Run.{run-done, run-turn}
-use Rattle.rules.specs.Run.{run}
+use Rattle.decimals.proofs.Run.{run-done, run-turn}
+use Rattle.decimals.specs.Bytes.{run}
 use borrow.Author.Needs.{needs}
 use lib.ListN.{drop, length}
 use mathlib.Core.Path.{_≡_, ap, refl, sym}

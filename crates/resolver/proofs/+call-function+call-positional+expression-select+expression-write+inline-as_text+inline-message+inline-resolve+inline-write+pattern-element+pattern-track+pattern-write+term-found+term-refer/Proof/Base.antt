@@ -44,44 +44,43 @@ use Rattle.resolver.proofs.term.refer.Kinds as term-refer-kinds
 use Rattle.resolver.proofs.+call-function+call-positional+expression-select+expression-write+inline-as_text+inline-message+inline-resolve+inline-write+pattern-element+pattern-track+pattern-write+term-found+term-refer.Lts-term-refer as term-refer-lts
 use Rattle.records.proofs.bytes.read_str.Reads as read-str-reads
 use Rattle.records.proofs.bytes.read_u16.Reads as read-u16-reads
-use Rattle.scope.proofs.value.resolve_named.Reads as resolve-named-reads
+use Rattle.resolver.proofs.scope.value.resolve_named.Reads as resolve-named-reads
 use Rattle.resolver.proofs.call.answer.Reads as answer-reads
 use Rattle.walks.proofs.skip_expression.Reads as skip-expression-reads
 use Rattle.state.proofs.set_back.Reads as set-back-reads
-use Rattle.scope.proofs.select.choose.Reads as choose-reads
-use Rattle.scope.proofs.put.list_plain.Reads as list-plain-reads
+use Rattle.resolver.proofs.scope.select.choose.Reads as choose-reads
+use Rattle.writes.proofs.list.list_plain.Reads as list-plain-reads
 use Rattle.records.proofs.bytes.read_byte.Reads as read-byte-reads
 use Rattle.state.proofs.set_aside.Reads as set-aside-reads
 use Rattle.resolver.proofs.inline.in_order.Reads as in-order-reads
 use Rattle.buffers.proofs.move_back.Reads as move-back-reads
 use Rattle.state.proofs.set_kept.Reads as set-kept-reads
-use Rattle.resolver.proofs.reference.message_target.Reads as message-target-reads
-use Rattle.scope.proofs.put.list_no_value.Reads as list-no-value-reads
-use Rattle.scope.proofs.put.put_error.Reads as put-error-reads
+use Rattle.resolver.proofs.reference.target_of.Reads as target-of-reads
+use Rattle.writes.proofs.list.list_no_value.Reads as list-no-value-reads
+use Rattle.resolver.proofs.scope.put.put_error.Reads as put-error-reads
 use Rattle.resolver.proofs.reference.count_if.Reads as count-if-reads
-use Rattle.scope.proofs.reference.ref_error.Reads as ref-error-reads
+use Rattle.resolver.proofs.scope.reference.ref_error.Reads as ref-error-reads
 use Rattle.heads.proofs.gives_text.Reads as gives-text-reads
-use Rattle.scope.proofs.value.literal_string.Reads as literal-string-reads
-use Rattle.scope.proofs.value.literal_number.Reads as literal-number-reads
-use Rattle.scope.proofs.variable.resolve_variable.Reads as resolve-variable-reads
-use Rattle.scope.proofs.put.put_literal.Reads as put-literal-reads
-use Rattle.scope.proofs.put.put_value.Reads as put-value-reads
-use Rattle.scope.proofs.variable.write_variable.Reads as write-variable-reads
-use Rattle.scope.proofs.variable.write_result.Reads as write-result-reads
-use Rattle.scope.proofs.put.put.Reads as put-reads
+use Rattle.resolver.proofs.scope.value.literal_string.Reads as literal-string-reads
+use Rattle.resolver.proofs.scope.value.literal_number.Reads as literal-number-reads
+use Rattle.resolver.proofs.scope.variable.resolve_variable.Reads as resolve-variable-reads
+use Rattle.writes.proofs.put.put_literal.Reads as put-literal-reads
+use Rattle.resolver.proofs.scope.put.put_value.Reads as put-value-reads
+use Rattle.resolver.proofs.scope.variable.write_variable.Reads as write-variable-reads
+use Rattle.resolver.proofs.scope.variable.write_result.Reads as write-result-reads
+use Rattle.writes.proofs.put.put.Reads as put-reads
 use Rattle.state.proofs.may_begin.Reads as may-begin-reads
-use Rattle.scope.proofs.reference.too_many.Reads as too-many-reads
+use Rattle.writes.proofs.list.list_too_many.Reads as list-too-many-reads
 use Rattle.state.proofs.begin.Reads as begin-reads
 use Rattle.heads.proofs.has_marks.Reads as has-marks-reads
-use Rattle.scope.proofs.put.put_fsi.Reads as put-fsi-reads
-use Rattle.scope.proofs.put.put_cut.Reads as put-cut-reads
-use Rattle.scope.proofs.put.put_pdi.Reads as put-pdi-reads
-use Rattle.walks.proofs.on_trail.Reads as on-trail-reads
+use Rattle.writes.proofs.put.put_fsi.Reads as put-fsi-reads
+use Rattle.resolver.proofs.scope.put.put_cut.Reads as put-cut-reads
+use Rattle.writes.proofs.put.put_pdi.Reads as put-pdi-reads
+use Rattle.trail.proofs.on_trail.Reads as on-trail-reads
 use Rattle.state.proofs.set_depth.Reads as set-depth-reads
 use Rattle.records.proofs.bytes.read_u32.Reads as read-u32-reads
 use Rattle.heads.proofs.isolates.Reads as isolates-reads
 use Rattle.walks.proofs.skip_element.Reads as skip-element-reads
-use Rattle.resolver.proofs.reference.term_target.Reads as term-target-reads
 use Rattle.resolver.proofs.reference.tagged_reference.Reads as tagged-reference-reads
 use Rattle.state.proofs.set_locals.Reads as set-locals-reads
 use Rattle.state.proofs.clear_locals.Reads as clear-locals-reads
@@ -90,135 +89,135 @@ use Rattle.state.proofs.clear_locals.Reads as clear-locals-reads
 abbrev pub μ : Scope → ℕ → ℕ
 μ s stage = (102 - s .begun) * 2000 + stage
 
-abbrev pub μ-call-function : cycle.Measures 6 call-function-kinds.ps ℕ
+abbrev pub μ-call-function : cycle.Measures 5 call-function-kinds.ps ℕ
 μ-call-function κs a = μ (a .1 .1 .1 .1 .1 .1 .0) (1000 + a .1 .1 .1 .1 .1 .1 .1 .0 * 10 + 8)
 
-abbrev pub μ-call-positional : cycle.Measures 6 call-positional-kinds.ps ℕ
+abbrev pub μ-call-positional : cycle.Measures 5 call-positional-kinds.ps ℕ
 μ-call-positional κs a = μ (a .1 .1 .1 .1 .1 .1 .0) (1000 + a .1 .1 .1 .1 .1 .1 .1 .0 * 10 + 7)
 
-abbrev pub μ-expression-select : cycle.Measures 6 expression-select-kinds.ps ℕ
+abbrev pub μ-expression-select : cycle.Measures 5 expression-select-kinds.ps ℕ
 μ-expression-select κs a = μ (a .1 .1 .1 .1 .1 .1 .0) (1000 + a .1 .1 .1 .1 .1 .1 .1 .0 * 10 + 7)
 
-abbrev pub μ-expression-write : cycle.Measures 6 expression-write-kinds.ps ℕ
+abbrev pub μ-expression-write : cycle.Measures 5 expression-write-kinds.ps ℕ
 μ-expression-write κs a = μ (a .1 .1 .1 .1 .1 .1 .0) (1000 + a .1 .1 .1 .1 .1 .1 .1 .0 * 10 + 9)
 
-abbrev pub μ-inline-as-text : cycle.Measures 6 inline-as-text-kinds.ps ℕ
+abbrev pub μ-inline-as-text : cycle.Measures 5 inline-as-text-kinds.ps ℕ
 μ-inline-as-text κs a = μ (a .1 .1 .1 .1 .1 .1 .0) (1000 + a .1 .1 .1 .1 .1 .1 .1 .0 * 10 + 5)
 
-abbrev pub μ-inline-message : cycle.Measures 6 inline-message-kinds.ps ℕ
+abbrev pub μ-inline-message : cycle.Measures 5 inline-message-kinds.ps ℕ
 μ-inline-message κs a = μ (a .1 .1 .1 .1 .1 .1 .0) 330
 
-abbrev pub μ-inline-resolve : cycle.Measures 6 inline-resolve-kinds.ps ℕ
+abbrev pub μ-inline-resolve : cycle.Measures 5 inline-resolve-kinds.ps ℕ
 μ-inline-resolve κs a = μ (a .1 .1 .1 .1 .1 .1 .0) (1000 + a .1 .1 .1 .1 .1 .1 .1 .0 * 10 + 6)
 
-abbrev pub μ-inline-write : cycle.Measures 6 inline-write-kinds.ps ℕ
+abbrev pub μ-inline-write : cycle.Measures 5 inline-write-kinds.ps ℕ
 μ-inline-write κs a = μ (a .1 .1 .1 .1 .1 .1 .0) (1000 + a .1 .1 .1 .1 .1 .1 .1 .0 * 10 + 4)
 
-abbrev pub μ-pattern-element : cycle.Measures 6 pattern-element-kinds.ps ℕ
+abbrev pub μ-pattern-element : cycle.Measures 5 pattern-element-kinds.ps ℕ
 μ-pattern-element κs a = μ (a .1 .1 .1 .1 .1 .1 .0) (a .1 .1 .1 .1 .1 .1 .1 .0 * 10)
 
-abbrev pub μ-pattern-track : cycle.Measures 6 pattern-track-kinds.ps ℕ
+abbrev pub μ-pattern-track : cycle.Measures 5 pattern-track-kinds.ps ℕ
 μ-pattern-track κs a = μ (a .1 .1 .1 .1 .1 .1 .0) 325
 
-abbrev pub μ-pattern-write : cycle.Measures 6 pattern-write-kinds.ps ℕ
+abbrev pub μ-pattern-write : cycle.Measures 5 pattern-write-kinds.ps ℕ
 μ-pattern-write κs a = μ (a .1 .1 .1 .1 .1 .1 .0) (a .1 .1 .1 .1 .1 .1 .1 .0 * 10 + 1)
 
-abbrev pub μ-term-found : cycle.Measures 6 term-found-kinds.ps ℕ
+abbrev pub μ-term-found : cycle.Measures 5 term-found-kinds.ps ℕ
 μ-term-found κs a = μ (a .1 .1 .1 .1 .1 .1 .0) 330
 
-abbrev pub μ-term-refer : cycle.Measures 6 term-refer-kinds.ps ℕ
+abbrev pub μ-term-refer : cycle.Measures 5 term-refer-kinds.ps ℕ
 μ-term-refer κs a = μ (a .1 .1 .1 .1 .1 .1 .0) (1000 + a .1 .1 .1 .1 .1 .1 .1 .0 * 10 + 8)
 
 -- what `call-function` is given at the measure t, and what a call of it asks below t
-abbrev pub call-function-at : ℕ → In 6 call-function-kinds.ps
-call-function-at t = cycle.and 6 call-function-kinds.ps (cycle.is 6 call-function-kinds.ps μ-call-function t) function-reads.Pre
+abbrev pub call-function-at : ℕ → In 5 call-function-kinds.ps
+call-function-at t = cycle.and 5 call-function-kinds.ps (cycle.is 5 call-function-kinds.ps μ-call-function t) function-reads.Pre
 
-abbrev pub call-function-below : ℕ → In 6 call-function-kinds.ps
-call-function-below t = cycle.and 6 call-function-kinds.ps (cycle.falls 6 call-function-kinds.ps _<_ μ-call-function t) function-reads.Pre
+abbrev pub call-function-below : ℕ → In 5 call-function-kinds.ps
+call-function-below t = cycle.and 5 call-function-kinds.ps (cycle.falls 5 call-function-kinds.ps _<_ μ-call-function t) function-reads.Pre
 
 -- what `call-positional` is given at the measure t, and what a call of it asks below t
-abbrev pub call-positional-at : ℕ → In 6 call-positional-kinds.ps
-call-positional-at t = cycle.and 6 call-positional-kinds.ps (cycle.is 6 call-positional-kinds.ps μ-call-positional t) positional-reads.Pre
+abbrev pub call-positional-at : ℕ → In 5 call-positional-kinds.ps
+call-positional-at t = cycle.and 5 call-positional-kinds.ps (cycle.is 5 call-positional-kinds.ps μ-call-positional t) positional-reads.Pre
 
-abbrev pub call-positional-below : ℕ → In 6 call-positional-kinds.ps
-call-positional-below t = cycle.and 6 call-positional-kinds.ps (cycle.falls 6 call-positional-kinds.ps _<_ μ-call-positional t) positional-reads.Pre
+abbrev pub call-positional-below : ℕ → In 5 call-positional-kinds.ps
+call-positional-below t = cycle.and 5 call-positional-kinds.ps (cycle.falls 5 call-positional-kinds.ps _<_ μ-call-positional t) positional-reads.Pre
 
 -- what `expression-select` is given at the measure t, and what a call of it asks below t
-abbrev pub expression-select-at : ℕ → In 6 expression-select-kinds.ps
-expression-select-at t = cycle.and 6 expression-select-kinds.ps (cycle.is 6 expression-select-kinds.ps μ-expression-select t) select-reads.Pre
+abbrev pub expression-select-at : ℕ → In 5 expression-select-kinds.ps
+expression-select-at t = cycle.and 5 expression-select-kinds.ps (cycle.is 5 expression-select-kinds.ps μ-expression-select t) select-reads.Pre
 
-abbrev pub expression-select-below : ℕ → In 6 expression-select-kinds.ps
-expression-select-below t = cycle.and 6 expression-select-kinds.ps (cycle.falls 6 expression-select-kinds.ps _<_ μ-expression-select t) select-reads.Pre
+abbrev pub expression-select-below : ℕ → In 5 expression-select-kinds.ps
+expression-select-below t = cycle.and 5 expression-select-kinds.ps (cycle.falls 5 expression-select-kinds.ps _<_ μ-expression-select t) select-reads.Pre
 
 -- what `expression-write` is given at the measure t, and what a call of it asks below t
-abbrev pub expression-write-at : ℕ → In 6 expression-write-kinds.ps
-expression-write-at t = cycle.and 6 expression-write-kinds.ps (cycle.is 6 expression-write-kinds.ps μ-expression-write t) write-reads.Pre
+abbrev pub expression-write-at : ℕ → In 5 expression-write-kinds.ps
+expression-write-at t = cycle.and 5 expression-write-kinds.ps (cycle.is 5 expression-write-kinds.ps μ-expression-write t) write-reads.Pre
 
-abbrev pub expression-write-below : ℕ → In 6 expression-write-kinds.ps
-expression-write-below t = cycle.and 6 expression-write-kinds.ps (cycle.falls 6 expression-write-kinds.ps _<_ μ-expression-write t) write-reads.Pre
+abbrev pub expression-write-below : ℕ → In 5 expression-write-kinds.ps
+expression-write-below t = cycle.and 5 expression-write-kinds.ps (cycle.falls 5 expression-write-kinds.ps _<_ μ-expression-write t) write-reads.Pre
 
 -- what `inline-as_text` is given at the measure t, and what a call of it asks below t
-abbrev pub inline-as-text-at : ℕ → In 6 inline-as-text-kinds.ps
-inline-as-text-at t = cycle.and 6 inline-as-text-kinds.ps (cycle.is 6 inline-as-text-kinds.ps μ-inline-as-text t) as-text-reads.Pre
+abbrev pub inline-as-text-at : ℕ → In 5 inline-as-text-kinds.ps
+inline-as-text-at t = cycle.and 5 inline-as-text-kinds.ps (cycle.is 5 inline-as-text-kinds.ps μ-inline-as-text t) as-text-reads.Pre
 
-abbrev pub inline-as-text-below : ℕ → In 6 inline-as-text-kinds.ps
-inline-as-text-below t = cycle.and 6 inline-as-text-kinds.ps (cycle.falls 6 inline-as-text-kinds.ps _<_ μ-inline-as-text t) as-text-reads.Pre
+abbrev pub inline-as-text-below : ℕ → In 5 inline-as-text-kinds.ps
+inline-as-text-below t = cycle.and 5 inline-as-text-kinds.ps (cycle.falls 5 inline-as-text-kinds.ps _<_ μ-inline-as-text t) as-text-reads.Pre
 
 -- what `inline-message` is given at the measure t, and what a call of it asks below t
-abbrev pub inline-message-at : ℕ → In 6 inline-message-kinds.ps
-inline-message-at t = cycle.and 6 inline-message-kinds.ps (cycle.is 6 inline-message-kinds.ps μ-inline-message t) message-reads.Pre
+abbrev pub inline-message-at : ℕ → In 5 inline-message-kinds.ps
+inline-message-at t = cycle.and 5 inline-message-kinds.ps (cycle.is 5 inline-message-kinds.ps μ-inline-message t) message-reads.Pre
 
-abbrev pub inline-message-below : ℕ → In 6 inline-message-kinds.ps
-inline-message-below t = cycle.and 6 inline-message-kinds.ps (cycle.falls 6 inline-message-kinds.ps _<_ μ-inline-message t) message-reads.Pre
+abbrev pub inline-message-below : ℕ → In 5 inline-message-kinds.ps
+inline-message-below t = cycle.and 5 inline-message-kinds.ps (cycle.falls 5 inline-message-kinds.ps _<_ μ-inline-message t) message-reads.Pre
 
 -- what `inline-resolve` is given at the measure t, and what a call of it asks below t
-abbrev pub inline-resolve-at : ℕ → In 6 inline-resolve-kinds.ps
-inline-resolve-at t = cycle.and 6 inline-resolve-kinds.ps (cycle.is 6 inline-resolve-kinds.ps μ-inline-resolve t) resolve-reads.Pre
+abbrev pub inline-resolve-at : ℕ → In 5 inline-resolve-kinds.ps
+inline-resolve-at t = cycle.and 5 inline-resolve-kinds.ps (cycle.is 5 inline-resolve-kinds.ps μ-inline-resolve t) resolve-reads.Pre
 
-abbrev pub inline-resolve-below : ℕ → In 6 inline-resolve-kinds.ps
-inline-resolve-below t = cycle.and 6 inline-resolve-kinds.ps (cycle.falls 6 inline-resolve-kinds.ps _<_ μ-inline-resolve t) resolve-reads.Pre
+abbrev pub inline-resolve-below : ℕ → In 5 inline-resolve-kinds.ps
+inline-resolve-below t = cycle.and 5 inline-resolve-kinds.ps (cycle.falls 5 inline-resolve-kinds.ps _<_ μ-inline-resolve t) resolve-reads.Pre
 
 -- what `inline-write` is given at the measure t, and what a call of it asks below t
-abbrev pub inline-write-at : ℕ → In 6 inline-write-kinds.ps
-inline-write-at t = cycle.and 6 inline-write-kinds.ps (cycle.is 6 inline-write-kinds.ps μ-inline-write t) inline-write-reads.Pre
+abbrev pub inline-write-at : ℕ → In 5 inline-write-kinds.ps
+inline-write-at t = cycle.and 5 inline-write-kinds.ps (cycle.is 5 inline-write-kinds.ps μ-inline-write t) inline-write-reads.Pre
 
-abbrev pub inline-write-below : ℕ → In 6 inline-write-kinds.ps
-inline-write-below t = cycle.and 6 inline-write-kinds.ps (cycle.falls 6 inline-write-kinds.ps _<_ μ-inline-write t) inline-write-reads.Pre
+abbrev pub inline-write-below : ℕ → In 5 inline-write-kinds.ps
+inline-write-below t = cycle.and 5 inline-write-kinds.ps (cycle.falls 5 inline-write-kinds.ps _<_ μ-inline-write t) inline-write-reads.Pre
 
 -- what `pattern-element` is given at the measure t, and what a call of it asks below t
-abbrev pub pattern-element-at : ℕ → In 6 pattern-element-kinds.ps
-pattern-element-at t = cycle.and 6 pattern-element-kinds.ps (cycle.is 6 pattern-element-kinds.ps μ-pattern-element t) element-reads.Pre
+abbrev pub pattern-element-at : ℕ → In 5 pattern-element-kinds.ps
+pattern-element-at t = cycle.and 5 pattern-element-kinds.ps (cycle.is 5 pattern-element-kinds.ps μ-pattern-element t) element-reads.Pre
 
-abbrev pub pattern-element-below : ℕ → In 6 pattern-element-kinds.ps
-pattern-element-below t = cycle.and 6 pattern-element-kinds.ps (cycle.falls 6 pattern-element-kinds.ps _<_ μ-pattern-element t) element-reads.Pre
+abbrev pub pattern-element-below : ℕ → In 5 pattern-element-kinds.ps
+pattern-element-below t = cycle.and 5 pattern-element-kinds.ps (cycle.falls 5 pattern-element-kinds.ps _<_ μ-pattern-element t) element-reads.Pre
 
 -- what `pattern-track` is given at the measure t, and what a call of it asks below t
-abbrev pub pattern-track-at : ℕ → In 6 pattern-track-kinds.ps
-pattern-track-at t = cycle.and 6 pattern-track-kinds.ps (cycle.is 6 pattern-track-kinds.ps μ-pattern-track t) track-reads.Pre
+abbrev pub pattern-track-at : ℕ → In 5 pattern-track-kinds.ps
+pattern-track-at t = cycle.and 5 pattern-track-kinds.ps (cycle.is 5 pattern-track-kinds.ps μ-pattern-track t) track-reads.Pre
 
-abbrev pub pattern-track-below : ℕ → In 6 pattern-track-kinds.ps
-pattern-track-below t = cycle.and 6 pattern-track-kinds.ps (cycle.falls 6 pattern-track-kinds.ps _<_ μ-pattern-track t) track-reads.Pre
+abbrev pub pattern-track-below : ℕ → In 5 pattern-track-kinds.ps
+pattern-track-below t = cycle.and 5 pattern-track-kinds.ps (cycle.falls 5 pattern-track-kinds.ps _<_ μ-pattern-track t) track-reads.Pre
 
 -- what `pattern-write` is given at the measure t, and what a call of it asks below t
-abbrev pub pattern-write-at : ℕ → In 6 pattern-write-kinds.ps
-pattern-write-at t = cycle.and 6 pattern-write-kinds.ps (cycle.is 6 pattern-write-kinds.ps μ-pattern-write t) pattern-write-reads.Pre
+abbrev pub pattern-write-at : ℕ → In 5 pattern-write-kinds.ps
+pattern-write-at t = cycle.and 5 pattern-write-kinds.ps (cycle.is 5 pattern-write-kinds.ps μ-pattern-write t) pattern-write-reads.Pre
 
-abbrev pub pattern-write-below : ℕ → In 6 pattern-write-kinds.ps
-pattern-write-below t = cycle.and 6 pattern-write-kinds.ps (cycle.falls 6 pattern-write-kinds.ps _<_ μ-pattern-write t) pattern-write-reads.Pre
+abbrev pub pattern-write-below : ℕ → In 5 pattern-write-kinds.ps
+pattern-write-below t = cycle.and 5 pattern-write-kinds.ps (cycle.falls 5 pattern-write-kinds.ps _<_ μ-pattern-write t) pattern-write-reads.Pre
 
 -- what `term-found` is given at the measure t, and what a call of it asks below t
-abbrev pub term-found-at : ℕ → In 6 term-found-kinds.ps
-term-found-at t = cycle.and 6 term-found-kinds.ps (cycle.is 6 term-found-kinds.ps μ-term-found t) found-reads.Pre
+abbrev pub term-found-at : ℕ → In 5 term-found-kinds.ps
+term-found-at t = cycle.and 5 term-found-kinds.ps (cycle.is 5 term-found-kinds.ps μ-term-found t) found-reads.Pre
 
-abbrev pub term-found-below : ℕ → In 6 term-found-kinds.ps
-term-found-below t = cycle.and 6 term-found-kinds.ps (cycle.falls 6 term-found-kinds.ps _<_ μ-term-found t) found-reads.Pre
+abbrev pub term-found-below : ℕ → In 5 term-found-kinds.ps
+term-found-below t = cycle.and 5 term-found-kinds.ps (cycle.falls 5 term-found-kinds.ps _<_ μ-term-found t) found-reads.Pre
 
 -- what `term-refer` is given at the measure t, and what a call of it asks below t
-abbrev pub term-refer-at : ℕ → In 6 term-refer-kinds.ps
-term-refer-at t = cycle.and 6 term-refer-kinds.ps (cycle.is 6 term-refer-kinds.ps μ-term-refer t) refer-reads.Pre
+abbrev pub term-refer-at : ℕ → In 5 term-refer-kinds.ps
+term-refer-at t = cycle.and 5 term-refer-kinds.ps (cycle.is 5 term-refer-kinds.ps μ-term-refer t) refer-reads.Pre
 
-abbrev pub term-refer-below : ℕ → In 6 term-refer-kinds.ps
-term-refer-below t = cycle.and 6 term-refer-kinds.ps (cycle.falls 6 term-refer-kinds.ps _<_ μ-term-refer t) refer-reads.Pre
+abbrev pub term-refer-below : ℕ → In 5 term-refer-kinds.ps
+term-refer-below t = cycle.and 5 term-refer-kinds.ps (cycle.falls 5 term-refer-kinds.ps _<_ μ-term-refer t) refer-reads.Pre
 
 abbrev pub call-function-claims : ℕ → call-function-lts.Claims
 call-function-claims t = (read-str-reads.Asked, read-str-reads.Learnt, call-positional-below t, positional-reads.Post, read-u16-reads.Asked, read-u16-reads.Learnt, resolve-named-reads.Asked, resolve-named-reads.Learnt, answer-reads.Asked, answer-reads.Learnt)
@@ -236,7 +235,7 @@ abbrev pub inline-as-text-claims : ℕ → inline-as-text-lts.Claims
 inline-as-text-claims t = (set-aside-reads.Asked, set-aside-reads.Learnt, inline-write-below t, inline-write-reads.Post, in-order-reads.Asked, in-order-reads.Learnt, move-back-reads.Asked, move-back-reads.Learnt, set-kept-reads.Asked, set-kept-reads.Learnt)
 
 abbrev pub inline-message-claims : ℕ → inline-message-lts.Claims
-inline-message-claims t = (message-target-reads.Asked, message-target-reads.Learnt, pattern-track-below t, track-reads.Post, list-no-value-reads.Asked, list-no-value-reads.Learnt, put-error-reads.Asked, put-error-reads.Learnt, count-if-reads.Asked, count-if-reads.Learnt, ref-error-reads.Asked, ref-error-reads.Learnt)
+inline-message-claims t = (target-of-reads.Asked, target-of-reads.Learnt, pattern-track-below t, track-reads.Post, list-no-value-reads.Asked, list-no-value-reads.Learnt, put-error-reads.Asked, put-error-reads.Learnt, count-if-reads.Asked, count-if-reads.Learnt, ref-error-reads.Asked, ref-error-reads.Learnt)
 
 abbrev pub inline-resolve-claims : ℕ → inline-resolve-lts.Claims
 inline-resolve-claims t = (read-byte-reads.Asked, read-byte-reads.Learnt, gives-text-reads.Asked, gives-text-reads.Learnt, inline-as-text-below t, as-text-reads.Post, read-str-reads.Asked, read-str-reads.Learnt, literal-string-reads.Asked, literal-string-reads.Learnt, literal-number-reads.Asked, literal-number-reads.Learnt, resolve-variable-reads.Asked, resolve-variable-reads.Learnt, call-function-below t, function-reads.Post)
@@ -245,7 +244,7 @@ abbrev pub inline-write-claims : ℕ → inline-write-lts.Claims
 inline-write-claims t = (read-byte-reads.Asked, read-byte-reads.Learnt, expression-write-below t, write-reads.Post, inline-message-below t, message-reads.Post, term-refer-below t, refer-reads.Post, read-str-reads.Asked, read-str-reads.Learnt, put-literal-reads.Asked, put-literal-reads.Learnt, literal-number-reads.Asked, literal-number-reads.Learnt, put-value-reads.Asked, put-value-reads.Learnt, write-variable-reads.Asked, write-variable-reads.Learnt, call-function-below t, function-reads.Post, write-result-reads.Asked, write-result-reads.Learnt)
 
 abbrev pub pattern-element-claims : ℕ → pattern-element-lts.Claims
-pattern-element-claims t = (read-byte-reads.Asked, read-byte-reads.Learnt, read-str-reads.Asked, read-str-reads.Learnt, put-reads.Asked, put-reads.Learnt, may-begin-reads.Asked, may-begin-reads.Learnt, too-many-reads.Asked, too-many-reads.Learnt, begin-reads.Asked, begin-reads.Learnt, has-marks-reads.Asked, has-marks-reads.Learnt, put-fsi-reads.Asked, put-fsi-reads.Learnt, expression-write-below t, write-reads.Post, put-cut-reads.Asked, put-cut-reads.Learnt, put-pdi-reads.Asked, put-pdi-reads.Learnt)
+pattern-element-claims t = (read-byte-reads.Asked, read-byte-reads.Learnt, read-str-reads.Asked, read-str-reads.Learnt, put-reads.Asked, put-reads.Learnt, may-begin-reads.Asked, may-begin-reads.Learnt, list-too-many-reads.Asked, list-too-many-reads.Learnt, begin-reads.Asked, begin-reads.Learnt, has-marks-reads.Asked, has-marks-reads.Learnt, put-fsi-reads.Asked, put-fsi-reads.Learnt, expression-write-below t, write-reads.Post, put-cut-reads.Asked, put-cut-reads.Learnt, put-pdi-reads.Asked, put-pdi-reads.Learnt)
 
 abbrev pub pattern-track-claims : ℕ → pattern-track-lts.Claims
 pattern-track-claims t = (on-trail-reads.Asked, on-trail-reads.Learnt, list-plain-reads.Asked, list-plain-reads.Learnt, put-error-reads.Asked, put-error-reads.Learnt, set-depth-reads.Asked, set-depth-reads.Learnt, pattern-write-below t, pattern-write-reads.Post)
@@ -254,7 +253,7 @@ abbrev pub pattern-write-claims : ℕ → pattern-write-lts.Claims
 pattern-write-claims t = (read-u32-reads.Asked, read-u32-reads.Learnt, read-u16-reads.Asked, read-u16-reads.Learnt, isolates-reads.Asked, isolates-reads.Learnt, pattern-element-below t, element-reads.Post, skip-element-reads.Asked, skip-element-reads.Learnt)
 
 abbrev pub term-found-claims : ℕ → term-found-lts.Claims
-term-found-claims t = (term-target-reads.Asked, term-target-reads.Learnt, pattern-track-below t, track-reads.Post, count-if-reads.Asked, count-if-reads.Learnt, ref-error-reads.Asked, ref-error-reads.Learnt)
+term-found-claims t = (target-of-reads.Asked, target-of-reads.Learnt, pattern-track-below t, track-reads.Post, count-if-reads.Asked, count-if-reads.Learnt, ref-error-reads.Asked, ref-error-reads.Learnt)
 
 abbrev pub term-refer-claims : ℕ → term-refer-lts.Claims
 term-refer-claims t = (tagged-reference-reads.Asked, tagged-reference-reads.Learnt, read-byte-reads.Asked, read-byte-reads.Learnt, set-locals-reads.Asked, set-locals-reads.Learnt, term-found-below t, found-reads.Post, clear-locals-reads.Asked, clear-locals-reads.Learnt, call-positional-below t, positional-reads.Post, read-u16-reads.Asked, read-u16-reads.Learnt, resolve-named-reads.Asked, resolve-named-reads.Learnt, set-back-reads.Asked, set-back-reads.Learnt)

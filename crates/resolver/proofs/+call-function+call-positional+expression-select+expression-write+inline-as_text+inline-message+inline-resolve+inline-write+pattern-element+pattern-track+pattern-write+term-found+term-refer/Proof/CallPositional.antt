@@ -2,7 +2,8 @@
 use Prim.Native.Nat.{_-_, _≤_, ℕ}
 use Rattle.records.proofs.Views.{num-is, num-none}
 use Rattle.resolver.proofs.Calls.{InlinesAt, Taken, inlines-more, inlines-none, inlines-stop, none-yet, positional-all, positional-none, taken-first, taken-later, taken-most}
-use Rattle.scope.specs.Relations.Meets.{World, env, world}
+use Rattle.resolver.specs.Relations.Meets.{World, env, world}
+use Rattle.walks.proofs.Passing.{inline-passed}
 use borrow.Author.Needs.{needs}
 use lib.ListN.{length}
 use mathlib.Core.Logic.{⊎-elim}
@@ -59,7 +60,7 @@ pub same-length-3 : (t : ℕ) → call-positional-lts.Need-same-length-3 (call-p
 same-length-3 t c = c .before .before .before .before .before .before .before .before .before .before .before .resolve .kept .1 .1 .1 .1 .0 ∙ c .before .before .before .before .before .before .before .before .before .before .before .before .before .before .before .before .before .loop .inv .2
 
 pub returns-2 : (t : ℕ) → call-positional-lts.Need-returns-2 (call-positional-claims t) (call-positional-at t) positional-reads.Post Inv-loop μ-loop
-returns-2 t c = positional-all _ _ _ {i = c .before .before .before .before .before .before .before .before .before .before .before .before .before .before .before .before .before .loop .i - 1} {p = 0} (num-is (c .before .before .before .before .before .before .before .before .before .before .before .before .before .before .before .before .before .before .before .before .before .read-u16 .ensures) (c .before .before .before .before .before .before .before .before .before .before .before .before .before .before .before .before .before .before .before .n .given .1)) (λ e. let m = taken-most (c .before .before .before .before .before .before .before .before .before .before .before .before .before .before .before .before .before .loop .inv .4) in omega (arith, c .before .before .before .before .before .before .before .before .before .before .before .before .before .before .before .before .loop-test .taken)) (⊎-elim (λ y. rw (y .1) (taken-first 0 (c .before .before .before .before .before .before .before .before .before .before .before .before .before .before .before .before .loop-test .taken) (y .0 .taken) (c .before .before .before .before .before .before .before .before .before .before .before .before .before .before .before .before .before .loop .inv .4) (c .before .before .before .before .before .before .before .before .before .before .before .resolve .ensures))) (λ y. rw (y .1) (taken-later 0 (c .before .before .before .before .before .before .before .before .before .before .before .before .before .before .before .before .loop-test .taken) (y .0 .left) (c .before .before .before .before .before .before .before .before .before .before .before .before .before .before .before .before .before .loop .inv .4) (c .before .before .before .before .before .before .before .before .before .before .before .resolve .ensures))) (c .before .before .before .if1 .came)) (c .before .before .before .before .before .before .before .before .before .before .before .before .before .before .before .before .before .loop .inv .5 _ _ (inlines-stop _ _ _ _ (c .before .before .before .before .before .before .before .before .before .before .before .before .before .before .before .before .loop-test .taken) (c .before .before .before .before .before .before .before .before .before .before .before .resolve .ensures) (c .before .before .skip-expression .ensures .1) (c .enum-told2 .given .1) _))
+returns-2 t c = positional-all _ _ _ {i = c .before .before .before .before .before .before .before .before .before .before .before .before .before .before .before .before .before .loop .i - 1} {p = 0} (num-is (c .before .before .before .before .before .before .before .before .before .before .before .before .before .before .before .before .before .before .before .before .before .read-u16 .ensures) (c .before .before .before .before .before .before .before .before .before .before .before .before .before .before .before .before .before .before .before .n .given .1)) (λ e. let m = taken-most (c .before .before .before .before .before .before .before .before .before .before .before .before .before .before .before .before .before .loop .inv .4) in omega (arith, c .before .before .before .before .before .before .before .before .before .before .before .before .before .before .before .before .loop-test .taken)) (⊎-elim (λ y. rw (y .1) (taken-first 0 (c .before .before .before .before .before .before .before .before .before .before .before .before .before .before .before .before .loop-test .taken) (y .0 .taken) (c .before .before .before .before .before .before .before .before .before .before .before .before .before .before .before .before .before .loop .inv .4) (c .before .before .before .before .before .before .before .before .before .before .before .resolve .ensures))) (λ y. rw (y .1) (taken-later 0 (c .before .before .before .before .before .before .before .before .before .before .before .before .before .before .before .before .loop-test .taken) (y .0 .left) (c .before .before .before .before .before .before .before .before .before .before .before .before .before .before .before .before .before .loop .inv .4) (c .before .before .before .before .before .before .before .before .before .before .before .resolve .ensures))) (c .before .before .before .if1 .came)) (c .before .before .before .before .before .before .before .before .before .before .before .before .before .before .before .before .before .loop .inv .5 _ _ (inlines-stop _ _ _ _ (c .before .before .before .before .before .before .before .before .before .before .before .before .before .before .before .before .loop-test .taken) (c .before .before .before .before .before .before .before .before .before .before .before .resolve .ensures) (inline-passed _ _ _ (c .before .before .skip-expression .ensures)) (c .enum-told2 .given .1) _))
 
 pub sub-i : (t : ℕ) → call-positional-lts.Need-sub-i (call-positional-claims t) (call-positional-at t) positional-reads.Post Inv-loop μ-loop
 sub-i t c = search needs
@@ -74,7 +75,7 @@ loop-again t c = (
   c .before .before .before .before .before .before .before .before .before .before .before .before .resolve .kept .1 .1 .1 .1 .0 ∙ c .before .before .before .before .before .before .before .before .before .before .before .before .before .before .before .before .before .before .loop .inv .2,
   le-trans (c .before .before .before .before .before .before .before .before .before .before .before .before .before .before .before .before .before .before .loop .inv .3) (c .before .before .before .before .before .before .before .before .before .before .before .before .resolve .ensures .kept .begun),
   ⊎-elim (λ y. rw (y .1) (taken-first _ (c .before .before .before .before .before .before .before .before .before .before .before .before .before .before .before .before .before .loop-test .taken) (y .0 .taken) (c .before .before .before .before .before .before .before .before .before .before .before .before .before .before .before .before .before .before .loop .inv .4) (c .before .before .before .before .before .before .before .before .before .before .before .before .resolve .ensures))) (λ y. rw (y .1) (taken-later _ (c .before .before .before .before .before .before .before .before .before .before .before .before .before .before .before .before .before .loop-test .taken) (y .0 .left) (c .before .before .before .before .before .before .before .before .before .before .before .before .before .before .before .before .before .before .loop .inv .4) (c .before .before .before .before .before .before .before .before .before .before .before .before .resolve .ensures))) (c .before .before .before .before .if1 .came),
-  λ v e h. c .before .before .before .before .before .before .before .before .before .before .before .before .before .before .before .before .before .before .loop .inv .5 v e (inlines-more _ _ _ _ (c .before .before .before .before .before .before .before .before .before .before .before .before .before .before .before .before .before .loop-test .taken) (c .before .before .before .before .before .before .before .before .before .before .before .before .resolve .ensures) (c .before .before .before .skip-expression .ensures .1) (c .before .q .given .1) v e h),
+  λ v e h. c .before .before .before .before .before .before .before .before .before .before .before .before .before .before .before .before .before .before .loop .inv .5 v e (inlines-more _ _ _ _ (c .before .before .before .before .before .before .before .before .before .before .before .before .before .before .before .before .before .loop-test .taken) (c .before .before .before .before .before .before .before .before .before .before .before .before .resolve .ensures) (inline-passed _ _ _ (c .before .before .before .skip-expression .ensures)) (c .before .q .given .1) v e h),
 )
 
 pub same-length-4 : (t : ℕ) → call-positional-lts.Need-same-length-4 (call-positional-claims t) (call-positional-at t) positional-reads.Post Inv-loop μ-loop

@@ -1,8 +1,11 @@
 -- What is left of `expression-select`.
+use Rattle.texts.specs.declared.errors.Plain.the-variants as plain
+use Rattle.resolver.proofs.Single.Acting.{plain-acts}
 use Prim.Native.Nat.{ℕ}
 use Rattle.resolver.proofs.Selects.{select-chosen, select-default, select-never, select-over, select-stopped}
 use Rattle.state.specs.declared.Scope.{Scope}
 use Rattle.texts.specs.Relations.Report.{plainOf}
+use Rattle.walks.proofs.Passing.{inline-passed}
 use borrow.Author.Needs.{needs}
 use mathlib.Core.Path.{_∙_, ap}
 use native.Mathlib.Omega.{arith}
@@ -50,7 +53,7 @@ pub same-length-6 : (t : ℕ) → expression-select-lts.Need-same-length-6 (expr
 same-length-6 t c = search needs
 
 pub returns-3 : (t : ℕ) → expression-select-lts.Need-returns-3 (expression-select-claims t) (expression-select-at t) select-reads.Post
-returns-3 t c = select-never _ _ _ _ _ _ (c .before .before .before .before .before .before .before .before .before .before .before .before .before .resolve .ensures) (c .before .before .before .set-back .ensures) (c .before .before .skip-expression .ensures .1) (c .enum-told .given .1)
+returns-3 t c = select-never _ _ _ _ _ _ (c .before .before .before .before .before .before .before .before .before .before .before .before .before .resolve .ensures) (c .before .before .before .set-back .ensures) (inline-passed _ _ _ (c .before .before .skip-expression .ensures)) (c .enum-told .given .1)
 
 pub choose-requires : (t : ℕ) → expression-select-lts.Need-choose-requires (expression-select-claims t) (expression-select-at t) select-reads.Post
 choose-requires t c κs = search needs
@@ -75,7 +78,7 @@ same-length-9 t c = search needs
 
 pub returns-4 : (t : ℕ) → expression-select-lts.Need-returns-4 (expression-select-claims t) (expression-select-at t) select-reads.Post
 unfolding plainOf
-returns-4 t c = select-default _ _ _ _ _ _ (c .before .before .before .before .before .before .before .before .before .before .before .before .before .before .before .before .before .before .before .before .before .before .resolve .ensures) (c .before .before .before .before .before .before .before .before .before .before .before .before .set-back .ensures) (c .before .before .before .before .before .before .before .before .before .before .before .skip-expression .ensures .1) _ (c .before .before .before .before .before .before .before .before .before .q .given .1) (c .before .before .before .before .before .before .choose .ensures) (c .before .before .before .before .enum-told2 .given .1) (c .before .before .list-plain .ensures _ _ _ _)
+returns-4 t c = select-default _ _ _ _ _ _ (c .before .before .before .before .before .before .before .before .before .before .before .before .before .before .before .before .before .before .before .before .before .before .resolve .ensures) (c .before .before .before .before .before .before .before .before .before .before .before .before .set-back .ensures) (inline-passed _ _ _ (c .before .before .before .before .before .before .before .before .before .before .before .skip-expression .ensures)) _ (c .before .before .before .before .before .before .before .before .before .q .given .1) (c .before .before .before .before .before .before .choose .ensures) (c .before .before .before .before .enum-told2 .given .1) (plain-acts plain.MissingDefault (c .before .before .list-plain .ensures) _ _ _ _)
 
 pub write-requires : (t : ℕ) → expression-select-lts.Need-write-requires (expression-select-claims t) (expression-select-at t) select-reads.Post
 write-requires t c κs = let k = ap (λ (s : Scope). s .begun) (c .before .before .before .before .before .before .before .before .before .before .before .before .before .set-back .ensures) in let j = c .before .before .before .before .before .before .before .before .before .before .before .before .before .before .before .before .before .before .before .before .before .before .before .resolve .ensures .kept .begun in (omega (arith, c .before .before .before .before .before .before .before .before .before .before .before .before .before .before .before .before .before .before .before .before .before .before .before .before .before .before .before .before .before .before .before .before .before .before .before .pre .0), tt)
@@ -90,4 +93,4 @@ pub same-length-12 : (t : ℕ) → expression-select-lts.Need-same-length-12 (ex
 same-length-12 t c = c .before .before .before .before .before .before .write .kept .1 .1 .1 .1 .0 ∙ c .before .before .before .before .before .before .before .before .before .before .before .before .before .before .before .before .before .before .before .before .before .before .before .before .before .before .before .before .before .before .resolve .kept .1 .1 .1 .1 .0
 
 pub returns-5 : (t : ℕ) → expression-select-lts.Need-returns-5 (expression-select-claims t) (expression-select-at t) select-reads.Post
-returns-5 t c = select-chosen _ _ _ _ _ _ (c .before .before .before .before .before .before .before .before .before .before .before .before .before .before .before .before .before .before .before .before .before .before .before .before .before .before .before .before .before .before .resolve .ensures) (c .before .before .before .before .before .before .before .before .before .before .before .before .before .before .before .before .before .before .before .before .set-back .ensures) (c .before .before .before .before .before .before .before .before .before .before .before .before .before .before .before .before .before .before .before .skip-expression .ensures .1) _ (c .before .before .before .before .before .before .before .before .before .before .before .before .before .before .before .before .before .q .given .1) (c .before .before .before .before .before .before .before .before .before .before .before .before .before .before .choose .ensures) (c .before .before .before .before .before .before .before .before .before .before .before .before .to .given .1) (c .before .before .before .before .before .before .write .ensures)
+returns-5 t c = select-chosen _ _ _ _ _ _ (c .before .before .before .before .before .before .before .before .before .before .before .before .before .before .before .before .before .before .before .before .before .before .before .before .before .before .before .before .before .before .resolve .ensures) (c .before .before .before .before .before .before .before .before .before .before .before .before .before .before .before .before .before .before .before .before .set-back .ensures) (inline-passed _ _ _ (c .before .before .before .before .before .before .before .before .before .before .before .before .before .before .before .before .before .before .before .skip-expression .ensures)) _ (c .before .before .before .before .before .before .before .before .before .before .before .before .before .before .before .before .before .q .given .1) (c .before .before .before .before .before .before .before .before .before .before .before .before .before .before .choose .ensures) (c .before .before .before .before .before .before .before .before .before .before .before .before .to .given .1) (c .before .before .before .before .before .before .write .ensures)

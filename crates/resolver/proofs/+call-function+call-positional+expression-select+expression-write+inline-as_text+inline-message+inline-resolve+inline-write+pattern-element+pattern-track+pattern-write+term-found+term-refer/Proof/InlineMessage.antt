@@ -1,4 +1,5 @@
 -- What is left of `inline-message`.
+use Rattle.resolver.proofs.Single.Acting.{no-value-acts}
 use Prim.Native.Nat.{ℕ}
 use Rattle.resolver.proofs.References.{message-over}
 use Rattle.resolver.proofs.Targets.{message-inside, message-listed, message-missed, message-nowhere, message-tracked}
@@ -11,8 +12,8 @@ use Rattle.resolver.proofs.+call-function+call-positional+expression-se
 pub returns : (t : ℕ) → inline-message-lts.Need-returns (inline-message-claims t) (inline-message-at t) message-reads.Post
 returns t c = message-over _ _ _ (c .if1 .taken)
 
-pub message-target-requires : (t : ℕ) → inline-message-lts.Need-message-target-requires (inline-message-claims t) (inline-message-at t) message-reads.Post
-message-target-requires t c κs = search needs
+pub target-of-requires : (t : ℕ) → inline-message-lts.Need-target-of-requires (inline-message-claims t) (inline-message-at t) message-reads.Post
+target-of-requires t c κs = search needs
 
 pub enum-known-q : (t : ℕ) → inline-message-lts.Need-enum-known-q (inline-message-claims t) (inline-message-at t) message-reads.Post
 enum-known-q t c = search needs
@@ -25,17 +26,17 @@ enum-known-from t c = search needs
 
 pub sub-list-no-value : (t : ℕ) → inline-message-lts.Need-sub-list-no-value (inline-message-claims t) (inline-message-at t) message-reads.Post
 sub-list-no-value t c =
-    let inside = message-inside (c .before .before .before .before .message-target .ensures) (c .before .before .from .given .1) in
+    let inside = message-inside (c .before .before .before .before .target-of .ensures) (c .before .before .from .given .1) in
     omega (arith, inside)
 
 pub part-list-no-value-start : (t : ℕ) → inline-message-lts.Need-part-list-no-value-start (inline-message-claims t) (inline-message-at t) message-reads.Post
 part-list-no-value-start t c =
-    let inside = message-inside (c .before .before .before .before .message-target .ensures) (c .before .before .from .given .1) in
+    let inside = message-inside (c .before .before .before .before .target-of .ensures) (c .before .before .from .given .1) in
     omega (arith, inside)
 
 pub part-list-no-value-end : (t : ℕ) → inline-message-lts.Need-part-list-no-value-end (inline-message-claims t) (inline-message-at t) message-reads.Post
 part-list-no-value-end t c =
-    let inside = message-inside (c .before .before .before .before .message-target .ensures) (c .before .before .from .given .1) in
+    let inside = message-inside (c .before .before .before .before .target-of .ensures) (c .before .before .from .given .1) in
     omega (arith, inside)
 
 pub list-no-value-requires : (t : ℕ) → inline-message-lts.Need-list-no-value-requires (inline-message-claims t) (inline-message-at t) message-reads.Post
@@ -66,7 +67,7 @@ pub same-length-3 : (t : ℕ) → inline-message-lts.Need-same-length-3 (inline-
 same-length-3 t c = search needs
 
 pub returns-2 : (t : ℕ) → inline-message-lts.Need-returns-2 (inline-message-claims t) (inline-message-at t) message-reads.Post
-returns-2 t c = message-tracked (c .before .before .before .before .before .before .before .before .before .before .before .before .before .before .message-target .ensures) (c .before .before .before .before .before .before .before .before .before .before .before .before .q .given .1) _ (c .before .before .before .before .before .before .track .ensures)
+returns-2 t c = message-tracked (c .before .before .before .before .before .before .before .before .before .before .before .before .before .before .target-of .ensures) (c .before .before .before .before .before .before .before .before .before .before .before .before .q .given .1) _ (c .before .before .before .before .before .before .track .ensures)
 
 pub same-length-4 : (t : ℕ) → inline-message-lts.Need-same-length-4 (inline-message-claims t) (inline-message-at t) message-reads.Post
 same-length-4 t c = search needs
@@ -78,7 +79,7 @@ pub same-length-6 : (t : ℕ) → inline-message-lts.Need-same-length-6 (inline-
 same-length-6 t c = search needs
 
 pub returns-3 : (t : ℕ) → inline-message-lts.Need-returns-3 (inline-message-claims t) (inline-message-at t) message-reads.Post
-returns-3 t c = message-listed (c .before .before .before .before .before .before .before .before .before .before .before .before .before .before .before .message-target .ensures) (c .before .before .before .before .before .before .before .before .before .before .before .before .before .from .given .1) _ _ (c .before .before .before .before .before .before .before .before .before .list-no-value .ensures) (c .before .before .before .before .put-error .ensures)
+returns-3 t c = message-listed (c .before .before .before .before .before .before .before .before .before .before .before .before .before .before .before .target-of .ensures) (c .before .before .before .before .before .before .before .before .before .before .before .before .before .from .given .1) _ _ (no-value-acts _ (c .before .before .before .before .before .before .before .before .before .list-no-value .ensures)) (c .before .before .before .before .put-error .ensures)
 
 pub same-length-7 : (t : ℕ) → inline-message-lts.Need-same-length-7 (inline-message-claims t) (inline-message-at t) message-reads.Post
 same-length-7 t c = search needs
@@ -90,7 +91,7 @@ pub same-length-9 : (t : ℕ) → inline-message-lts.Need-same-length-9 (inline-
 same-length-9 t c = search needs
 
 pub returns-4 : (t : ℕ) → inline-message-lts.Need-returns-4 (inline-message-claims t) (inline-message-at t) message-reads.Post
-returns-4 t c = message-missed (c .before .before .before .before .before .before .before .before .before .before .before .before .before .before .message-target .ensures) (c .before .before .before .before .before .before .before .before .before .before .before .before .lost .given .1) _ _ (c .before .before .before .before .before .before .before .before .before .before .count-if .ensures) (c .before .before .before .before .before .before .ref-error .ensures)
+returns-4 t c = message-missed (c .before .before .before .before .before .before .before .before .before .before .before .before .before .before .target-of .ensures) (c .before .before .before .before .before .before .before .before .before .before .before .before .lost .given .1) _ _ (c .before .before .before .before .before .before .before .before .before .before .count-if .ensures) (c .before .before .before .before .before .before .ref-error .ensures)
 
 pub returns-5 : (t : ℕ) → inline-message-lts.Need-returns-5 (inline-message-claims t) (inline-message-at t) message-reads.Post
-returns-5 t c = message-nowhere (c .before .before .message-target .ensures) (c .enum-told .given .1) _ _
+returns-5 t c = message-nowhere (c .before .before .target-of .ensures) (c .enum-told .given .1) _ _

@@ -4,6 +4,7 @@ use Rattle.heads.proofs.Heads.{no-text-tag}
 use Rattle.records.proofs.Laws.{str-in}
 use Rattle.records.proofs.Views.{num-is, num-none, str-bad, str-is}
 use Rattle.resolver.proofs.Values.{value-deep, value-function, value-none, value-number, value-of-text, value-over, value-string, value-variable, value-worse}
+use Rattle.resolver.proofs.Single.Named.{literal-number-is}
 use borrow.Author.Needs.{needs}
 use mathlib.Core.Path.{_∙_, sym}
 use native.Mathlib.Omega.{arith}
@@ -83,7 +84,7 @@ pub returns-7 : (t : ℕ) → inline-resolve-lts.Need-returns-7 (inline-resolve-
 returns-7 t c =
     let tag-is = num-is (c .before .before .before .before .before .before .before .before .before .before .before .before .read-byte .ensures) (c .before .before .before .before .before .before .before .before .before .before .tag .given .1) in
     let str-inside = str-in _ _ (c .before .before .before .before .before .before .read-str .ensures) (c .before .before .before .before .a .given .1) in
-    value-number _ _ _ _ _ tag-is (str-is _ _ (c .before .before .before .before .before .before .read-str .ensures) (c .before .before .before .before .a .given .1)) (str-inside .0) (str-inside .1) _ (c .before .if5 .taken) (c .literal-number .ensures)
+    value-number _ _ _ _ _ tag-is (str-is _ _ (c .before .before .before .before .before .before .read-str .ensures) (c .before .before .before .before .a .given .1)) (str-inside .0) (str-inside .1) _ (c .before .if5 .taken) (literal-number-is _ _ _ (c .literal-number .ensures))
 
 pub resolve-variable-requires : (t : ℕ) → inline-resolve-lts.Need-resolve-variable-requires (inline-resolve-claims t) (inline-resolve-at t) resolve-reads.Post
 resolve-variable-requires t c κs = search needs

@@ -1,8 +1,10 @@
 -- What is left of `inline-write`.
+use Rattle.resolver.proofs.Single.Acting.{value-acts, written-acts}
 use Prim.Native.Nat.{ℕ}
 use Rattle.records.proofs.Laws.{str-in}
 use Rattle.records.proofs.Views.{num-is, num-none, str-bad}
 use Rattle.resolver.proofs.Inlines.{inline-deep, inline-function, inline-message, inline-nested, inline-none, inline-number, inline-over, inline-string, inline-term, inline-variable, inline-worse}
+use Rattle.resolver.proofs.Single.Named.{literal-number-is}
 use borrow.Author.Needs.{needs}
 use native.Mathlib.Omega.{arith}
 use Rattle.resolver.proofs.inline.write.Reads as inline-write-reads
@@ -125,7 +127,7 @@ same-length-11 t c = search needs
 pub returns-8 : (t : ℕ) → inline-write-lts.Need-returns-8 (inline-write-claims t) (inline-write-at t) inline-write-reads.Post
 returns-8 t c =
     let tag-is = num-is (c .before .before .before .before .before .before .before .before .before .before .before .before .before .before .before .before .before .before .before .read-byte .ensures) (c .before .before .before .before .before .before .before .before .before .before .before .before .before .before .before .before .before .tag .given .1) in
-    inline-string _ _ _ _ _ tag-is (c .before .before .before .before .before .before .before .before .before .before .before .before .read-str .ensures) (c .before .before .before .before .before .before .before .before .before .before .a .given .1) (c .before .before .before .before .before .before .before .before .if6 .taken) (c .before .before .before .before .put-literal .ensures _ _ _)
+    inline-string _ _ _ _ _ tag-is (c .before .before .before .before .before .before .before .before .before .before .before .before .read-str .ensures) (c .before .before .before .before .before .before .before .before .before .before .a .given .1) (c .before .before .before .before .before .before .before .before .if6 .taken) (written-acts _ (c .before .before .before .before .put-literal .ensures) _ _ _)
 
 pub literal-number-requires : (t : ℕ) → inline-write-lts.Need-literal-number-requires (inline-write-claims t) (inline-write-at t) inline-write-reads.Post
 literal-number-requires t c κs = search needs
@@ -142,7 +144,7 @@ same-length-13 t c = search needs
 pub returns-9 : (t : ℕ) → inline-write-lts.Need-returns-9 (inline-write-claims t) (inline-write-at t) inline-write-reads.Post
 returns-9 t c =
     let tag-is = num-is (c .before .before .before .before .before .before .before .before .before .before .before .before .before .before .before .before .before .before .before .before .read-byte .ensures) (c .before .before .before .before .before .before .before .before .before .before .before .before .before .before .before .before .before .before .tag .given .1) in
-    inline-number _ _ _ _ _ tag-is (c .before .before .before .before .before .before .before .before .before .before .before .before .before .read-str .ensures) (c .before .before .before .before .before .before .before .before .before .before .before .a .given .1) (c .before .before .before .before .before .before .before .before .if7 .taken) (c .before .before .before .before .before .literal-number .ensures) (c .before .before .before .before .put-value .ensures .0 _ _) (λ x h. c .before .before .before .before .put-value .ensures .1 x h _ _)
+    inline-number _ _ _ _ _ tag-is (c .before .before .before .before .before .before .before .before .before .before .before .before .before .read-str .ensures) (c .before .before .before .before .before .before .before .before .before .before .before .a .given .1) (c .before .before .before .before .before .before .before .before .if7 .taken) (literal-number-is _ _ _ (c .before .before .before .before .before .literal-number .ensures)) (value-acts _ _ _ (c .before .before .before .before .put-value .ensures) .0 _ _) (λ x h. value-acts _ _ _ (c .before .before .before .before .put-value .ensures) .1 x h _ _)
 
 pub write-variable-requires : (t : ℕ) → inline-write-lts.Need-write-variable-requires (inline-write-claims t) (inline-write-at t) inline-write-reads.Post
 write-variable-requires t c κs = search needs

@@ -1,10 +1,12 @@
 -- What is left of `pattern-element`.
+use Rattle.resolver.proofs.Single.Acting.{fsi-acts, pdi-acts, too-many-acts, written-acts}
 use Prim.Native.Nat.{ℕ}
 use Rattle.records.proofs.Laws.{str-in}
 use Rattle.records.proofs.Views.{num-is, num-none, str-bad, str-is}
 use Rattle.resolver.proofs.Elements.{element-dirty, element-far, element-full, element-none, element-over, element-placeable, element-text, element-text-none}
-use Rattle.state.proofs.Laws.{begin-may, begin-not}
+use Rattle.state.proofs.Laws.{begin-may, begin-not, begin-one}
 use Rattle.state.specs.declared.Scope.{Scope}
+use Rattle.heads.proofs.Heads.{marks-are}
 use borrow.Author.Needs.{needs}
 use borrow.Author.Tests.{not-false, not-true}
 use mathlib.Core.List.{[]}
@@ -73,7 +75,7 @@ same-length-2 t c = search needs
 pub returns-5 : (t : ℕ) → pattern-element-lts.Need-returns-5 (pattern-element-claims t) (pattern-element-at t) element-reads.Post
 returns-5 t c =
     let tag-is = num-is (c .before .before .before .before .before .before .before .before .before .before .before .before .before .before .before .before .read-byte .ensures) (c .before .before .before .before .before .before .before .before .before .before .before .before .before .before .tag .given .1) in
-    element-text _ _ _ _ _ _ tag-is (c .before .before .before .before .before .before .before .before .before .before .before .before .if3 .taken) (str-is _ _ (c .before .before .before .before .before .before .before .before .before .before .before .read-str .ensures) (c .before .before .before .before .before .before .before .before .before .a .given .1)) (c .before .before .before .before .before .before .before .before .before .before .before .before .before .before .before .before .before .if2 .left) (c .before .before .before .before .put .ensures _ _ _)
+    element-text _ _ _ _ _ _ tag-is (c .before .before .before .before .before .before .before .before .before .before .before .before .if3 .taken) (str-is _ _ (c .before .before .before .before .before .before .before .before .before .before .before .read-str .ensures) (c .before .before .before .before .before .before .before .before .before .a .given .1)) (c .before .before .before .before .before .before .before .before .before .before .before .before .before .before .before .before .before .if2 .left) (written-acts _ (c .before .before .before .before .put .ensures) _ _ _)
 
 pub may-begin-requires : (t : ℕ) → pattern-element-lts.Need-may-begin-requires (pattern-element-claims t) (pattern-element-at t) element-reads.Post
 may-begin-requires t c κs = search needs
@@ -83,8 +85,8 @@ returns-6 t c =
     let tag-is = num-is (c .before .before .before .before .before .before .before .before .read-byte .ensures) (c .before .before .before .before .before .before .tag .given .1) in
     element-far _ _ _ _ _ _ tag-is _ (c .before .before .before .before .before .before .before .before .before .if2 .left) (c .if5 .taken)
 
-pub too-many-requires : (t : ℕ) → pattern-element-lts.Need-too-many-requires (pattern-element-claims t) (pattern-element-at t) element-reads.Post
-too-many-requires t c κs = search needs
+pub list-too-many-requires : (t : ℕ) → pattern-element-lts.Need-list-too-many-requires (pattern-element-claims t) (pattern-element-at t) element-reads.Post
+list-too-many-requires t c κs = search needs
 
 pub same-length-3 : (t : ℕ) → pattern-element-lts.Need-same-length-3 (pattern-element-claims t) (pattern-element-at t) element-reads.Post
 same-length-3 t c = search needs
@@ -92,10 +94,10 @@ same-length-3 t c = search needs
 pub returns-7 : (t : ℕ) → pattern-element-lts.Need-returns-7 (pattern-element-claims t) (pattern-element-at t) element-reads.Post
 returns-7 t c =
     let tag-is = num-is (c .before .before .before .before .before .before .before .before .before .before .before .before .read-byte .ensures) (c .before .before .before .before .before .before .before .before .before .before .tag .given .1) in
-    element-full _ _ _ _ _ _ tag-is _ _ _ _ _ (c .before .before .before .before .before .before .before .before .if3 .left) (c .before .before .before .before .before .before .before .before .before .before .before .before .before .before .if1 .left) (c .before .before .before .before .before .before .before .before .before .before .before .before .before .if2 .left) (let n = begin-not (c .before .before .before .before .before .before .before .before .before .before .before .before .before .before .before .before .before .before .before .before .before .args .st) (sym (c .before .before .before .before .before .before .before .may-begin .ensures) ∙ not-true _ (c .before .before .before .before .before .before .if4 .taken)) in omega (arith, n, c .before .before .before .before .if5 .left)) (c .before .before .too-many .ensures)
+    element-full _ _ _ _ _ _ tag-is _ _ _ _ _ (c .before .before .before .before .before .before .before .before .if3 .left) (c .before .before .before .before .before .before .before .before .before .before .before .before .before .before .if1 .left) (c .before .before .before .before .before .before .before .before .before .before .before .before .before .if2 .left) (let n = begin-not (c .before .before .before .before .before .before .before .before .before .before .before .before .before .before .before .before .before .before .before .before .before .args .st) (sym (c .before .before .before .before .before .before .before .may-begin .ensures) ∙ not-true _ (c .before .before .before .before .before .before .if4 .taken)) in omega (arith, n, c .before .before .before .before .if5 .left)) (too-many-acts (c .before .before .list-too-many .ensures))
 
 pub begin-requires : (t : ℕ) → pattern-element-lts.Need-begin-requires (pattern-element-claims t) (pattern-element-at t) element-reads.Post
-begin-requires t c κs = begin-may (c .before .before .before .before .before .before .before .before .before .before .before .before .before .before .before .args .st) (sym (c .before .may-begin .ensures) ∙ not-false _ (c .if4 .left))
+begin-requires t c κs = search needs
 
 pub has-marks-requires : (t : ℕ) → pattern-element-lts.Need-has-marks-requires (pattern-element-claims t) (pattern-element-at t) element-reads.Post
 has-marks-requires t c κs = search needs
@@ -104,7 +106,7 @@ pub put-fsi-requires : (t : ℕ) → pattern-element-lts.Need-put-fsi-requires (
 put-fsi-requires t c κs = search needs
 
 pub write-requires : (t : ℕ) → pattern-element-lts.Need-write-requires (pattern-element-claims t) (pattern-element-at t) element-reads.Post
-write-requires t c κs = let k = ap (λ (s : Scope). s .begun) (c .before .before .before .before .before .before .before .before .before .before .before .before .begin .ensures) in let j = c .before .before .before .before .before .before .before .before .put-fsi .ensures [] [] [] .kept .begun in let b = begin-may (c .before .before .before .before .before .before .before .before .before .before .before .before .before .before .before .before .before .before .before .before .before .before .before .before .before .before .before .before .args .st) (sym (c .before .before .before .before .before .before .before .before .before .before .before .before .before .before .may-begin .ensures) ∙ not-false _ (c .before .before .before .before .before .before .before .before .before .before .before .before .before .if4 .left)) in (omega (arith, c .before .before .before .before .before .before .before .before .before .before .before .before .before .before .before .before .before .before .before .before .before .before .before .before .before .before .before .before .pre .0, b), tt)
+write-requires t c κs = let k = ap (λ (s : Scope). s .begun) (c .before .before .before .before .before .before .before .before .before .before .before .before .begin .ensures ∙ begin-one (c .before .before .before .before .before .before .before .before .before .before .before .before .before .before .before .before .before .before .before .before .before .before .before .before .before .before .before .before .args .st) (sym (c .before .before .before .before .before .before .before .before .before .before .before .before .before .before .may-begin .ensures) ∙ not-false _ (c .before .before .before .before .before .before .before .before .before .before .before .before .before .if4 .left))) in let j = fsi-acts _ (c .before .before .before .before .before .before .before .before .put-fsi .ensures) [] [] [] .kept .begun in let b = begin-may (c .before .before .before .before .before .before .before .before .before .before .before .before .before .before .before .before .before .before .before .before .before .before .before .before .before .before .before .before .args .st) (sym (c .before .before .before .before .before .before .before .before .before .before .before .before .before .before .may-begin .ensures) ∙ not-false _ (c .before .before .before .before .before .before .before .before .before .before .before .before .before .if4 .left)) in (omega (arith, c .before .before .before .before .before .before .before .before .before .before .before .before .before .before .before .before .before .before .before .before .before .before .before .before .before .before .before .before .pre .0, b), tt)
 
 pub put-cut-requires : (t : ℕ) → pattern-element-lts.Need-put-cut-requires (pattern-element-claims t) (pattern-element-at t) element-reads.Post
 put-cut-requires t c κs = search needs
@@ -124,4 +126,4 @@ same-length-6 t c = c .before .before .before .before .put-pdi .kept .1 .0 ∙ c
 pub returns-8 : (t : ℕ) → pattern-element-lts.Need-returns-8 (pattern-element-claims t) (pattern-element-at t) element-reads.Post
 returns-8 t c =
     let tag-is = num-is (c .before .before .before .before .before .before .before .before .before .before .before .before .before .before .before .before .before .before .before .before .before .before .before .before .before .before .before .before .before .before .before .before .before .before .before .before .before .before .before .before .read-byte .ensures) (c .before .before .before .before .before .before .before .before .before .before .before .before .before .before .before .before .before .before .before .before .before .before .before .before .before .before .before .before .before .before .before .before .before .before .before .before .before .before .tag .given .1) in
-    element-placeable _ _ _ _ _ _ tag-is _ _ _ _ _ (c .before .before .before .before .before .before .before .before .before .before .before .before .before .before .before .before .before .before .before .before .before .before .before .before .before .before .before .before .before .before .before .before .before .before .before .before .if3 .left) (c .before .before .before .before .before .before .before .before .before .before .before .before .before .before .before .before .before .before .before .before .before .before .before .before .before .before .before .before .before .before .before .before .before .before .before .before .before .before .before .before .before .before .if1 .left) (c .before .before .before .before .before .before .before .before .before .before .before .before .before .before .before .before .before .before .before .before .before .before .before .before .before .before .before .before .before .before .before .before .before .before .before .before .before .before .before .before .before .if2 .left) (begin-may (c .before .before .before .before .before .before .before .before .before .before .before .before .before .before .before .before .before .before .before .before .before .before .before .before .before .before .before .before .before .before .before .before .before .before .before .before .before .before .before .before .before .before .before .before .before .before .before .before .before .args .st) (sym (c .before .before .before .before .before .before .before .before .before .before .before .before .before .before .before .before .before .before .before .before .before .before .before .before .before .before .before .before .before .before .before .before .before .before .before .may-begin .ensures) ∙ not-false _ (c .before .before .before .before .before .before .before .before .before .before .before .before .before .before .before .before .before .before .before .before .before .before .before .before .before .before .before .before .before .before .before .before .before .before .if4 .left))) (c .before .before .before .before .before .before .before .before .before .before .before .before .before .before .before .before .before .before .before .before .before .before .before .before .before .before .before .before .before .before .before .before .before .begin .ensures) (c .before .before .before .before .before .before .before .before .before .before .before .before .before .before .before .before .before .before .before .before .before .before .before .before .before .before .before .before .before .before .before .before .has-marks .ensures) (c .before .before .before .before .before .before .before .before .before .before .before .before .before .before .before .before .before .before .before .before .before .before .before .before .before .before .before .before .before .put-fsi .ensures _ _ _) (c .before .before .before .before .before .before .before .before .before .before .before .before .before .before .before .before .before .before .before .before .write .ensures) (c .before .before .before .before .before .before .before .before .before .before .before .put-cut .ensures) (c .before .before .before .before .put-pdi .ensures _ _ _)
+    element-placeable _ _ _ _ _ _ tag-is _ _ _ _ _ (c .before .before .before .before .before .before .before .before .before .before .before .before .before .before .before .before .before .before .before .before .before .before .before .before .before .before .before .before .before .before .before .before .before .before .before .before .if3 .left) (c .before .before .before .before .before .before .before .before .before .before .before .before .before .before .before .before .before .before .before .before .before .before .before .before .before .before .before .before .before .before .before .before .before .before .before .before .before .before .before .before .before .before .if1 .left) (c .before .before .before .before .before .before .before .before .before .before .before .before .before .before .before .before .before .before .before .before .before .before .before .before .before .before .before .before .before .before .before .before .before .before .before .before .before .before .before .before .before .if2 .left) (begin-may (c .before .before .before .before .before .before .before .before .before .before .before .before .before .before .before .before .before .before .before .before .before .before .before .before .before .before .before .before .before .before .before .before .before .before .before .before .before .before .before .before .before .before .before .before .before .before .before .before .before .args .st) (sym (c .before .before .before .before .before .before .before .before .before .before .before .before .before .before .before .before .before .before .before .before .before .before .before .before .before .before .before .before .before .before .before .before .before .before .before .may-begin .ensures) ∙ not-false _ (c .before .before .before .before .before .before .before .before .before .before .before .before .before .before .before .before .before .before .before .before .before .before .before .before .before .before .before .before .before .before .before .before .before .before .if4 .left))) (c .before .before .before .before .before .before .before .before .before .before .before .before .before .before .before .before .before .before .before .before .before .before .before .before .before .before .before .before .before .before .before .before .before .begin .ensures ∙ begin-one (c .before .before .before .before .before .before .before .before .before .before .before .before .before .before .before .before .before .before .before .before .before .before .before .before .before .before .before .before .before .before .before .before .before .before .before .before .before .before .before .before .before .before .before .before .before .before .before .before .before .args .st) (sym (c .before .before .before .before .before .before .before .before .before .before .before .before .before .before .before .before .before .before .before .before .before .before .before .before .before .before .before .before .before .before .before .before .before .before .before .may-begin .ensures) ∙ not-false _ (c .before .before .before .before .before .before .before .before .before .before .before .before .before .before .before .before .before .before .before .before .before .before .before .before .before .before .before .before .before .before .before .before .before .before .if4 .left))) (marks-are _ _ _ (c .before .before .before .before .before .before .before .before .before .before .before .before .before .before .before .before .before .before .before .before .before .before .before .before .before .before .before .before .before .before .before .before .has-marks .ensures)) (fsi-acts _ (c .before .before .before .before .before .before .before .before .before .before .before .before .before .before .before .before .before .before .before .before .before .before .before .before .before .before .before .before .before .put-fsi .ensures) _ _ _) (c .before .before .before .before .before .before .before .before .before .before .before .before .before .before .before .before .before .before .before .before .write .ensures) (c .before .before .before .before .before .before .before .before .before .before .before .put-cut .ensures) (pdi-acts _ (c .before .before .before .before .put-pdi .ensures) _ _ _)

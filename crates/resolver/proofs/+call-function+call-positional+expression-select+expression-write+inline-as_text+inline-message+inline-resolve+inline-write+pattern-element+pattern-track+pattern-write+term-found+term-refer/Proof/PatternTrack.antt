@@ -1,7 +1,9 @@
 -- What is left of `pattern-track`.
+use Rattle.resolver.proofs.Single.Acting.{plain-acts}
 use Prim.Native.Nat.{ℕ}
 use Rattle.resolver.proofs.Tracks.{track-cross, track-cyclic, track-far, track-over}
 use Rattle.state.specs.declared.Scope.{Scope}
+use Rattle.trail.proofs.Trail.{trail-within}
 use borrow.Author.Needs.{needs}
 use mathlib.Core.Path.{ap}
 use native.Mathlib.Omega.{arith}
@@ -34,7 +36,7 @@ pub same-length-3 : (t : ℕ) → pattern-track-lts.Need-same-length-3 (pattern-
 same-length-3 t c = search needs
 
 pub returns-3 : (t : ℕ) → pattern-track-lts.Need-returns-3 (pattern-track-claims t) (pattern-track-at t) track-reads.Post
-returns-3 t c = track-cyclic _ _ _ _ _ _ _ _ _ (c .before .before .before .before .before .before .before .before .before .before .before .before .on-trail .ensures) (c .before .before .before .before .before .before .before .before .before .before .before .if3 .taken) (c .before .before .before .before .before .before .before .before .before .list-plain .ensures) (c .before .before .before .before .put-error .ensures)
+returns-3 t c = track-cyclic _ _ _ _ _ _ _ _ _ (trail-within _ _ _ _ (omega (arith, c .before .before .before .before .before .before .before .before .before .before .before .before .before .before .if2 .left)) (c .before .before .before .before .before .before .before .before .before .before .before .before .on-trail .ensures)) (c .before .before .before .before .before .before .before .before .before .before .before .if3 .taken) (plain-acts _ (c .before .before .before .before .before .before .before .before .before .list-plain .ensures)) (c .before .before .before .before .put-error .ensures)
 
 pub mul-trail : (t : ℕ) → pattern-track-lts.Need-mul-trail (pattern-track-claims t) (pattern-track-at t) track-reads.Post
 mul-trail t c = search needs
@@ -64,4 +66,4 @@ pub same-length-6 : (t : ℕ) → pattern-track-lts.Need-same-length-6 (pattern-
 same-length-6 t c = search needs
 
 pub returns-4 : (t : ℕ) → pattern-track-lts.Need-returns-4 (pattern-track-claims t) (pattern-track-at t) track-reads.Post
-returns-4 t c = track-cross _ _ _ _ _ _ _ _ _ (c .before .before .before .before .before .before .before .before .before .before .before .before .before .before .on-trail .ensures) (c .before .before .before .before .before .before .before .before .before .before .before .before .before .before .before .before .before .if1 .left) (c .before .before .before .before .before .before .before .before .before .before .before .before .before .if3 .left) (c .before .before .before .before .before .before .before .before .before .before .before .before .before .before .before .before .if2 .left) (c .before .before .before .before .before .before .before .before .before .before .before .before .set-depth .ensures) (c .before .before .before .before .before .before .before .write .ensures) (c .set-depth2 .ensures)
+returns-4 t c = track-cross _ _ _ _ _ _ _ _ _ (trail-within _ _ _ _ (omega (arith, c .before .before .before .before .before .before .before .before .before .before .before .before .before .before .before .before .if2 .left)) (c .before .before .before .before .before .before .before .before .before .before .before .before .before .before .on-trail .ensures)) (c .before .before .before .before .before .before .before .before .before .before .before .before .before .before .before .before .before .if1 .left) (c .before .before .before .before .before .before .before .before .before .before .before .before .before .if3 .left) (c .before .before .before .before .before .before .before .before .before .before .before .before .before .before .before .before .if2 .left) (c .before .before .before .before .before .before .before .before .before .before .before .before .set-depth .ensures) (c .before .before .before .before .before .before .before .write .ensures) (c .set-depth2 .ensures)

@@ -2,8 +2,10 @@
 use Prim.Native.Nat.{_≤_, ℕ}
 use Rattle.records.proofs.Views.{num-is, num-none}
 use Rattle.resolver.proofs.Elements.{elements-more, elements-none, elements-stop, pattern-all, pattern-none, pattern-worse}
-use Rattle.scope.specs.Relations.Meets.{World, env, world}
-use Rattle.scope.specs.Relations.Members.{ElementsAt}
+use Rattle.resolver.specs.Relations.Meets.{World, env, world}
+use Rattle.resolver.specs.Relations.Members.{ElementsAt}
+use Rattle.heads.proofs.Heads.{isolating-is}
+use Rattle.walks.proofs.Passing.{element-passed}
 use borrow.Author.Needs.{needs}
 use lib.ListN.{length}
 use mathlib.Core.Path.{_∙_, _≡_, refl}
@@ -73,7 +75,7 @@ pub same-length-3 : (t : ℕ) → pattern-write-lts.Need-same-length-3 (pattern-
 same-length-3 t c = c .before .before .before .before .before .before .before .before .before .element .kept .1 .1 .1 .1 .0 ∙ c .before .before .before .before .before .before .before .before .before .before .before .before .before .before .before .loop .inv .2
 
 pub returns-3 : (t : ℕ) → pattern-write-lts.Need-returns-3 (pattern-write-claims t) (pattern-write-at t) pattern-write-reads.Post Inv-loop μ-loop
-returns-3 t c = pattern-all _ _ _ _ _ _ _ _ (num-is (c .before .before .before .before .before .before .before .before .before .before .before .before .before .before .before .before .before .before .before .before .before .before .before .before .read-u32 .ensures) (c .before .before .before .before .before .before .before .before .before .before .before .before .before .before .before .before .before .before .before .before .before .before .a .given .1)) (num-is (c .before .before .before .before .before .before .before .before .before .before .before .before .before .before .before .before .before .before .before .before .read-u16 .ensures) (c .before .before .before .before .before .before .before .before .before .before .before .before .before .before .before .before .before .before .n .given .1)) (c .before .before .before .before .before .before .before .before .before .before .before .before .before .before .before .before .isolates .ensures) (c .before .before .before .before .before .before .before .before .before .before .before .before .before .before .before .loop .inv .4 _ (elements-stop _ _ _ _ _ (c .before .before .before .before .before .before .before .before .before .before .before .before .before .before .loop-test .taken) (c .before .before .before .before .before .before .before .before .before .element .ensures) (c .before .before .skip-element .ensures) (c .enum-told3 .given .1)))
+returns-3 t c = pattern-all _ _ _ _ _ _ _ _ (num-is (c .before .before .before .before .before .before .before .before .before .before .before .before .before .before .before .before .before .before .before .before .before .before .before .before .read-u32 .ensures) (c .before .before .before .before .before .before .before .before .before .before .before .before .before .before .before .before .before .before .before .before .before .before .a .given .1)) (num-is (c .before .before .before .before .before .before .before .before .before .before .before .before .before .before .before .before .before .before .before .before .read-u16 .ensures) (c .before .before .before .before .before .before .before .before .before .before .before .before .before .before .before .before .before .before .n .given .1)) (isolating-is _ _ (c .before .before .before .before .before .before .before .before .before .before .before .before .before .before .before .before .isolates .ensures)) (c .before .before .before .before .before .before .before .before .before .before .before .before .before .before .before .loop .inv .4 _ (elements-stop _ _ _ _ _ (c .before .before .before .before .before .before .before .before .before .before .before .before .before .before .loop-test .taken) (c .before .before .before .before .before .before .before .before .before .element .ensures) (element-passed _ _ _ (c .before .before .skip-element .ensures)) (c .enum-told3 .given .1)))
 
 pub sub-i : (t : ℕ) → pattern-write-lts.Need-sub-i (pattern-write-claims t) (pattern-write-at t) pattern-write-reads.Post Inv-loop μ-loop
 sub-i t c = search needs
@@ -87,7 +89,7 @@ loop-again t c = (
   c .before .before .before .before .before .before .before .before .before .before .element .kept .1 .1 .1 .0 ∙ c .before .before .before .before .before .before .before .before .before .before .before .before .before .before .before .before .loop .inv .1,
   c .before .before .before .before .before .before .before .before .before .before .element .kept .1 .1 .1 .1 .0 ∙ c .before .before .before .before .before .before .before .before .before .before .before .before .before .before .before .before .loop .inv .2,
   le-trans (c .before .before .before .before .before .before .before .before .before .before .before .before .before .before .before .before .loop .inv .3) (c .before .before .before .before .before .before .before .before .before .before .element .ensures .kept .begun),
-  λ v h. c .before .before .before .before .before .before .before .before .before .before .before .before .before .before .before .before .loop .inv .4 v (elements-more _ _ _ _ _ (c .before .before .before .before .before .before .before .before .before .before .before .before .before .before .before .loop-test .taken) (c .before .before .before .before .before .before .before .before .before .before .element .ensures) (c .before .before .before .skip-element .ensures) (c .before .q .given .1) v h),
+  λ v h. c .before .before .before .before .before .before .before .before .before .before .before .before .before .before .before .before .loop .inv .4 v (elements-more _ _ _ _ _ (c .before .before .before .before .before .before .before .before .before .before .before .before .before .before .before .loop-test .taken) (c .before .before .before .before .before .before .before .before .before .before .element .ensures) (element-passed _ _ _ (c .before .before .before .skip-element .ensures)) (c .before .q .given .1) v h),
 )
 
 pub same-length-4 : (t : ℕ) → pattern-write-lts.Need-same-length-4 (pattern-write-claims t) (pattern-write-at t) pattern-write-reads.Post Inv-loop μ-loop
@@ -100,4 +102,4 @@ pub same-length-6 : (t : ℕ) → pattern-write-lts.Need-same-length-6 (pattern-
 same-length-6 t c = c .before .loop .inv .2
 
 pub returns-4 : (t : ℕ) → pattern-write-lts.Need-returns-4 (pattern-write-claims t) (pattern-write-at t) pattern-write-reads.Post Inv-loop μ-loop
-returns-4 t c = pattern-all _ _ _ _ _ _ _ _ (num-is (c .before .before .before .before .before .before .before .before .before .before .read-u32 .ensures) (c .before .before .before .before .before .before .before .before .a .given .1)) (num-is (c .before .before .before .before .before .before .read-u16 .ensures) (c .before .before .before .before .n .given .1)) (c .before .before .isolates .ensures) (c .before .loop .inv .4 _ (elements-none _ _ _ _ _ _ (c .loop-test .left)))
+returns-4 t c = pattern-all _ _ _ _ _ _ _ _ (num-is (c .before .before .before .before .before .before .before .before .before .before .read-u32 .ensures) (c .before .before .before .before .before .before .before .before .a .given .1)) (num-is (c .before .before .before .before .before .before .read-u16 .ensures) (c .before .before .before .before .n .given .1)) (isolating-is _ _ (c .before .before .isolates .ensures)) (c .before .loop .inv .4 _ (elements-none _ _ _ _ _ _ (c .loop-test .left)))

@@ -11,8 +11,8 @@ use Rattle.resolver.proofs.+call-function+call-positional+expression-se
 pub returns : (t : ℕ) → term-found-lts.Need-returns (term-found-claims t) (term-found-at t) found-reads.Post
 returns t c = found-term-over _ _ _ (c .if1 .taken)
 
-pub term-target-requires : (t : ℕ) → term-found-lts.Need-term-target-requires (term-found-claims t) (term-found-at t) found-reads.Post
-term-target-requires t c κs = search needs
+pub target-of-requires : (t : ℕ) → term-found-lts.Need-target-of-requires (term-found-claims t) (term-found-at t) found-reads.Post
+target-of-requires t c κs = search needs
 
 pub enum-known-q : (t : ℕ) → term-found-lts.Need-enum-known-q (term-found-claims t) (term-found-at t) found-reads.Post
 enum-known-q t c = search needs
@@ -45,10 +45,10 @@ pub same-length-3 : (t : ℕ) → term-found-lts.Need-same-length-3 (term-found-
 same-length-3 t c = search needs
 
 pub returns-2 : (t : ℕ) → term-found-lts.Need-returns-2 (term-found-claims t) (term-found-at t) found-reads.Post
-returns-2 t c = term-tracked (c .before .before .before .before .before .before .before .before .before .before .before .before .before .before .term-target .ensures) (c .before .before .before .before .before .before .before .before .before .before .before .before .q .given .1) _ (c .before .before .before .before .before .before .track .ensures)
+returns-2 t c = term-tracked (c .before .before .before .before .before .before .before .before .before .before .before .before .before .before .target-of .ensures) (c .before .before .before .before .before .before .before .before .before .before .before .before .q .given .1) _ (c .before .before .before .before .before .before .track .ensures)
 
 pub returns-3 : (t : ℕ) → term-found-lts.Need-returns-3 (term-found-claims t) (term-found-at t) found-reads.Post
-returns-3 t c = term-valued (c .before .before .term-target .ensures) (c .enum-told .given .1)
+returns-3 t c = term-valued (c .before .before .target-of .ensures) (c .enum-told .given .1)
 
 pub same-length-4 : (t : ℕ) → term-found-lts.Need-same-length-4 (term-found-claims t) (term-found-at t) found-reads.Post
 same-length-4 t c = search needs
@@ -60,7 +60,7 @@ pub same-length-6 : (t : ℕ) → term-found-lts.Need-same-length-6 (term-found-
 same-length-6 t c = search needs
 
 pub returns-4 : (t : ℕ) → term-found-lts.Need-returns-4 (term-found-claims t) (term-found-at t) found-reads.Post
-returns-4 t c = term-missed (c .before .before .before .before .before .before .before .before .before .before .before .before .before .before .term-target .ensures) (c .before .before .before .before .before .before .before .before .before .before .before .before .lost .given .1) _ _ (c .before .before .before .before .before .before .before .before .before .before .count-if .ensures) (c .before .before .before .before .before .before .ref-error .ensures)
+returns-4 t c = term-missed (c .before .before .before .before .before .before .before .before .before .before .before .before .before .before .target-of .ensures) (c .before .before .before .before .before .before .before .before .before .before .before .before .lost .given .1) _ _ (c .before .before .before .before .before .before .before .before .before .before .count-if .ensures) (c .before .before .before .before .before .before .ref-error .ensures)
 
 pub returns-5 : (t : ℕ) → term-found-lts.Need-returns-5 (term-found-claims t) (term-found-at t) found-reads.Post
-returns-5 t c = term-nowhere (c .before .before .term-target .ensures) (c .enum-told2 .given .1) _ _
+returns-5 t c = term-nowhere (c .before .before .target-of .ensures) (c .enum-told2 .given .1) _ _

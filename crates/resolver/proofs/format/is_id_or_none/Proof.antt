@@ -1,6 +1,6 @@
 -- `resolver::format::is_id_or_none` meets its contract: by whether there is an attribute.
 use Rattle.resolution.specs.Format.{isIdOrNone}
-use Rattle.texts.specs.Optional.{optionOf}
+use Rattle.records.specs.Optional.{optionOf}
 use borrow.Author.Needs.{needs}
 use mathlib.Core.Path.{refl}
 use Rattle.resolver.proofs.format.is_id_or_none.Statement.{statement}

@@ -46,8 +46,8 @@ use denote.Triple.Table.{entered, cited}
 use denote.Triple.Walked.{says, Stays, stay-dropped, gave-ref, gave-slice, walkOf, goes-dropped, goes-gave-ref, goes-gave-slice, Walks, ends-at, walked, walk-meets}
 use denote.Exit.{yes}
 use Rattle.state.specs.declared.Scope.{Scope}
-use Rattle.scope.specs.Relations.Meets.{world, env}
-use Rattle.scope.specs.Relations.Members.{PatternAt}
+use Rattle.resolver.specs.Relations.Meets.{world, env}
+use Rattle.resolver.specs.Relations.Members.{PatternAt}
 use Rattle.state.specs.Setters.{depthS, newS}
 use Rattle.state.proofs.Scope as T
 use Rattle.state.proofs.Scope.Laws as T′
@@ -76,20 +76,20 @@ Trail = Array usize tt 102
 abbrev R : RattleType
 R = T.the-row
 
-abbrev TrailS : Slot 6
+abbrev TrailS : Slot 5
 TrailS = ArrayOf (plain (λ _. usize)) (λ _. tt) 102
 
-abbrev BytesS : Slot 6
+abbrev BytesS : Slot 5
 BytesS = plain (λ _. u8)
 
-abbrev NumberS : Slot 6
+abbrev NumberS : Slot 5
 NumberS = plain (λ _. usize)
 
-abbrev StoreS : Slot 6
+abbrev StoreS : Slot 5
 StoreS = SliceRefOf (0 ∷ []) tt BytesS (λ _. tt)
 
-abbrev ArgsS : Slot 6
-ArgsS = SliceRefOf (1 ∷ []) tt BytesS (λ _. tt)
+abbrev ArgsS : Slot 5
+ArgsS = SliceRefOf (0 ∷ []) tt BytesS (λ _. tt)
 
 abbrev stayed : Stays (resolve.ended .signature .params) (resolve.ended .kept)
 stayed = (
@@ -97,12 +97,12 @@ stayed = (
   (
     stay-dropped ArgsS yes,
     (
-      gave-slice (2 ∷ []) tt BytesS,
+      gave-slice (1 ∷ []) tt BytesS,
       (
-        gave-slice (3 ∷ []) tt BytesS,
+        gave-slice (2 ∷ []) tt BytesS,
         (
-          gave-slice (4 ∷ []) tt BytesS,
-          (gave-ref (5 ∷ []) tt TrailS, (stay-dropped NumberS yes, tt)),
+          gave-slice (3 ∷ []) tt BytesS,
+          (gave-ref (4 ∷ []) tt TrailS, (stay-dropped NumberS yes, tt)),
         ),
       ),
     ),
@@ -127,7 +127,7 @@ Zs = Unit {0} × (Unit {0} × (List ℕ × (List ℕ × (List ℕ × (List ℕ �
 deepest-fits : 32 < 2 ^ 64
 deepest-fits = omega arith
 
-module _ {M : Type 1} (𝓤 : URA M) (H : Heap 𝓤) (A : Atoms 𝓤) (W : Given 𝓤 H A) (at-mem : Memory → SProp 𝓤) (run : Routine → Fun 𝓤) (κs : Lfts 6) (qs : Shares 6)
+module _ {M : Type 1} (𝓤 : URA M) (H : Heap 𝓤) (A : Atoms 𝓤) (W : Given 𝓤 H A) (at-mem : Memory → SProp 𝓤) (run : Routine → Fun 𝓤) (κs : Lfts 5) (qs : Shares 5)
     (s g x l k t : RefT (List ℕ)) (n : ℕ) (n-fits : n < 2 ^ 64) where
   -- the scope as it is made
   abbrev h : Scope
@@ -146,11 +146,11 @@ module _ {M : Type 1} (𝓤 : URA M) (H : Heap 𝓤) (A : Atoms 𝓤) (W : Given
   abbrev Post : Val → SProp 𝓤
   Post = walkOf 𝓤 H A resolve.ended stayed (resolve.clauses 𝓤 H A at-mem run) .post ((κs, qs, tt, xs, at), tt)
 
-  abbrev κ₅ : Lft
-  κ₅ = κs .1 .1 .1 .1 .1 .0
+  abbrev κ₄ : Lft
+  κ₄ = κs .1 .1 .1 .1 .0
 
-  abbrev q₅ : Share
-  q₅ = qs .1 .1 .1 .1 .1 .0
+  abbrev q₄ : Share
+  q₄ = qs .1 .1 .1 .1 .0
 
   -- the trail and the scope after `enter`
   abbrev ts₁ : List ℕ
@@ -170,29 +170,29 @@ module _ {M : Type 1} (𝓤 : URA M) (H : Heap 𝓤) (A : Atoms 𝓤) (W : Given
   c-at ζ b y = record { ptr = (b, 0); name = ζ; now = y }
 
   abbrev TrailAt : RefT (List ℕ) → Fml
-  TrailAt y = MutRef (named 5) κ₅ Trail .own y (vptr (t .ptr .0) (t .ptr .1) ∷ [])
+  TrailAt y = MutRef (named 4) κ₄ Trail .own y (vptr (t .ptr .0) (t .ptr .1) ∷ [])
 
   abbrev Alive : Item 𝓤
-  Alive = ‵ (flft (κs .0) (qs .0)) ⊛ ‵ (flft (κs .1 .0) (qs .1 .0)) ⊛ ‵ (flft (κs .1 .1 .0) (qs .1 .1 .0)) ⊛ ‵ (flft (κs .1 .1 .1 .0) (qs .1 .1 .1 .0)) ⊛ ‵ (flft (κs .1 .1 .1 .1 .0) (qs .1 .1 .1 .1 .0)) ⊛ ‵ (flft κ₅ q₅) ⊛ ‵ ftrue
+  Alive = ‵ (flft (κs .0) (qs .0)) ⊛ ‵ (flft (κs .1 .0) (qs .1 .0)) ⊛ ‵ (flft (κs .1 .1 .0) (qs .1 .1 .0)) ⊛ ‵ (flft (κs .1 .1 .1 .0) (qs .1 .1 .1 .0)) ⊛ ‵ (flft κ₄ q₄) ⊛ ‵ ftrue
 
-  abbrev Alive₇ : ℕ → Item 𝓤
-  Alive₇ ρ = ‵ (flft (κs .0) (qs .0)) ⊛ ‵ (flft (κs .1 .0) (qs .1 .0)) ⊛ ‵ (flft (κs .1 .1 .0) (qs .1 .1 .0)) ⊛ ‵ (flft (κs .1 .1 .1 .0) (qs .1 .1 .1 .0)) ⊛ ‵ (flft (κs .1 .1 .1 .1 .0) (qs .1 .1 .1 .1 .0)) ⊛ ‵ (flft κ₅ q₅) ⊛ ‵ (flft (ρ ∷ []) fullShare) ⊛ ‵ ftrue
+  abbrev Alive₆ : ℕ → Item 𝓤
+  Alive₆ ρ = ‵ (flft (κs .0) (qs .0)) ⊛ ‵ (flft (κs .1 .0) (qs .1 .0)) ⊛ ‵ (flft (κs .1 .1 .0) (qs .1 .1 .0)) ⊛ ‵ (flft (κs .1 .1 .1 .0) (qs .1 .1 .1 .0)) ⊛ ‵ (flft κ₄ q₄) ⊛ ‵ (flft (ρ ∷ []) fullShare) ⊛ ‵ ftrue
 
   -- the slices, with their tokens
   abbrev Rest : Item 𝓤
-  Rest = ‵ (flft (κs .0) (qs .0)) ⊛ ‵ (flft (κs .1 .0) (qs .1 .0)) ⊛ ‵ (flft (κs .1 .1 .0) (qs .1 .1 .0)) ⊛ ‵ (flft (κs .1 .1 .1 .0) (qs .1 .1 .1 .0)) ⊛ ‵ (flft (κs .1 .1 .1 .1 .0) (qs .1 .1 .1 .1 .0))
-      ⊛ ‵ (ShrSlice (named 0) (κs .0) u8 .own s (sv s ∷ [])) ⊛ ‵ (ShrSlice (named 1) (κs .1 .0) u8 .own g (sv g ∷ [])) ⊛ ‵ (MutSlice (named 2) (κs .1 .1 .0) u8 .own x (sv x ∷ [])) ⊛ ‵ (MutSlice (named 3) (κs .1 .1 .1 .0) u8 .own l (sv l ∷ []))
-      ⊛ ‵ (MutSlice (named 4) (κs .1 .1 .1 .1 .0) u8 .own k (sv k ∷ []))
+  Rest = ‵ (flft (κs .0) (qs .0)) ⊛ ‵ (flft (κs .1 .0) (qs .1 .0)) ⊛ ‵ (flft (κs .1 .1 .0) (qs .1 .1 .0)) ⊛ ‵ (flft (κs .1 .1 .1 .0) (qs .1 .1 .1 .0))
+      ⊛ ‵ (ShrSlice (named 0) (κs .0) u8 .own s (sv s ∷ [])) ⊛ ‵ (ShrSlice (named 0) (κs .0) u8 .own g (sv g ∷ [])) ⊛ ‵ (MutSlice (named 1) (κs .1 .0) u8 .own x (sv x ∷ [])) ⊛ ‵ (MutSlice (named 2) (κs .1 .1 .0) u8 .own l (sv l ∷ []))
+      ⊛ ‵ (MutSlice (named 3) (κs .1 .1 .1 .0) u8 .own k (sv k ∷ []))
 
   abbrev Owns : Fml
-  Owns = owns (ShrSlice (named 0) (κs .0) u8 ∷ ShrSlice (named 1) (κs .1 .0) u8 ∷ MutSlice (named 2) (κs .1 .1 .0) u8 ∷ MutSlice (named 3) (κs .1 .1 .1 .0) u8 ∷ MutSlice (named 4) (κs .1 .1 .1 .1 .0) u8 ∷ MutRef (named 5) κ₅ Trail ∷ usize ∷ []) xs at
+  Owns = owns (ShrSlice (named 0) (κs .0) u8 ∷ ShrSlice (named 0) (κs .0) u8 ∷ MutSlice (named 1) (κs .1 .0) u8 ∷ MutSlice (named 2) (κs .1 .1 .0) u8 ∷ MutSlice (named 3) (κs .1 .1 .1 .0) u8 ∷ MutRef (named 4) κ₄ Trail ∷ usize ∷ []) xs at
 
-  apart : ent 𝓤 (⋆ 𝓤 H A (Alive ∷ ‵ Owns ∷ [])) (⋆ 𝓤 H A (Rest ∷ ‵ (TrailAt t) ∷ ‵ (flft κ₅ q₅) ∷ []))
+  apart : ent 𝓤 (⋆ 𝓤 H A (Alive ∷ ‵ Owns ∷ [])) (⋆ 𝓤 H A (Rest ∷ ‵ (TrailAt t) ∷ ‵ (flft κ₄ q₄) ∷ []))
   apart =
       qed W (Alive ∷ ‵ Owns ∷ []) ∵
-      split ! $ move ! (1 ∷ []) $ split ! $ move ! (1 ∷ []) $ split ! $ move ! (1 ∷ []) $ split ! $ move ! (1 ∷ []) $ split ! $ move ! (1 ∷ []) $ split ! $ move ! (7 ∷ []) $ fsplit ! $ move ! (1 ∷ []) $ fsplit ! $ move ! (1 ∷ []) $ fsplit ! $
+      split ! $ move ! (1 ∷ []) $ split ! $ move ! (1 ∷ []) $ split ! $ move ! (1 ∷ []) $ split ! $ move ! (1 ∷ []) $ split ! $ move ! (6 ∷ []) $ fsplit ! $ move ! (1 ∷ []) $ fsplit ! $ move ! (1 ∷ []) $ fsplit ! $
       move ! (1 ∷ []) $ fsplit ! $ move ! (1 ∷ []) $ fsplit ! $ move ! (1 ∷ []) $ fsplit ! $ move ! (3 ∷ 2 ∷ []) $ join ! $ move ! (3 ∷ 0 ∷ []) $ join ! $ move ! (3 ∷ 0 ∷ []) $ join ! $ move ! (3 ∷ 0 ∷ []) $ join ! $ move ! (5 ∷ 0 ∷ []) $ join ! $
-      move ! (5 ∷ 0 ∷ []) $ join ! $ move ! (5 ∷ 0 ∷ []) $ join ! $ move ! (5 ∷ 0 ∷ []) $ join ! $ move ! (5 ∷ 0 ∷ []) $ join ! $ frame ! $ frame ! $ keep ! (1 ∷ []) $ done !
+      move ! (5 ∷ 0 ∷ []) $ join ! $ move ! (5 ∷ 0 ∷ []) $ join ! $ move ! (5 ∷ 0 ∷ []) $ join ! $ frame ! $ frame ! $ keep ! (1 ∷ []) $ done !
 
   -- the call of `new`: what its triple binds outside, that the caller has what it asks, and what it says
   abbrev to-new : New 𝓤 H A at-mem run .Ghost
@@ -229,30 +229,30 @@ module _ {M : Type 1} (𝓤 : URA M) (H : Heap 𝓤) (A : Atoms 𝓤) (W : Given
       move ! (3 ∷ []) $ split ! $ move ! (1 ∷ []) $ feqL ! (λ e′. at-once ! $ check ! (ap only e′) $ split ! $ move ! (1 ∷ []) $ split ! $ move ! (2 ∷ []) $ frame ! $ frame ! $ move ! (3 ∷ []) $ frame ! $ keep ! (1 ∷ []) $ done !))))
 
   -- the call of `write`, to which the scope is lent for the lifetime ρ under the name η
-  abbrev κs₇ : ℕ → Lfts 7
-  κs₇ ρ = (κs .0, (κs .1 .0, (κs .1 .1 .0, (κs .1 .1 .1 .0, (κs .1 .1 .1 .1 .0, (κ₅, (ρ ∷ [], tt)))))))
+  abbrev κs₆ : ℕ → Lfts 6
+  κs₆ ρ = (κs .0, (κs .1 .0, (κs .1 .1 .0, (κs .1 .1 .1 .0, (κ₄, (ρ ∷ [], tt))))))
 
-  abbrev xs₇ : GName → ℕ → RefT (List ℕ) × (RefT (List ℕ) × (RefT (List ℕ) × (RefT (List ℕ) × (RefT (List ℕ) × (RefT (List ℕ) × (RefT Scope × (ℕ × (ℕ × Unit {0}))))))))
-  xs₇ η b = (s, (g, (x, (l, (k, (t₁, (c-at η b h₁, (32, (n, tt)))))))))
+  abbrev xs₆ : GName → ℕ → RefT (List ℕ) × (RefT (List ℕ) × (RefT (List ℕ) × (RefT (List ℕ) × (RefT (List ℕ) × (RefT (List ℕ) × (RefT Scope × (ℕ × (ℕ × Unit {0}))))))))
+  xs₆ η b = (s, (g, (x, (l, (k, (t₁, (c-at η b h₁, (32, (n, tt)))))))))
 
   abbrev to-write : ℕ → GName → ℕ → Write 𝓤 H A at-mem run .Ghost
-  to-write ρ η b = ((κs₇ ρ, (qs .0, (qs .1 .0, (qs .1 .1 .0, (qs .1 .1 .1 .0, (qs .1 .1 .1 .1 .0, (q₅, (fullShare, tt))))))), tt, xs₇ η b, (sv s ∷ [], (sv g ∷ [], (sv x ∷ [], (sv l ∷ [], (sv k ∷ [], (vptr (t .ptr .0) (t .ptr .1) ∷ [], (vptr b 0 ∷ [], (vint w64 32 ∷ [], (vint w64 n ∷ [], tt)))))))))), tt)
+  to-write ρ η b = ((κs₆ ρ, (qs .0, (qs .1 .0, (qs .1 .1 .0, (qs .1 .1 .1 .0, (q₄, (fullShare, tt)))))), tt, xs₆ η b, (sv s ∷ [], (sv g ∷ [], (sv x ∷ [], (sv l ∷ [], (sv k ∷ [], (vptr (t .ptr .0) (t .ptr .1) ∷ [], (vptr b 0 ∷ [], (vint w64 32 ∷ [], (vint w64 n ∷ [], tt)))))))))), tt)
 
   goes-write : (ρ : ℕ) (η : GName) (b : ℕ)
-      → ent 𝓤 (⋆ 𝓤 H A (Rest ∷ (‵ (TrailAt t₁) ⊛ ‵ (flft κ₅ q₅)) ∷ (‵ (flft (ρ ∷ []) fullShare) ⊛ ‵ (MutRef (named 6) (ρ ∷ []) R .own (c-at η b h₁) (vptr b 0 ∷ []))) ∷ [])) (Write 𝓤 H A at-mem run .pre (to-write ρ η b))
+      → ent 𝓤 (⋆ 𝓤 H A (Rest ∷ (‵ (TrailAt t₁) ⊛ ‵ (flft κ₄ q₄)) ∷ (‵ (flft (ρ ∷ []) fullShare) ⊛ ‵ (MutRef (named 5) (ρ ∷ []) R .own (c-at η b h₁) (vptr b 0 ∷ []))) ∷ [])) (Write 𝓤 H A at-mem run .pre (to-write ρ η b))
   goes-write ρ η b =
-      qed W (Rest ∷ (‵ (TrailAt t₁) ⊛ ‵ (flft κ₅ q₅)) ∷ (‵ (flft (ρ ∷ []) fullShare) ⊛ ‵ (MutRef (named 6) (ρ ∷ []) R .own (c-at η b h₁) (vptr b 0 ∷ []))) ∷ []) ∵
-      split ! $ move ! (1 ∷ []) $ split ! $ move ! (1 ∷ []) $ split ! $ move ! (1 ∷ []) $ split ! $ move ! (1 ∷ []) $ split ! $ move ! (1 ∷ []) $ split ! $ move ! (1 ∷ []) $ split ! $ move ! (1 ∷ []) $ split ! $ move ! (1 ∷ []) $ split ! $
-      move ! (10 ∷ []) $ split ! $ move ! (12 ∷ []) $ split ! $ nothing ! $ move ! (1 ∷ 0 ∷ []) $ join ! $ move ! (3 ∷ 0 ∷ []) $ join ! $ move ! (8 ∷ 0 ∷ []) $ join ! $ move ! (8 ∷ 0 ∷ []) $ join ! $ move ! (8 ∷ 0 ∷ []) $ join ! $
-      move ! (8 ∷ 0 ∷ []) $ join ! $ move ! (8 ∷ 0 ∷ []) $ join ! $ nothing ! $ owned ! usize (Is usize) (uint-makes 𝓤 H A W w64) n _ (refl, n-fits) $ fjoin ! $ owned ! usize (Is usize) (uint-makes 𝓤 H A W w64) 32 _ (refl, deepest-fits) $ fjoin ! $
+      qed W (Rest ∷ (‵ (TrailAt t₁) ⊛ ‵ (flft κ₄ q₄)) ∷ (‵ (flft (ρ ∷ []) fullShare) ⊛ ‵ (MutRef (named 5) (ρ ∷ []) R .own (c-at η b h₁) (vptr b 0 ∷ []))) ∷ []) ∵
+      split ! $ move ! (1 ∷ []) $ split ! $ move ! (1 ∷ []) $ split ! $ move ! (1 ∷ []) $ split ! $ move ! (1 ∷ []) $ split ! $ move ! (1 ∷ []) $ split ! $ move ! (1 ∷ []) $ split ! $ move ! (1 ∷ []) $ split ! $
+      move ! (9 ∷ []) $ split ! $ move ! (11 ∷ []) $ split ! $ nothing ! $ move ! (1 ∷ 0 ∷ []) $ join ! $ move ! (3 ∷ 0 ∷ []) $ join ! $ move ! (8 ∷ 0 ∷ []) $ join ! $ move ! (8 ∷ 0 ∷ []) $ join ! $ move ! (8 ∷ 0 ∷ []) $ join ! $
+      move ! (8 ∷ 0 ∷ []) $ join ! $ nothing ! $ owned ! usize (Is usize) (uint-makes 𝓤 H A W w64) n _ (refl, n-fits) $ fjoin ! $ owned ! usize (Is usize) (uint-makes 𝓤 H A W w64) 32 _ (refl, deepest-fits) $ fjoin ! $
       move ! (2 ∷ 0 ∷ []) $ fjoin ! $ move ! (2 ∷ 0 ∷ []) $ fjoin ! $ move ! (3 ∷ 0 ∷ []) $ fjoin ! $ move ! (2 ∷ 0 ∷ []) $ fjoin ! $ move ! (2 ∷ 0 ∷ []) $ fjoin ! $ move ! (2 ∷ 0 ∷ []) $ fjoin ! $ move ! (2 ∷ 0 ∷ []) $ fjoin ! $
       move ! (1 ∷ 0 ∷ []) $ join ! $ frame ! $ done !
 
-  tokens : (ρ : ℕ) → ent 𝓤 (⋆ 𝓤 H A (Alive₇ ρ ∷ [])) (⋆ 𝓤 H A (‵ (flft (ρ ∷ []) fullShare) ∷ Alive ∷ []))
+  tokens : (ρ : ℕ) → ent 𝓤 (⋆ 𝓤 H A (Alive₆ ρ ∷ [])) (⋆ 𝓤 H A (‵ (flft (ρ ∷ []) fullShare) ∷ Alive ∷ []))
   tokens ρ =
-      qed W (Alive₇ ρ ∷ []) ∵
-      split ! $ move ! (1 ∷ []) $ split ! $ move ! (1 ∷ []) $ split ! $ move ! (1 ∷ []) $ split ! $ move ! (1 ∷ []) $ split ! $ move ! (1 ∷ []) $ split ! $ move ! (1 ∷ []) $ split ! $ move ! (2 ∷ 1 ∷ []) $ join ! $ move ! (2 ∷ 0 ∷ []) $ join ! $
-      move ! (2 ∷ 0 ∷ []) $ join ! $ move ! (2 ∷ 0 ∷ []) $ join ! $ move ! (2 ∷ 0 ∷ []) $ join ! $ move ! (2 ∷ 0 ∷ []) $ join ! $ move ! (1 ∷ []) $ frame ! $ keep ! (0 ∷ []) $ done !
+      qed W (Alive₆ ρ ∷ []) ∵
+      split ! $ move ! (1 ∷ []) $ split ! $ move ! (1 ∷ []) $ split ! $ move ! (1 ∷ []) $ split ! $ move ! (1 ∷ []) $ split ! $ move ! (1 ∷ []) $ split ! $ move ! (2 ∷ 1 ∷ []) $ join ! $ move ! (2 ∷ 0 ∷ []) $ join ! $
+      move ! (2 ∷ 0 ∷ []) $ join ! $ move ! (2 ∷ 0 ∷ []) $ join ! $ move ! (2 ∷ 0 ∷ []) $ join ! $ move ! (1 ∷ []) $ frame ! $ keep ! (0 ∷ []) $ done !
 
   -- what says the last values of the slices and of the trail
   abbrev last-of : RefT (List ℕ) → List ℕ → Fml
@@ -261,9 +261,9 @@ module _ {M : Type 1} (𝓤 : URA M) (H : Heap 𝓤) (A : Atoms 𝓤) (W : Given
   abbrev Kept : Zs → Item 𝓤
   Kept zs = ‵ (last-of x (zs .1 .1 .0)) ⊛ ‵ (last-of l (zs .1 .1 .1 .0)) ⊛ ‵ (last-of k (zs .1 .1 .1 .1 .0)) ⊛ ‵ (fres (t .name) (Trail .coded .code (zs .1 .1 .1 .1 .1 .0)))
 
-  parts : (ρ : ℕ) (η : GName) (b : ℕ) (zs : Zs) → ent 𝓤 (⋆ 𝓤 H A (‵ (lasts write.ended (κs₇ ρ) (xs₇ η b) zs) ∷ [])) (⋆ 𝓤 H A (‵ (fres η (R .coded .code (zs .1 .1 .1 .1 .1 .1 .0))) ∷ Kept zs ∷ []))
+  parts : (ρ : ℕ) (η : GName) (b : ℕ) (zs : Zs) → ent 𝓤 (⋆ 𝓤 H A (‵ (lasts write.ended (κs₆ ρ) (xs₆ η b) zs) ∷ [])) (⋆ 𝓤 H A (‵ (fres η (R .coded .code (zs .1 .1 .1 .1 .1 .1 .0))) ∷ Kept zs ∷ []))
   parts ρ η b zs =
-      qed W (‵ (lasts write.ended (κs₇ ρ) (xs₇ η b) zs) ∷ []) ∵
+      qed W (‵ (lasts write.ended (κs₆ ρ) (xs₆ η b) zs) ∷ []) ∵
       fsplit ! $ move ! (1 ∷ []) $ fsplit ! $ move ! (1 ∷ []) $ fsplit ! $ move ! (1 ∷ []) $ fsplit ! $ move ! (1 ∷ []) $ fsplit ! $ move ! (1 ∷ []) $ fsplit ! $ move ! (1 ∷ []) $ fsplit ! $ move ! (3 ∷ 2 ∷ []) $ join ! $ move ! (3 ∷ 0 ∷ []) $
       join ! $ move ! (3 ∷ 0 ∷ []) $ join ! $ move ! (1 ∷ []) $ frame ! $ keep ! (0 ∷ []) $ done !
 
@@ -291,7 +291,7 @@ module _ {M : Type 1} (𝓤 : URA M) (H : Heap 𝓤) (A : Atoms 𝓤) (W : Given
         pass1 ! (init ! 40 refl (tt, (tt, (record { fits = rs .0 }, tt)))) $ pass1 ! (init ! 38 refl (tt, (tt, (record { fits = rg .0 }, tt)))) $ pass1 ! (init ! 36 refl (tt, (tt, (record { fits = rx .0 }, tt)))) $
         pass1 ! (init ! 34 refl (tt, (tt, (record { fits = rl .0 }, tt)))) $ pass1 ! (init ! 32 refl (tt, (tt, (record { fits = rk .0 }, tt)))) $ pass1 ! (init ! 30 refl (tt, tt)) $ pass1 ! (init ! 28 refl (tt, record { fits = n-fits })) $
         pass0 ! $
-        move ! (44 ∷ 45 ∷ []) $ use2 W (Rest ⊛ ‵ (TrailAt t) ⊛ ‵ (flft κ₅ q₅)) apart $ split ! $ move ! (1 ∷ []) $ split ! $
+        move ! (44 ∷ 45 ∷ []) $ use2 W (Rest ⊛ ‵ (TrailAt t) ⊛ ‵ (flft κ₄ q₄)) apart $ split ! $ move ! (1 ∷ []) $ split ! $
         -- [the trail; its token; the slices; the locals]
         assigns ! (of-opd ! (load ! (from ! (fld ! refl (stop !))) (look-in ! 35 (sub ! 1 refl (whole !))))) (from ! (stop !)) (init ! 25 refl (tt, record { fits = rk .0 })) $
         -- `new`
@@ -305,7 +305,7 @@ module _ {M : Type 1} (𝓤 : URA M) (H : Heap 𝓤) (A : Atoms 𝓤) (W : Given
         assigns ! (addr ! (from ! (stop !))) (from ! (stop !)) (init ! 21 refl (tt, tt)) $
         -- the trail is lent again for a lifetime ν, and the scope for a lifetime μ
         lft-new ! tt (λ ν. move ! (3 ∷ 4 ∷ []) $
-        use2 W (later (some (λ (δ : GName). ‵ (MutRef (named 0) (ν ∷ []) Trail .own (t-at δ (t .now)) (vptr (t .ptr .0) (t .ptr .1) ∷ [])) ⊛ ‵ (LentAgain Trail κ₅ (ν ∷ []) q₅ (t .name) (t .ptr .0) (t .ptr .1) δ (t .now))))) (lends-again 𝓤 H A W Trail (named 5) κ₅ (ν ∷ []) q₅ (t .name) (t .ptr .0) (t .ptr .1) (named 0) (t .now)) $
+        use2 W (later (some (λ (δ : GName). ‵ (MutRef (named 0) (ν ∷ []) Trail .own (t-at δ (t .now)) (vptr (t .ptr .0) (t .ptr .1) ∷ [])) ⊛ ‵ (LentAgain Trail κ₄ (ν ∷ []) q₄ (t .name) (t .ptr .0) (t .ptr .1) δ (t .now))))) (lends-again 𝓤 H A W Trail (named 4) κ₄ (ν ∷ []) q₄ (t .name) (t .ptr .0) (t .ptr .1) (named 0) (t .now)) $
         await ! tt $ pick ! (λ δ. split ! $
         lft-new ! tt (λ μ. move ! (33 ∷ []) $ use1 W (‵ (cellAt fullShare (R .mir) (u ∷ []) l₈ 0)) (W .laws .at-raw fullShare T′.mir l₈ 0 u) $ move ! (0 ∷ 5 ∷ []) $ lies ! R h (u ∷ []) l₈ 0 $
         use1 W (later (some (λ (ζ : GName). ‵ (MutRef (named 1) (μ ∷ []) R .own (c-at ζ l₈ h) (vptr l₈ 0 ∷ [])) ⊛ ‵ (flent (μ ∷ []) (Body (mem R) l₈ 0 ζ))))) (lends-ref 𝓤 H A W R (named 1) (μ ∷ []) h l₈ 0) $ await ! tt $ pick ! (λ ζ. split ! $
@@ -316,7 +316,7 @@ module _ {M : Type 1} (𝓤 : URA M) (H : Heap 𝓤) (A : Atoms 𝓤) (W : Given
         move ! (1 ∷ []) $ split ! $ move ! (1 ∷ []) $ split ! $
         land ! (from ! (stop !)) (init ! 28 refl (subst (λ (y : Val). Holds (hasTy tyUnit y) × WT y) (sym e) (tt, tt))) $
         -- the lifetimes are ended, and the trail and the scope come back
-        move ! (3 ∷ []) $ lft-end ! tt $ move ! (0 ∷ 5 ∷ 1 ∷ []) $ use3 W (later (‵ (TrailAt t₁) ⊛ ‵ (flft κ₅ q₅))) (comes-back 𝓤 H A W Trail (named 5) κ₅ (ν ∷ []) q₅ (t .name) (t .ptr .0) (t .ptr .1) δ (t .now) ts₁) $ await ! tt $ split ! $
+        move ! (3 ∷ []) $ lft-end ! tt $ move ! (0 ∷ 5 ∷ 1 ∷ []) $ use3 W (later (‵ (TrailAt t₁) ⊛ ‵ (flft κ₄ q₄))) (comes-back 𝓤 H A W Trail (named 4) κ₄ (ν ∷ []) q₄ (t .name) (t .ptr .0) (t .ptr .1) δ (t .now) ts₁) $ await ! tt $ split ! $
         move ! (3 ∷ []) $ lft-end ! tt $ move ! (0 ∷ 4 ∷ 3 ∷ []) $ use3 W (later (‵ (mem R .lies h₁ l₈ 0))) (ref-back 𝓤 H A W R (μ ∷ []) ζ h₁ l₈ 0) $ await ! tt $
         -- [the scope in its local; the trail; its token; true; the slices; the locals]
         assigns ! (addr ! (from ! (fld ! refl (hop ! (look-in ! 40 (sub ! 0 refl (whole !))) (stop !))))) (from ! (stop !)) (init ! 19 refl (tt, tt)) $
@@ -328,12 +328,12 @@ module _ {M : Type 1} (𝓤 : URA M) (H : Heap 𝓤) (A : Atoms 𝓤) (W : Given
         assigns ! (addr ! (from ! (hop ! (look ! 34 refl) (stop !)))) (from ! (stop !)) (init ! 7 refl (tt, tt)) $
         assigns ! (addr ! (from ! (stop !))) (from ! (stop !)) (init ! 5 refl (tt, tt)) $
         -- `write`, to which the scope is lent for a lifetime ρ
-        lft-new ! tt (λ ρ. move ! (1 ∷ []) $ use1 W (later (some (λ (η : GName). ‵ (MutRef (named 6) (ρ ∷ []) R .own (c-at η l₈ h₁) (vptr l₈ 0 ∷ [])) ⊛ ‵ (flent (ρ ∷ []) (Body (mem R) l₈ 0 η))))) (lends-ref 𝓤 H A W R (named 6) (ρ ∷ []) h₁ l₈ 0) $
+        lft-new ! tt (λ ρ. move ! (1 ∷ []) $ use1 W (later (some (λ (η : GName). ‵ (MutRef (named 5) (ρ ∷ []) R .own (c-at η l₈ h₁) (vptr l₈ 0 ∷ [])) ⊛ ‵ (flent (ρ ∷ []) (Body (mem R) l₈ 0 η))))) (lends-ref 𝓤 H A W R (named 5) (ρ ∷ []) h₁ l₈ 0) $
         await ! tt $ pick ! (λ η. split ! $
         move ! (3 ∷ 4 ∷ []) $ join ! $ move ! (3 ∷ 1 ∷ []) $ join ! $ move ! (4 ∷ 1 ∷ 0 ∷ []) $ use3 W (raw (Write 𝓤 H A at-mem run .pre (to-write ρ η l₈))) (goes-write ρ η l₈) $
         calls-at ! fm (Write 𝓤 H A at-mem run) known-write (to-write ρ η l₈) (and-then ! (load ! (from ! (stop !)) (look ! 42 refl)) (and-then ! (load ! (from ! (stop !)) (look ! 40 refl)) (and-then ! (load ! (from ! (stop !)) (look ! 15 refl)) (and-then ! (load ! (from ! (stop !)) (look ! 11 refl)) (and-then ! (load ! (from ! (stop !)) (look ! 7 refl)) (and-then ! (load ! (from ! (stop !)) (look ! 5 refl)) (and-then ! (load ! (from ! (stop !)) (look ! 3 refl)) (and-then ! (lit ! tt) (and-then ! (load ! (from ! (stop !)) (look ! 30 refl)) (no-more !)))))))))) (λ v′.
-        use1 W (later (some (λ (r : Unit {0}). (Alive₇ ρ ⊛ ‵ (Nothing .own r (v′ ∷ []))) ⊛ raw (ensured 𝓤 H A write.ended (write.clauses 𝓤 H A at-mem run) (κs₇ ρ) (xs₇ η l₈) tt r)))) (id⊢ 𝓤 _) $ await ! tt $ pick ! (λ r. split ! $ move ! (1 ∷ []) $
-        use1 W (some (λ (zs : Zs). ‵ (lasts write.ended (κs₇ ρ) (xs₇ η l₈) zs) ⊛ raw (fact 𝓤 (Said zs)))) (id⊢ 𝓤 _) $ pick ! (λ zs. split ! $ move ! (1 ∷ []) $ heard ! (Said zs) (λ e′.
+        use1 W (later (some (λ (r : Unit {0}). (Alive₆ ρ ⊛ ‵ (Nothing .own r (v′ ∷ []))) ⊛ raw (ensured 𝓤 H A write.ended (write.clauses 𝓤 H A at-mem run) (κs₆ ρ) (xs₆ η l₈) tt r)))) (id⊢ 𝓤 _) $ await ! tt $ pick ! (λ r. split ! $ move ! (1 ∷ []) $
+        use1 W (some (λ (zs : Zs). ‵ (lasts write.ended (κs₆ ρ) (xs₆ η l₈) zs) ⊛ raw (fact 𝓤 (Said zs)))) (id⊢ 𝓤 _) $ pick ! (λ zs. split ! $ move ! (1 ∷ []) $ heard ! (Said zs) (λ e′.
         use1 W (‵ (fres η (R .coded .code (zs .1 .1 .1 .1 .1 .1 .0))) ⊛ Kept zs) (parts ρ η l₈ zs) $ split ! $ move ! (2 ∷ []) $ split ! $ move ! (1 ∷ []) $
         feqL ! (λ e₀. land ! (from ! (stop !)) (store ! 25 refl (subst (λ (y : Val). Holds (hasTy tyUnit y) × WT y) (sym (ap only e₀)) (tt, tt))) $
         use1 W (‵ (flft (ρ ∷ []) fullShare) ⊛ Alive) (tokens ρ) $ split ! $ lft-end ! tt $ move ! (0 ∷ 4 ∷ 2 ∷ []) $ use3 W (later (‵ (mem R .lies (zs .1 .1 .1 .1 .1 .1 .0) l₈ 0))) (ref-back 𝓤 H A W R (ρ ∷ []) η (zs .1 .1 .1 .1 .1 .1 .0) l₈ 0) $
@@ -357,14 +357,14 @@ module _ {M : Type 1} (𝓤 : URA M) (H : Heap 𝓤) (A : Atoms 𝓤) (W : Given
       (λ κs. (
         shr-slice-tells (named 0) (κs .0) u8,
         (
-          shr-slice-tells (named 1) (κs .1 .0) u8,
+          shr-slice-tells (named 0) (κs .0) u8,
           (
-            mut-slice-tells (named 2) (κs .1 .1 .0) u8,
+            mut-slice-tells (named 1) (κs .1 .0) u8,
             (
-              mut-slice-tells (named 3) (κs .1 .1 .1 .0) u8,
+              mut-slice-tells (named 2) (κs .1 .1 .0) u8,
               (
-                mut-slice-tells (named 4) (κs .1 .1 .1 .1 .0) u8,
-                (mut-tells (named 5) (κs .1 .1 .1 .1 .1 .0) Trail, (uint-tells w64, tt)),
+                mut-slice-tells (named 3) (κs .1 .1 .1 .0) u8,
+                (mut-tells (named 4) (κs .1 .1 .1 .1 .0) Trail, (uint-tells w64, tt)),
               ),
             ),
           ),
@@ -377,16 +377,16 @@ resolve-meets : {M : Type 1} (𝓤 : URA M) (H : Heap 𝓤) (A : Atoms 𝓤) →
     → Meets 𝓤 H A resolve.signature (WpFn 𝓤 H (𝓣 .C) (𝓣 .Λ) code.function) (resolve.spec 𝓤 H A mem run)
 resolve-meets 𝓤 H A W mem run 𝓣 known-new known-enter known-write =
     walk-meets 𝓤 H A resolve.ended stayed W (
-      goes-dropped 𝓤 H A W 6 StoreS yes (λ κs x f. refl),
+      goes-dropped 𝓤 H A W 5 StoreS yes (λ κs x f. refl),
       (
-        goes-dropped 𝓤 H A W 6 ArgsS yes (λ κs x f. refl),
+        goes-dropped 𝓤 H A W 5 ArgsS yes (λ κs x f. refl),
         (
-          goes-gave-slice 𝓤 H A W 6 2 tt BytesS,
+          goes-gave-slice 𝓤 H A W 5 1 tt BytesS,
           (
-            goes-gave-slice 𝓤 H A W 6 3 tt BytesS,
+            goes-gave-slice 𝓤 H A W 5 2 tt BytesS,
             (
-              goes-gave-slice 𝓤 H A W 6 4 tt BytesS,
-              (goes-gave-ref 𝓤 H A W 6 5 tt TrailS, (goes-dropped 𝓤 H A W 6 NumberS yes (λ κs x f. refl), tt)),
+              goes-gave-slice 𝓤 H A W 5 3 tt BytesS,
+              (goes-gave-ref 𝓤 H A W 5 4 tt TrailS, (goes-dropped 𝓤 H A W 5 NumberS yes (λ κs x f. refl), tt)),
             ),
           ),
         ),

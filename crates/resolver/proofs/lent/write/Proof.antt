@@ -42,8 +42,8 @@ use denote.Triple.Table.{entered, cited}
 use denote.Triple.Walked.{says, Stays, stay-ref, stay-dropped, gave-ref, gave-slice, walkOf, goes-ref, goes-dropped, goes-gave-ref, goes-gave-slice, Walks, ends-at, walked, walk-meets}
 use denote.Exit.{yes}
 use Rattle.state.specs.declared.Scope.{Scope}
-use Rattle.scope.specs.Relations.Meets.{world, env}
-use Rattle.scope.specs.Relations.Members.{PatternAt}
+use Rattle.resolver.specs.Relations.Meets.{world, env}
+use Rattle.resolver.specs.Relations.Members.{PatternAt}
 use Rattle.state.proofs.Scope as T
 use Rattle.state.proofs.Scope.Laws as T′
 use Rattle.state.proofs.Cells.{one-cell}
@@ -63,23 +63,23 @@ Trail = Array usize tt 102
 abbrev R : RattleType
 R = T.the-row
 
-abbrev TrailS : Slot 7
+abbrev TrailS : Slot 6
 TrailS = ArrayOf (plain (λ _. usize)) (λ _. tt) 102
 
-abbrev BytesS : Slot 7
+abbrev BytesS : Slot 6
 BytesS = plain (λ _. u8)
 
-abbrev ScopeS : Slot 7
+abbrev ScopeS : Slot 6
 ScopeS = plain (λ _. T.the-row)
 
-abbrev NumberS : Slot 7
+abbrev NumberS : Slot 6
 NumberS = plain (λ _. usize)
 
-abbrev StoreS : Slot 7
+abbrev StoreS : Slot 6
 StoreS = SliceRefOf (0 ∷ []) tt BytesS (λ _. tt)
 
-abbrev ArgsS : Slot 7
-ArgsS = SliceRefOf (1 ∷ []) tt BytesS (λ _. tt)
+abbrev ArgsS : Slot 6
+ArgsS = SliceRefOf (0 ∷ []) tt BytesS (λ _. tt)
 
 abbrev stayed : Stays (write.ended .signature .params) (write.ended .kept)
 stayed = (
@@ -87,12 +87,12 @@ stayed = (
   (
     stay-dropped ArgsS yes,
     (
-      gave-slice (2 ∷ []) tt BytesS,
+      gave-slice (1 ∷ []) tt BytesS,
       (
-        gave-slice (3 ∷ []) tt BytesS,
+        gave-slice (2 ∷ []) tt BytesS,
         (
-          gave-slice (4 ∷ []) tt BytesS,
-          (gave-ref (5 ∷ []) tt TrailS, (stay-ref (6 ∷ []) tt ScopeS, (stay-dropped NumberS yes, (stay-dropped NumberS yes, tt)))),
+          gave-slice (3 ∷ []) tt BytesS,
+          (gave-ref (4 ∷ []) tt TrailS, (stay-ref (5 ∷ []) tt ScopeS, (stay-dropped NumberS yes, (stay-dropped NumberS yes, tt)))),
         ),
       ),
     ),
@@ -107,7 +107,7 @@ WritePattern 𝓤 H A mem run = tripleOf 𝓤 H A write-pattern.signature (write
 abbrev Zs : Type 0
 Zs = Unit {0} × (Unit {0} × (List ℕ × (List ℕ × (List ℕ × (List ℕ × (Unit {0} × (Unit {0} × (Unit {0} × Unit {0}))))))))
 
-module _ {M : Type 1} (𝓤 : URA M) (H : Heap 𝓤) (A : Atoms 𝓤) (W : Given 𝓤 H A) (at-mem : Memory → SProp 𝓤) (run : Routine → Fun 𝓤) (κs : Lfts 7) (qs : Shares 7)
+module _ {M : Type 1} (𝓤 : URA M) (H : Heap 𝓤) (A : Atoms 𝓤) (W : Given 𝓤 H A) (at-mem : Memory → SProp 𝓤) (run : Routine → Fun 𝓤) (κs : Lfts 6) (qs : Shares 6)
     (s g x l k t : RefT (List ℕ)) (c : RefT Scope) (n m : ℕ) (n-fits : n < 2 ^ 64) (m-fits : m < 2 ^ 64) where
   abbrev h : Scope
   h = c .now
@@ -126,48 +126,48 @@ module _ {M : Type 1} (𝓤 : URA M) (H : Heap 𝓤) (A : Atoms 𝓤) (W : Given
   Post = walkOf 𝓤 H A write.ended stayed (write.clauses 𝓤 H A at-mem run) .post ((κs, qs, tt, xs, at), tt)
 
   -- the lifetimes and the tokens that `pattern::write` takes
-  abbrev κs₆ : Lfts 6
-  κs₆ = (κs .0, (κs .1 .0, (κs .1 .1 .0, (κs .1 .1 .1 .0, (κs .1 .1 .1 .1 .0, (κs .1 .1 .1 .1 .1 .0, tt))))))
+  abbrev κs₅ : Lfts 5
+  κs₅ = (κs .0, (κs .1 .0, (κs .1 .1 .0, (κs .1 .1 .1 .0, (κs .1 .1 .1 .1 .0, tt)))))
 
-  abbrev qs₆ : Shares 6
-  qs₆ = (qs .0, (qs .1 .0, (qs .1 .1 .0, (qs .1 .1 .1 .0, (qs .1 .1 .1 .1 .0, (qs .1 .1 .1 .1 .1 .0, tt))))))
+  abbrev qs₅ : Shares 5
+  qs₅ = (qs .0, (qs .1 .0, (qs .1 .1 .0, (qs .1 .1 .1 .0, (qs .1 .1 .1 .1 .0, tt)))))
 
-  abbrev xs₆ : RefT (List ℕ) × (RefT (List ℕ) × (RefT (List ℕ) × (RefT (List ℕ) × (RefT (List ℕ) × (RefT (List ℕ) × (Scope × (ℕ × (ℕ × Unit {0}))))))))
-  xs₆ = (s, (g, (x, (l, (k, (t, (h, (n, (m, tt)))))))))
+  abbrev xs₅ : RefT (List ℕ) × (RefT (List ℕ) × (RefT (List ℕ) × (RefT (List ℕ) × (RefT (List ℕ) × (RefT (List ℕ) × (Scope × (ℕ × (ℕ × Unit {0}))))))))
+  xs₅ = (s, (g, (x, (l, (k, (t, (h, (n, (m, tt)))))))))
 
   abbrev Alive : Item 𝓤
-  Alive = ‵ (flft (κs .0) (qs .0)) ⊛ ‵ (flft (κs .1 .0) (qs .1 .0)) ⊛ ‵ (flft (κs .1 .1 .0) (qs .1 .1 .0)) ⊛ ‵ (flft (κs .1 .1 .1 .0) (qs .1 .1 .1 .0)) ⊛ ‵ (flft (κs .1 .1 .1 .1 .0) (qs .1 .1 .1 .1 .0)) ⊛ ‵ (flft (κs .1 .1 .1 .1 .1 .0) (qs .1 .1 .1 .1 .1 .0)) ⊛ ‵ ftrue
+  Alive = ‵ (flft (κs .0) (qs .0)) ⊛ ‵ (flft (κs .1 .0) (qs .1 .0)) ⊛ ‵ (flft (κs .1 .1 .0) (qs .1 .1 .0)) ⊛ ‵ (flft (κs .1 .1 .1 .0) (qs .1 .1 .1 .0)) ⊛ ‵ (flft (κs .1 .1 .1 .1 .0) (qs .1 .1 .1 .1 .0)) ⊛ ‵ ftrue
 
   abbrev Toks : Item 𝓤
-  Toks = ‵ (flft (κs .0) (qs .0)) ⊛ ‵ (flft (κs .1 .0) (qs .1 .0)) ⊛ ‵ (flft (κs .1 .1 .0) (qs .1 .1 .0)) ⊛ ‵ (flft (κs .1 .1 .1 .0) (qs .1 .1 .1 .0)) ⊛ ‵ (flft (κs .1 .1 .1 .1 .0) (qs .1 .1 .1 .1 .0)) ⊛ ‵ (flft (κs .1 .1 .1 .1 .1 .0) (qs .1 .1 .1 .1 .1 .0))
-      ⊛ ‵ (flft (κs .1 .1 .1 .1 .1 .1 .0) (qs .1 .1 .1 .1 .1 .1 .0)) ⊛ ‵ ftrue
+  Toks = ‵ (flft (κs .0) (qs .0)) ⊛ ‵ (flft (κs .1 .0) (qs .1 .0)) ⊛ ‵ (flft (κs .1 .1 .0) (qs .1 .1 .0)) ⊛ ‵ (flft (κs .1 .1 .1 .0) (qs .1 .1 .1 .0)) ⊛ ‵ (flft (κs .1 .1 .1 .1 .0) (qs .1 .1 .1 .1 .0))
+      ⊛ ‵ (flft (κs .1 .1 .1 .1 .1 .0) (qs .1 .1 .1 .1 .1 .0)) ⊛ ‵ ftrue
 
   -- what goes to `pattern::write` for good: the tokens, and what the slices and the trail own
   abbrev Lent : Item 𝓤
-  Lent = ‵ (flft (κs .0) (qs .0)) ⊛ ‵ (flft (κs .1 .0) (qs .1 .0)) ⊛ ‵ (flft (κs .1 .1 .0) (qs .1 .1 .0)) ⊛ ‵ (flft (κs .1 .1 .1 .0) (qs .1 .1 .1 .0)) ⊛ ‵ (flft (κs .1 .1 .1 .1 .0) (qs .1 .1 .1 .1 .0)) ⊛ ‵ (flft (κs .1 .1 .1 .1 .1 .0) (qs .1 .1 .1 .1 .1 .0))
-      ⊛ ‵ (ShrSlice (named 0) (κs .0) u8 .own s (sv s ∷ [])) ⊛ ‵ (ShrSlice (named 1) (κs .1 .0) u8 .own g (sv g ∷ [])) ⊛ ‵ (MutSlice (named 2) (κs .1 .1 .0) u8 .own x (sv x ∷ [])) ⊛ ‵ (MutSlice (named 3) (κs .1 .1 .1 .0) u8 .own l (sv l ∷ []))
-      ⊛ ‵ (MutSlice (named 4) (κs .1 .1 .1 .1 .0) u8 .own k (sv k ∷ [])) ⊛ ‵ (MutRef (named 5) (κs .1 .1 .1 .1 .1 .0) Trail .own t (vptr (t .ptr .0) (t .ptr .1) ∷ []))
+  Lent = ‵ (flft (κs .0) (qs .0)) ⊛ ‵ (flft (κs .1 .0) (qs .1 .0)) ⊛ ‵ (flft (κs .1 .1 .0) (qs .1 .1 .0)) ⊛ ‵ (flft (κs .1 .1 .1 .0) (qs .1 .1 .1 .0)) ⊛ ‵ (flft (κs .1 .1 .1 .1 .0) (qs .1 .1 .1 .1 .0))
+      ⊛ ‵ (ShrSlice (named 0) (κs .0) u8 .own s (sv s ∷ [])) ⊛ ‵ (ShrSlice (named 0) (κs .0) u8 .own g (sv g ∷ [])) ⊛ ‵ (MutSlice (named 1) (κs .1 .0) u8 .own x (sv x ∷ [])) ⊛ ‵ (MutSlice (named 2) (κs .1 .1 .0) u8 .own l (sv l ∷ []))
+      ⊛ ‵ (MutSlice (named 3) (κs .1 .1 .1 .0) u8 .own k (sv k ∷ [])) ⊛ ‵ (MutRef (named 4) (κs .1 .1 .1 .1 .0) Trail .own t (vptr (t .ptr .0) (t .ptr .1) ∷ []))
 
   abbrev Owns : Fml
-  Owns = owns (ShrSlice (named 0) (κs .0) u8 ∷ ShrSlice (named 1) (κs .1 .0) u8 ∷ MutSlice (named 2) (κs .1 .1 .0) u8 ∷ MutSlice (named 3) (κs .1 .1 .1 .0) u8 ∷ MutSlice (named 4) (κs .1 .1 .1 .1 .0) u8 ∷ MutRef (named 5) (κs .1 .1 .1 .1 .1 .0) Trail ∷ MutRef (named 6) (κs .1 .1 .1 .1 .1 .1 .0) R ∷ usize ∷ usize ∷ []) xs at
+  Owns = owns (ShrSlice (named 0) (κs .0) u8 ∷ ShrSlice (named 0) (κs .0) u8 ∷ MutSlice (named 1) (κs .1 .0) u8 ∷ MutSlice (named 2) (κs .1 .1 .0) u8 ∷ MutSlice (named 3) (κs .1 .1 .1 .0) u8 ∷ MutRef (named 4) (κs .1 .1 .1 .1 .0) Trail ∷ MutRef (named 5) (κs .1 .1 .1 .1 .1 .0) R ∷ usize ∷ usize ∷ []) xs at
 
-  apart : ent 𝓤 (⋆ 𝓤 H A (Toks ∷ ‵ Owns ∷ [])) (⋆ 𝓤 H A (Lent ∷ ‵ (fobs (c .name) (R .coded .code h)) ∷ ‵ (fbor (κs .1 .1 .1 .1 .1 .1 .0) (Body (mem R) (c .ptr .0) (c .ptr .1) (c .name))) ∷ ‵ (flft (κs .1 .1 .1 .1 .1 .1 .0) (qs .1 .1 .1 .1 .1 .1 .0)) ∷ []))
+  apart : ent 𝓤 (⋆ 𝓤 H A (Toks ∷ ‵ Owns ∷ [])) (⋆ 𝓤 H A (Lent ∷ ‵ (fobs (c .name) (R .coded .code h)) ∷ ‵ (fbor (κs .1 .1 .1 .1 .1 .0) (Body (mem R) (c .ptr .0) (c .ptr .1) (c .name))) ∷ ‵ (flft (κs .1 .1 .1 .1 .1 .0) (qs .1 .1 .1 .1 .1 .0)) ∷ []))
   apart =
       qed W (Toks ∷ ‵ Owns ∷ []) ∵
-      split ! $ move ! (1 ∷ []) $ split ! $ move ! (1 ∷ []) $ split ! $ move ! (1 ∷ []) $ split ! $ move ! (1 ∷ []) $ split ! $ move ! (1 ∷ []) $ split ! $ move ! (1 ∷ []) $ split ! $ move ! (8 ∷ []) $ fsplit ! $ move ! (1 ∷ []) $ fsplit ! $
+      split ! $ move ! (1 ∷ []) $ split ! $ move ! (1 ∷ []) $ split ! $ move ! (1 ∷ []) $ split ! $ move ! (1 ∷ []) $ split ! $ move ! (1 ∷ []) $ split ! $ move ! (7 ∷ []) $ fsplit ! $ move ! (1 ∷ []) $ fsplit ! $
       move ! (1 ∷ []) $ fsplit ! $ move ! (1 ∷ []) $ fsplit ! $ move ! (1 ∷ []) $ fsplit ! $ move ! (1 ∷ []) $ fsplit ! $ move ! (1 ∷ []) $ fsplit ! $ fsplit3 ! $ drop ! $ move ! (4 ∷ 3 ∷ []) $ join ! $ move ! (4 ∷ 0 ∷ []) $ join ! $
       move ! (4 ∷ 0 ∷ []) $ join ! $ move ! (4 ∷ 0 ∷ []) $ join ! $ move ! (4 ∷ 0 ∷ []) $ join ! $ move ! (6 ∷ 0 ∷ []) $ join ! $ move ! (6 ∷ 0 ∷ []) $ join ! $ move ! (6 ∷ 0 ∷ []) $ join ! $ move ! (6 ∷ 0 ∷ []) $ join ! $ move ! (6 ∷ 0 ∷ []) $
-      join ! $ move ! (6 ∷ 0 ∷ []) $ join ! $ frame ! $ frame ! $ frame ! $ keep ! (1 ∷ []) $ done !
+      join ! $ frame ! $ frame ! $ frame ! $ keep ! (1 ∷ []) $ done !
 
   -- what `pattern::write`'s triple binds outside, and that the caller has what it asks
   abbrev to-write : Val → WritePattern 𝓤 H A at-mem run .Ghost
-  to-write u = ((κs₆, qs₆, tt, xs₆, (sv s ∷ [], (sv g ∷ [], (sv x ∷ [], (sv l ∷ [], (sv k ∷ [], (vptr (t .ptr .0) (t .ptr .1) ∷ [], (u ∷ [], (vint w64 n ∷ [], (vint w64 m ∷ [], tt)))))))))), tt)
+  to-write u = ((κs₅, qs₅, tt, xs₅, (sv s ∷ [], (sv g ∷ [], (sv x ∷ [], (sv l ∷ [], (sv k ∷ [], (vptr (t .ptr .0) (t .ptr .1) ∷ [], (u ∷ [], (vint w64 n ∷ [], (vint w64 m ∷ [], tt)))))))))), tt)
 
   goes : (u : Val) → Is R h (u ∷ []) → ent 𝓤 (⋆ 𝓤 H A (Lent ∷ [])) (WritePattern 𝓤 H A at-mem run .pre (to-write u))
   goes u is =
       qed W (Lent ∷ []) ∵
-      split ! $ move ! (1 ∷ []) $ split ! $ move ! (1 ∷ []) $ split ! $ move ! (1 ∷ []) $ split ! $ move ! (1 ∷ []) $ split ! $ move ! (1 ∷ []) $ split ! $ move ! (1 ∷ []) $ split ! $ move ! (1 ∷ []) $ split ! $ move ! (1 ∷ []) $ split ! $
-      move ! (1 ∷ []) $ split ! $ move ! (1 ∷ []) $ split ! $ nothing ! $ move ! (7 ∷ 0 ∷ []) $ join ! $ move ! (7 ∷ 0 ∷ []) $ join ! $ move ! (7 ∷ 0 ∷ []) $ join ! $ move ! (7 ∷ 0 ∷ []) $ join ! $ move ! (7 ∷ 0 ∷ []) $ join ! $
+      split ! $ move ! (1 ∷ []) $ split ! $ move ! (1 ∷ []) $ split ! $ move ! (1 ∷ []) $ split ! $ move ! (1 ∷ []) $ split ! $ move ! (1 ∷ []) $ split ! $ move ! (1 ∷ []) $ split ! $ move ! (1 ∷ []) $ split ! $
+      move ! (1 ∷ []) $ split ! $ move ! (1 ∷ []) $ split ! $ nothing ! $ move ! (7 ∷ 0 ∷ []) $ join ! $ move ! (7 ∷ 0 ∷ []) $ join ! $ move ! (7 ∷ 0 ∷ []) $ join ! $ move ! (7 ∷ 0 ∷ []) $ join ! $
       move ! (7 ∷ 0 ∷ []) $ join ! $ nothing ! $ owned ! usize (Is usize) (uint-makes 𝓤 H A W w64) m _ (refl, m-fits) $ fjoin ! $ owned ! usize (Is usize) (uint-makes 𝓤 H A W w64) n _ (refl, n-fits) $ fjoin ! $
       owned ! R (Is R) (LL.makes T.the-type T′.the-plain 𝓤 H A) h _ is $ fjoin ! $ move ! (3 ∷ 0 ∷ []) $ fjoin ! $ move ! (2 ∷ 0 ∷ []) $ fjoin ! $ move ! (2 ∷ 0 ∷ []) $ fjoin ! $ move ! (2 ∷ 0 ∷ []) $ fjoin ! $ move ! (2 ∷ 0 ∷ []) $ fjoin ! $
       move ! (2 ∷ 0 ∷ []) $ fjoin ! $ move ! (1 ∷ 0 ∷ []) $ join ! $ frame ! $ done !
@@ -177,14 +177,14 @@ module _ {M : Type 1} (𝓤 : URA M) (H : Heap 𝓤) (A : Atoms 𝓤) (W : Given
   Said r zs = PatternAt (env (s .now) (g .now)) n m (world (s .now) (x .now) (l .now) (k .now) (t .now) h) (world (s .now) (zs .1 .1 .0) (zs .1 .1 .1 .0) (zs .1 .1 .1 .1 .0) (zs .1 .1 .1 .1 .1 .0) r)
 
   exits : (r : Scope) (zs : Zs) → Said r zs
-      → ent 𝓤 (⋆ 𝓤 H A (‵ (fobs (c .name) (R .coded .code r)) ∷ ‵ (fbor (κs .1 .1 .1 .1 .1 .1 .0) (Body (mem R) (c .ptr .0) (c .ptr .1) (c .name))) ∷ ‵ (flft (κs .1 .1 .1 .1 .1 .1 .0) (qs .1 .1 .1 .1 .1 .1 .0)) ∷ Alive ∷ ‵ (lasts write-pattern.ended κs₆ xs₆ zs) ∷ [])) (Post vunit)
+      → ent 𝓤 (⋆ 𝓤 H A (‵ (fobs (c .name) (R .coded .code r)) ∷ ‵ (fbor (κs .1 .1 .1 .1 .1 .0) (Body (mem R) (c .ptr .0) (c .ptr .1) (c .name))) ∷ ‵ (flft (κs .1 .1 .1 .1 .1 .0) (qs .1 .1 .1 .1 .1 .0)) ∷ Alive ∷ ‵ (lasts write-pattern.ended κs₅ xs₅ zs) ∷ [])) (Post vunit)
   exits r zs e =
-      qed W (‵ (fobs (c .name) (R .coded .code r)) ∷ ‵ (fbor (κs .1 .1 .1 .1 .1 .1 .0) (Body (mem R) (c .ptr .0) (c .ptr .1) (c .name))) ∷ ‵ (flft (κs .1 .1 .1 .1 .1 .1 .0) (qs .1 .1 .1 .1 .1 .1 .0)) ∷ Alive ∷ ‵ (lasts write-pattern.ended κs₆ xs₆ zs) ∷ []) ∵
+      qed W (‵ (fobs (c .name) (R .coded .code r)) ∷ ‵ (fbor (κs .1 .1 .1 .1 .1 .0) (Body (mem R) (c .ptr .0) (c .ptr .1) (c .name))) ∷ ‵ (flft (κs .1 .1 .1 .1 .1 .0) (qs .1 .1 .1 .1 .1 .0)) ∷ Alive ∷ ‵ (lasts write-pattern.ended κs₅ xs₅ zs) ∷ []) ∵
       move ! (4 ∷ []) $ fsplit ! $ move ! (1 ∷ []) $ fsplit ! $ move ! (1 ∷ []) $ fsplit ! $ fsplit ! $ move ! (1 ∷ []) $ feqL ! (λ i. move ! (1 ∷ []) $ fsplit ! $ fsplit ! $ move ! (1 ∷ []) $ feqL ! (λ j. move ! (1 ∷ []) $ fsplit ! $ fsplit ! $
       move ! (1 ∷ []) $ feqL ! (λ o. move ! (1 ∷ []) $ fsplit ! $
       suffices ! _ (ends-at 𝓤 H A write.ended stayed (write.clauses 𝓤 H A at-mem run) W (((κs, qs, tt, xs, at), tt)) vunit tt (tt, (tt, (zs .1 .1 .0, (zs .1 .1 .1 .0, (zs .1 .1 .1 .1 .0, (zs .1 .1 .1 .1 .1 .0, (r, (tt, (tt, tt))))))))) (tt, (tt, (i, (j, (o, (tt, (tt, (tt, (tt, tt)))))))))) $
       says ! e $
-      move ! (10 ∷ []) $ split ! $ move ! (1 ∷ []) $ split ! $ move ! (1 ∷ []) $ split ! $ move ! (1 ∷ []) $ split ! $ move ! (1 ∷ []) $ split ! $ move ! (1 ∷ []) $ split ! $ move ! (16 ∷ 1 ∷ []) $ join ! $ move ! (1 ∷ 0 ∷ []) $ join ! $
+      move ! (10 ∷ []) $ split ! $ move ! (1 ∷ []) $ split ! $ move ! (1 ∷ []) $ split ! $ move ! (1 ∷ []) $ split ! $ move ! (1 ∷ []) $ split ! $ move ! (15 ∷ 1 ∷ []) $ join ! $
       move ! (1 ∷ 0 ∷ []) $ join ! $ move ! (1 ∷ 0 ∷ []) $ join ! $ move ! (1 ∷ 0 ∷ []) $ join ! $ move ! (1 ∷ 0 ∷ []) $ join ! $ move ! (1 ∷ 0 ∷ []) $ join ! $ frame ! $
       feqI ! (List Val) (vptr (c .ptr .0) (c .ptr .1) ∷ []) (vptr (c .ptr .0) (c .ptr .1) ∷ []) refl $ move ! (0 ∷ 8 ∷ 9 ∷ []) $ fjoin3 ! $ nothing ! $ nothing ! $ fjoin ! $ nothing ! $ fjoin ! $ move ! (1 ∷ 0 ∷ []) $ fjoin ! $
       move ! (1 ∷ 0 ∷ []) $ fjoin ! $ move ! (2 ∷ 0 ∷ []) $ fjoin ! $ move ! (2 ∷ 0 ∷ []) $ fjoin ! $ move ! (2 ∷ 0 ∷ []) $ fjoin ! $ nothing ! $ fjoin ! $ nothing ! $ fjoin ! $ frame ! $ feqI ! (List Val) (vunit ∷ []) (vunit ∷ []) refl $
@@ -201,7 +201,7 @@ module _ {M : Type 1} (𝓤 : URA M) (H : Heap 𝓤) (A : Atoms 𝓤) (W : Given
         pass1 ! (init ! 28 refl (tt, (tt, (record { fits = rl .0 }, tt)))) $ pass1 ! (init ! 26 refl (tt, (tt, (record { fits = rk .0 }, tt)))) $ pass1 ! (init ! 24 refl (tt, tt)) $ pass1 ! (init ! 22 refl (tt, tt)) $
         pass1 ! (init ! 20 refl (tt, record { fits = n-fits })) $ pass1 ! (init ! 18 refl (tt, record { fits = m-fits })) $ pass0 ! $
         -- the scope's borrow is opened
-        move ! (38 ∷ 39 ∷ []) $ use2 W (Lent ⊛ ‵ (fobs (c .name) (R .coded .code h)) ⊛ ‵ (fbor (κs .1 .1 .1 .1 .1 .1 .0) (Body (mem R) (c .ptr .0) (c .ptr .1) (c .name))) ⊛ ‵ (flft (κs .1 .1 .1 .1 .1 .1 .0) (qs .1 .1 .1 .1 .1 .1 .0))) apart $
+        move ! (38 ∷ 39 ∷ []) $ use2 W (Lent ⊛ ‵ (fobs (c .name) (R .coded .code h)) ⊛ ‵ (fbor (κs .1 .1 .1 .1 .1 .0) (Body (mem R) (c .ptr .0) (c .ptr .1) (c .name))) ⊛ ‵ (flft (κs .1 .1 .1 .1 .1 .0) (qs .1 .1 .1 .1 .1 .0))) apart $
         split ! $ move ! (1 ∷ []) $ split ! $ move ! (1 ∷ []) $ split ! $ move ! (2 ∷ 0 ∷ 1 ∷ []) $
         opens ! tt R {h = h} (c .ptr .0) (c .ptr .1) (λ vs. one-cell ! R (Is R) (shows 𝓤 H A R) (LL.val T.the-type T′.the-laws) (LL.tells T.the-type T′.the-laws) fullShare h vs (c .ptr .0) (c .ptr .1) (λ u is.
         use1 W (‵ (fat fullShare T′.mir (c .ptr .0) (c .ptr .1) u)) (W .laws .raw-at fullShare T′.mir (c .ptr .0) (c .ptr .1) u) $
@@ -217,8 +217,8 @@ module _ {M : Type 1} (𝓤 : URA M) (H : Heap 𝓤) (A : Atoms 𝓤) (W : Given
         -- `pattern::write`
         move ! (5 ∷ []) $ use1 W (raw (WritePattern 𝓤 H A at-mem run .pre (to-write u))) (goes u is) $
         calls-at ! fm (WritePattern 𝓤 H A at-mem run) known (to-write u) (and-then ! (load ! (from ! (stop !)) (look ! 40 refl)) (and-then ! (load ! (from ! (stop !)) (look ! 38 refl)) (and-then ! (load ! (from ! (stop !)) (look ! 18 refl)) (and-then ! (load ! (from ! (stop !)) (look ! 14 refl)) (and-then ! (load ! (from ! (stop !)) (look ! 10 refl)) (and-then ! (load ! (from ! (stop !)) (look ! 8 refl)) (and-then ! (load ! (from ! (stop !)) (look ! 6 refl)) (and-then ! (load ! (from ! (stop !)) (look ! 26 refl)) (and-then ! (load ! (from ! (stop !)) (look ! 24 refl)) (no-more !)))))))))) (λ w.
-        use1 W (later (some (λ (r : Scope). (Alive ⊛ ‵ (R .own r (w ∷ []))) ⊛ raw (ensured 𝓤 H A write-pattern.ended (write-pattern.clauses 𝓤 H A at-mem run) κs₆ xs₆ tt r)))) (id⊢ 𝓤 _) $ await ! tt $ pick ! (λ r.
-        split ! $ move ! (1 ∷ []) $ use1 W (some (λ (zs : Zs). ‵ (lasts write-pattern.ended κs₆ xs₆ zs) ⊛ raw (fact 𝓤 (Said r zs)))) (id⊢ 𝓤 _) $ pick ! (λ zs. split ! $ move ! (1 ∷ []) $ heard ! (Said r zs) (λ e.
+        use1 W (later (some (λ (r : Scope). (Alive ⊛ ‵ (R .own r (w ∷ []))) ⊛ raw (ensured 𝓤 H A write-pattern.ended (write-pattern.clauses 𝓤 H A at-mem run) κs₅ xs₅ tt r)))) (id⊢ 𝓤 _) $ await ! tt $ pick ! (λ r.
+        split ! $ move ! (1 ∷ []) $ use1 W (some (λ (zs : Zs). ‵ (lasts write-pattern.ended κs₅ xs₅ zs) ⊛ raw (fact 𝓤 (Said r zs)))) (id⊢ 𝓤 _) $ pick ! (λ zs. split ! $ move ! (1 ∷ []) $ heard ! (Said r zs) (λ e.
         move ! (1 ∷ []) $ split ! $ move ! (1 ∷ []) $ peeks ! R (Is R) (shows 𝓤 H A R) r (w ∷ []) (λ is′.
         -- [the result; the tokens; the last values; the scope's cell; what the scope owns; the open borrow; obs; auth; the locals]
         land ! (from ! (stop !)) (init ! 24 refl (LL.lawful T.the-type T′.the-laws 𝓤 H A W .typed r _ is′ .0)) $
@@ -240,14 +240,14 @@ module _ {M : Type 1} (𝓤 : URA M) (H : Heap 𝓤) (A : Atoms 𝓤) (W : Given
       (λ κs. (
         shr-slice-tells (named 0) (κs .0) u8,
         (
-          shr-slice-tells (named 1) (κs .1 .0) u8,
+          shr-slice-tells (named 0) (κs .0) u8,
           (
-            mut-slice-tells (named 2) (κs .1 .1 .0) u8,
+            mut-slice-tells (named 1) (κs .1 .0) u8,
             (
-              mut-slice-tells (named 3) (κs .1 .1 .1 .0) u8,
+              mut-slice-tells (named 2) (κs .1 .1 .0) u8,
               (
-                mut-slice-tells (named 4) (κs .1 .1 .1 .1 .0) u8,
-                (mut-tells (named 5) (κs .1 .1 .1 .1 .1 .0) Trail, (mut-tells (named 6) (κs .1 .1 .1 .1 .1 .1 .0) R, (uint-tells w64, (uint-tells w64, tt)))),
+                mut-slice-tells (named 3) (κs .1 .1 .1 .0) u8,
+                (mut-tells (named 4) (κs .1 .1 .1 .1 .0) Trail, (mut-tells (named 5) (κs .1 .1 .1 .1 .1 .0) R, (uint-tells w64, (uint-tells w64, tt)))),
               ),
             ),
           ),
@@ -260,16 +260,16 @@ write-meets : {M : Type 1} (𝓤 : URA M) (H : Heap 𝓤) (A : Atoms 𝓤) → G
     → Meets 𝓤 H A write.signature (WpFn 𝓤 H (𝓣 .C) (𝓣 .Λ) code.function) (write.spec 𝓤 H A mem run)
 write-meets 𝓤 H A W mem run 𝓣 known =
     walk-meets 𝓤 H A write.ended stayed W (
-      goes-dropped 𝓤 H A W 7 StoreS yes (λ κs x f. refl),
+      goes-dropped 𝓤 H A W 6 StoreS yes (λ κs x f. refl),
       (
-        goes-dropped 𝓤 H A W 7 ArgsS yes (λ κs x f. refl),
+        goes-dropped 𝓤 H A W 6 ArgsS yes (λ κs x f. refl),
         (
-          goes-gave-slice 𝓤 H A W 7 2 tt BytesS,
+          goes-gave-slice 𝓤 H A W 6 1 tt BytesS,
           (
-            goes-gave-slice 𝓤 H A W 7 3 tt BytesS,
+            goes-gave-slice 𝓤 H A W 6 2 tt BytesS,
             (
-              goes-gave-slice 𝓤 H A W 7 4 tt BytesS,
-              (goes-gave-ref 𝓤 H A W 7 5 tt TrailS, (goes-ref 𝓤 H A W 7 6 tt ScopeS, (goes-dropped 𝓤 H A W 7 NumberS yes (λ κs x f. refl), (goes-dropped 𝓤 H A W 7 NumberS yes (λ κs x f. refl), tt)))),
+              goes-gave-slice 𝓤 H A W 6 3 tt BytesS,
+              (goes-gave-ref 𝓤 H A W 6 4 tt TrailS, (goes-ref 𝓤 H A W 6 5 tt ScopeS, (goes-dropped 𝓤 H A W 6 NumberS yes (λ κs x f. refl), (goes-dropped 𝓤 H A W 6 NumberS yes (λ κs x f. refl), tt)))),
             ),
           ),
         ),

@@ -1,8 +1,7 @@
 -- What is left of `skip_expression`.
 use Prim.Native.Nat.{_-_, ℕ}
-use Rattle.records.proofs.Views.{num-is, num-none}
-use Rattle.records.specs.Decode.{expression, inline}
-use Rattle.walks.proofs.Steps.{body-bad, body-function, body-message, body-nested, body-plain, body-term, body-term-bad, both-bad, both-inline, both-none, both-select, passing, select-bad, select-passes, select-uncounted}
+use Rattle.walks.proofs.Steps.{body-bad, body-nested, body-rest, body-select, expression-none, rest-function, rest-message, rest-none, rest-term-bad, rest-term-step, select-bad, select-step, select-uncounted, tag-bad, tag-step}
+use Rattle.walks.specs.Outline.{expressionOutline}
 use borrow.Author.Needs.{needs}
 use denote.Ref.{now}
 use native.Mathlib.Omega.{arith}
@@ -11,7 +10,7 @@ use Rattle.walks.proofs.+skip_arguments+skip_expression+skip_inlines+sk
 use Rattle.walks.proofs.+skip_arguments+skip_expression+skip_inlines+skip_term_arguments.Proof.Base.{skip-expression-at, skip-expression-claims}
 
 pub returns : (t : ℕ) → skip-expression-lts.Need-returns (skip-expression-claims t) (skip-expression-at t) skip-expression-reads.Post
-returns t c = both-none (now (c .before .before .args .s)) (c .before .before .args .at) (c .before .before .args .left) (c .if1 .taken)
+returns t c = expression-none (now (c .before .before .args .s)) (c .before .before .args .at) (c .before .before .args .left) (c .if1 .taken)
 
 pub read-byte-requires : (t : ℕ) → skip-expression-lts.Need-read-byte-requires (skip-expression-claims t) (skip-expression-at t) skip-expression-reads.Post
 read-byte-requires t c κs = search needs
@@ -23,7 +22,7 @@ pub enum-told : (t : ℕ) → skip-expression-lts.Need-enum-told (skip-expressio
 enum-told t c = search needs
 
 pub returns-2 : (t : ℕ) → skip-expression-lts.Need-returns-2 (skip-expression-claims t) (skip-expression-at t) skip-expression-reads.Post
-returns-2 t c = both-bad (now (c .before .before .before .before .before .args .s)) (c .before .before .before .before .before .args .at) (c .before .before .before .before .before .args .left) (num-none (c .before .before .read-byte .ensures) (c .enum-told .given .1))
+returns-2 t c = tag-bad (now (c .before .before .before .before .before .args .s)) (c .before .before .before .before .before .args .at) (c .before .before .before .before .before .args .left) (c .before .before .before .if1 .left) (c .before .before .read-byte .ensures) (c .enum-told .given .1)
 
 pub sub-skip-expression : (t : ℕ) → skip-expression-lts.Need-sub-skip-expression (skip-expression-claims t) (skip-expression-at t) skip-expression-reads.Post
 sub-skip-expression t c = omega arith
@@ -38,10 +37,8 @@ pub enum-told-2 : (t : ℕ) → skip-expression-lts.Need-enum-told-2 (skip-expre
 enum-told-2 t c = search needs
 
 pub returns-3 : (t : ℕ) → skip-expression-lts.Need-returns-3 (skip-expression-claims t) (skip-expression-at t) skip-expression-reads.Post
-returns-3 t c =
-    let tag-is = num-is (c .before .before .before .before .before .before .before .read-byte .ensures) (c .before .before .before .before .before .tag .given .1) in
-    both-select (now (c .before .before .before .before .before .before .before .before .before .before .args .s)) (c .before .before .before .before .before .before .before .before .before .before .args .at) (c .before .before .before .before .before .before .before .before .before .before .args .left) tag-is (c .before .before .before .if2 .taken)
-    (select-bad (expression (c .before .before .before .before .before .before .before .before .before .before .args .left - 1)) (inline (c .before .before .before .before .before .before .before .before .before .before .args .left - 1)) (now (c .before .before .before .before .before .before .before .before .before .before .args .s)) _ (c .before .before .skip-expression .ensures .1) (c .enum-told2 .given .1))
+returns-3 t c = tag-step (now (c .before .before .before .before .before .before .before .before .before .before .args .s)) (c .before .before .before .before .before .before .before .before .before .before .args .at) (c .before .before .before .before .before .before .before .before .before .before .args .left) (c .before .before .before .before .before .before .before .before .if1 .left) (c .before .before .before .before .before .before .before .read-byte .ensures) (c .before .before .before .before .before .tag .given .1)
+    (body-select (expressionOutline (c .before .before .before .before .before .before .before .before .before .before .args .left - 1)) (now (c .before .before .before .before .before .before .before .before .before .before .args .s)) _ _ (c .before .before .before .if2 .taken) (select-bad (expressionOutline (c .before .before .before .before .before .before .before .before .before .before .args .left - 1)) (now (c .before .before .before .before .before .before .before .before .before .before .args .s)) _ (c .before .before .skip-expression .ensures) (c .enum-told2 .given .1)))
 
 pub read-u16-requires : (t : ℕ) → skip-expression-lts.Need-read-u16-requires (skip-expression-claims t) (skip-expression-at t) skip-expression-reads.Post
 read-u16-requires t c κs = search needs
@@ -53,19 +50,15 @@ pub enum-told-3 : (t : ℕ) → skip-expression-lts.Need-enum-told-3 (skip-expre
 enum-told-3 t c = search needs
 
 pub returns-4 : (t : ℕ) → skip-expression-lts.Need-returns-4 (skip-expression-claims t) (skip-expression-at t) skip-expression-reads.Post
-returns-4 t c =
-    let tag-is = num-is (c .before .before .before .before .before .before .before .before .before .before .before .read-byte .ensures) (c .before .before .before .before .before .before .before .before .before .tag .given .1) in
-    both-select (now (c .before .before .before .before .before .before .before .before .before .before .before .before .before .before .args .s)) (c .before .before .before .before .before .before .before .before .before .before .before .before .before .before .args .at) (c .before .before .before .before .before .before .before .before .before .before .before .before .before .before .args .left) tag-is (c .before .before .before .before .before .before .before .if2 .taken)
-    (select-uncounted (expression (c .before .before .before .before .before .before .before .before .before .before .before .before .before .before .args .left - 1)) (inline (c .before .before .before .before .before .before .before .before .before .before .before .before .before .before .args .left - 1)) (now (c .before .before .before .before .before .before .before .before .before .before .before .before .before .before .args .s)) _ (c .before .before .before .before .before .before .skip-expression .ensures .1) (c .before .before .before .before .q .given .1) (num-none (c .before .before .read-u16 .ensures) (c .enum-told3 .given .1)))
+returns-4 t c = tag-step (now (c .before .before .before .before .before .before .before .before .before .before .before .before .before .before .args .s)) (c .before .before .before .before .before .before .before .before .before .before .before .before .before .before .args .at) (c .before .before .before .before .before .before .before .before .before .before .before .before .before .before .args .left) (c .before .before .before .before .before .before .before .before .before .before .before .before .if1 .left) (c .before .before .before .before .before .before .before .before .before .before .before .read-byte .ensures) (c .before .before .before .before .before .before .before .before .before .tag .given .1)
+    (body-select (expressionOutline (c .before .before .before .before .before .before .before .before .before .before .before .before .before .before .args .left - 1)) (now (c .before .before .before .before .before .before .before .before .before .before .before .before .before .before .args .s)) _ _ (c .before .before .before .before .before .before .before .if2 .taken) (select-uncounted (expressionOutline (c .before .before .before .before .before .before .before .before .before .before .before .before .before .before .args .left - 1)) (now (c .before .before .before .before .before .before .before .before .before .before .before .before .before .before .args .s)) _ (c .before .before .before .before .before .before .skip-expression .ensures) (c .before .before .before .before .q .given .1) (c .before .before .read-u16 .ensures) (c .enum-told3 .given .1)))
 
 pub skip-variants-requires : (t : ℕ) → skip-expression-lts.Need-skip-variants-requires (skip-expression-claims t) (skip-expression-at t) skip-expression-reads.Post
 skip-variants-requires t c κs = search needs
 
 pub returns-5 : (t : ℕ) → skip-expression-lts.Need-returns-5 (skip-expression-claims t) (skip-expression-at t) skip-expression-reads.Post
-returns-5 t c =
-    let tag-is = num-is (c .before .before .before .before .before .before .before .before .before .before .before .before .before .read-byte .ensures) (c .before .before .before .before .before .before .before .before .before .before .before .tag .given .1) in
-    both-select (now (c .before .before .before .before .before .before .before .before .before .before .before .before .before .before .before .before .args .s)) (c .before .before .before .before .before .before .before .before .before .before .before .before .before .before .before .before .args .at) (c .before .before .before .before .before .before .before .before .before .before .before .before .before .before .before .before .args .left) tag-is (c .before .before .before .before .before .before .before .before .before .if2 .taken)
-    (select-passes (expression (c .before .before .before .before .before .before .before .before .before .before .before .before .before .before .before .before .args .left - 1)) (inline (c .before .before .before .before .before .before .before .before .before .before .before .before .before .before .before .before .args .left - 1)) (now (c .before .before .before .before .before .before .before .before .before .before .before .before .before .before .before .before .args .s)) _ (c .before .before .before .before .before .before .before .before .skip-expression .ensures .1) (c .before .before .before .before .before .before .q .given .1) (num-is (c .before .before .before .before .read-u16 .ensures) (c .before .before .k .given .1)) (c .skip-variants .ensures (c .before .before .before .before .before .before .before .before .before .before .before .before .before .before .before .before .args .left - 1)))
+returns-5 t c = tag-step (now (c .before .before .before .before .before .before .before .before .before .before .before .before .before .before .before .before .args .s)) (c .before .before .before .before .before .before .before .before .before .before .before .before .before .before .before .before .args .at) (c .before .before .before .before .before .before .before .before .before .before .before .before .before .before .before .before .args .left) (c .before .before .before .before .before .before .before .before .before .before .before .before .before .before .if1 .left) (c .before .before .before .before .before .before .before .before .before .before .before .before .before .read-byte .ensures) (c .before .before .before .before .before .before .before .before .before .before .before .tag .given .1)
+    (body-select (expressionOutline (c .before .before .before .before .before .before .before .before .before .before .before .before .before .before .before .before .args .left - 1)) (now (c .before .before .before .before .before .before .before .before .before .before .before .before .before .before .before .before .args .s)) _ _ (c .before .before .before .before .before .before .before .before .before .if2 .taken) (select-step (expressionOutline (c .before .before .before .before .before .before .before .before .before .before .before .before .before .before .before .before .args .left - 1)) (now (c .before .before .before .before .before .before .before .before .before .before .before .before .before .before .before .before .args .s)) _ (c .before .before .before .before .before .before .before .before .skip-expression .ensures) (c .before .before .before .before .before .before .q .given .1) (c .before .before .before .before .read-u16 .ensures) (c .before .before .k .given .1) (c .skip-variants .ensures)))
 
 pub sub-skip-expression-2 : (t : ℕ) → skip-expression-lts.Need-sub-skip-expression-2 (skip-expression-claims t) (skip-expression-at t) skip-expression-reads.Post
 sub-skip-expression-2 t c = omega arith
@@ -74,10 +67,8 @@ pub skip-expression-requires-2 : (t : ℕ) → skip-expression-lts.Need-skip-exp
 skip-expression-requires-2 t c κs = omega arith
 
 pub returns-6 : (t : ℕ) → skip-expression-lts.Need-returns-6 (skip-expression-claims t) (skip-expression-at t) skip-expression-reads.Post
-returns-6 t c =
-    let tag-is = num-is (c .before .before .before .before .before .before .read-byte .ensures) (c .before .before .before .before .tag .given .1) in
-    both-inline (now (c .before .before .before .before .before .before .before .before .before .args .s)) (c .before .before .before .before .before .before .before .before .before .args .at) (c .before .before .before .before .before .before .before .before .before .args .left) tag-is (c .before .before .if2 .left)
-    (body-nested (expression (c .before .before .before .before .before .before .before .before .before .args .left - 1)) (inline (c .before .before .before .before .before .before .before .before .before .args .left - 1)) (now (c .before .before .before .before .before .before .before .before .before .args .s)) _ _ (c .before .if3 .taken) (c .skip-expression2 .ensures .0))
+returns-6 t c = tag-step (now (c .before .before .before .before .before .before .before .before .before .args .s)) (c .before .before .before .before .before .before .before .before .before .args .at) (c .before .before .before .before .before .before .before .before .before .args .left) (c .before .before .before .before .before .before .before .if1 .left) (c .before .before .before .before .before .before .read-byte .ensures) (c .before .before .before .before .tag .given .1)
+    (body-nested (expressionOutline (c .before .before .before .before .before .before .before .before .before .args .left - 1)) (now (c .before .before .before .before .before .before .before .before .before .args .s)) _ _ (c .before .if3 .taken) (c .skip-expression2 .ensures))
 
 pub skip-str-requires : (t : ℕ) → skip-expression-lts.Need-skip-str-requires (skip-expression-claims t) (skip-expression-at t) skip-expression-reads.Post
 skip-str-requires t c κs = search needs
@@ -89,11 +80,8 @@ pub enum-told-4 : (t : ℕ) → skip-expression-lts.Need-enum-told-4 (skip-expre
 enum-told-4 t c = search needs
 
 pub returns-7 : (t : ℕ) → skip-expression-lts.Need-returns-7 (skip-expression-claims t) (skip-expression-at t) skip-expression-reads.Post
-returns-7 t c =
-    let tag-is = num-is (c .before .before .before .before .before .before .before .before .read-byte .ensures) (c .before .before .before .before .before .before .tag .given .1) in
-    let str = passing (c .before .before .skip-str .ensures) in
-    both-inline (now (c .before .before .before .before .before .before .before .before .before .before .before .args .s)) (c .before .before .before .before .before .before .before .before .before .before .before .args .at) (c .before .before .before .before .before .before .before .before .before .before .before .args .left) tag-is (c .before .before .before .before .if2 .left)
-    (body-bad (expression (c .before .before .before .before .before .before .before .before .before .before .before .args .left - 1)) (inline (c .before .before .before .before .before .before .before .before .before .before .before .args .left - 1)) (now (c .before .before .before .before .before .before .before .before .before .before .before .args .s)) _ _ str (c .before .before .before .if3 .left) (c .enum-told4 .given .1))
+returns-7 t c = tag-step (now (c .before .before .before .before .before .before .before .before .before .before .before .args .s)) (c .before .before .before .before .before .before .before .before .before .before .before .args .at) (c .before .before .before .before .before .before .before .before .before .before .before .args .left) (c .before .before .before .before .before .before .before .before .before .if1 .left) (c .before .before .before .before .before .before .before .before .read-byte .ensures) (c .before .before .before .before .before .before .tag .given .1)
+    (body-bad (expressionOutline (c .before .before .before .before .before .before .before .before .before .before .before .args .left - 1)) (now (c .before .before .before .before .before .before .before .before .before .before .before .args .s)) _ _ (c .before .before .before .if3 .left) (c .before .before .before .before .if2 .left) (c .before .before .skip-str .ensures) (c .enum-told4 .given .1))
 
 pub sub-skip-arguments : (t : ℕ) → skip-expression-lts.Need-sub-skip-arguments (skip-expression-claims t) (skip-expression-at t) skip-expression-reads.Post
 sub-skip-arguments t c = omega arith
@@ -102,21 +90,15 @@ pub skip-arguments-requires : (t : ℕ) → skip-expression-lts.Need-skip-argume
 skip-arguments-requires t c κs = omega arith
 
 pub returns-8 : (t : ℕ) → skip-expression-lts.Need-returns-8 (skip-expression-claims t) (skip-expression-at t) skip-expression-reads.Post
-returns-8 t c =
-    let tag-is = num-is (c .before .before .before .before .before .before .before .before .before .before .before .read-byte .ensures) (c .before .before .before .before .before .before .before .before .before .tag .given .1) in
-    let str = passing (c .before .before .before .before .before .skip-str .ensures) in
-    both-inline (now (c .before .before .before .before .before .before .before .before .before .before .before .before .before .before .args .s)) (c .before .before .before .before .before .before .before .before .before .before .before .before .before .before .args .at) (c .before .before .before .before .before .before .before .before .before .before .before .before .before .before .args .left) tag-is (c .before .before .before .before .before .before .before .if2 .left)
-    (body-function (expression (c .before .before .before .before .before .before .before .before .before .before .before .before .before .before .args .left - 1)) (inline (c .before .before .before .before .before .before .before .before .before .before .before .before .before .before .args .left - 1)) (now (c .before .before .before .before .before .before .before .before .before .before .before .before .before .before .args .s)) _ _ str (c .before .before .before .q2 .given .1) (c .before .if4 .taken) (c .skip-arguments .ensures))
+returns-8 t c = tag-step (now (c .before .before .before .before .before .before .before .before .before .before .before .before .before .before .args .s)) (c .before .before .before .before .before .before .before .before .before .before .before .before .before .before .args .at) (c .before .before .before .before .before .before .before .before .before .before .before .before .before .before .args .left) (c .before .before .before .before .before .before .before .before .before .before .before .before .if1 .left) (c .before .before .before .before .before .before .before .before .before .before .before .read-byte .ensures) (c .before .before .before .before .before .before .before .before .before .tag .given .1)
+    (body-rest (expressionOutline (c .before .before .before .before .before .before .before .before .before .before .before .before .before .before .args .left - 1)) (now (c .before .before .before .before .before .before .before .before .before .before .before .before .before .before .args .s)) _ _ (c .before .before .before .before .before .before .if3 .left) (c .before .before .before .before .before .before .before .if2 .left) (c .before .before .before .before .before .skip-str .ensures) (c .before .before .before .q2 .given .1) (rest-function (expressionOutline (c .before .before .before .before .before .before .before .before .before .before .before .before .before .before .args .left - 1)) (now (c .before .before .before .before .before .before .before .before .before .before .before .before .before .before .args .s)) _ _ (c .before .if4 .taken) (c .skip-arguments .ensures)))
 
 pub skip-optional-requires : (t : ℕ) → skip-expression-lts.Need-skip-optional-requires (skip-expression-claims t) (skip-expression-at t) skip-expression-reads.Post
 skip-optional-requires t c κs = search needs
 
 pub returns-9 : (t : ℕ) → skip-expression-lts.Need-returns-9 (skip-expression-claims t) (skip-expression-at t) skip-expression-reads.Post
-returns-9 t c =
-    let tag-is = num-is (c .before .before .before .before .before .before .before .before .before .before .before .before .read-byte .ensures) (c .before .before .before .before .before .before .before .before .before .before .tag .given .1) in
-    let str = passing (c .before .before .before .before .before .before .skip-str .ensures) in
-    both-inline (now (c .before .before .before .before .before .before .before .before .before .before .before .before .before .before .before .args .s)) (c .before .before .before .before .before .before .before .before .before .before .before .before .before .before .before .args .at) (c .before .before .before .before .before .before .before .before .before .before .before .before .before .before .before .args .left) tag-is (c .before .before .before .before .before .before .before .before .if2 .left)
-    (body-message (expression (c .before .before .before .before .before .before .before .before .before .before .before .before .before .before .before .args .left - 1)) (inline (c .before .before .before .before .before .before .before .before .before .before .before .before .before .before .before .args .left - 1)) (now (c .before .before .before .before .before .before .before .before .before .before .before .before .before .before .before .args .s)) _ _ str (c .before .before .before .before .q2 .given .1) (c .before .if5 .taken) (c .skip-optional .ensures))
+returns-9 t c = tag-step (now (c .before .before .before .before .before .before .before .before .before .before .before .before .before .before .before .args .s)) (c .before .before .before .before .before .before .before .before .before .before .before .before .before .before .before .args .at) (c .before .before .before .before .before .before .before .before .before .before .before .before .before .before .before .args .left) (c .before .before .before .before .before .before .before .before .before .before .before .before .before .if1 .left) (c .before .before .before .before .before .before .before .before .before .before .before .before .read-byte .ensures) (c .before .before .before .before .before .before .before .before .before .before .tag .given .1)
+    (body-rest (expressionOutline (c .before .before .before .before .before .before .before .before .before .before .before .before .before .before .before .args .left - 1)) (now (c .before .before .before .before .before .before .before .before .before .before .before .before .before .before .before .args .s)) _ _ (c .before .before .before .before .before .before .before .if3 .left) (c .before .before .before .before .before .before .before .before .if2 .left) (c .before .before .before .before .before .before .skip-str .ensures) (c .before .before .before .before .q2 .given .1) (rest-message (expressionOutline (c .before .before .before .before .before .before .before .before .before .before .before .before .before .before .before .args .left - 1)) (now (c .before .before .before .before .before .before .before .before .before .before .before .before .before .before .before .args .s)) _ _ (c .before .if5 .taken) (c .skip-optional .ensures)))
 
 pub skip-optional-requires-2 : (t : ℕ) → skip-expression-lts.Need-skip-optional-requires-2 (skip-expression-claims t) (skip-expression-at t) skip-expression-reads.Post
 skip-optional-requires-2 t c κs = search needs
@@ -128,11 +110,8 @@ pub enum-told-5 : (t : ℕ) → skip-expression-lts.Need-enum-told-5 (skip-expre
 enum-told-5 t c = search needs
 
 pub returns-10 : (t : ℕ) → skip-expression-lts.Need-returns-10 (skip-expression-claims t) (skip-expression-at t) skip-expression-reads.Post
-returns-10 t c =
-    let tag-is = num-is (c .before .before .before .before .before .before .before .before .before .before .before .before .before .before .before .read-byte .ensures) (c .before .before .before .before .before .before .before .before .before .before .before .before .before .tag .given .1) in
-    let str = passing (c .before .before .before .before .before .before .before .before .before .skip-str .ensures) in
-    both-inline (now (c .before .before .before .before .before .before .before .before .before .before .before .before .before .before .before .before .before .before .args .s)) (c .before .before .before .before .before .before .before .before .before .before .before .before .before .before .before .before .before .before .args .at) (c .before .before .before .before .before .before .before .before .before .before .before .before .before .before .before .before .before .before .args .left) tag-is (c .before .before .before .before .before .before .before .before .before .before .before .if2 .left)
-    (body-term-bad (expression (c .before .before .before .before .before .before .before .before .before .before .before .before .before .before .before .before .before .before .args .left - 1)) (inline (c .before .before .before .before .before .before .before .before .before .before .before .before .before .before .before .before .before .before .args .left - 1)) (now (c .before .before .before .before .before .before .before .before .before .before .before .before .before .before .before .before .before .before .args .s)) _ _ str (c .before .before .before .before .before .before .before .q2 .given .1) (c .before .before .before .if6 .taken) (c .before .before .skip-optional2 .ensures) (c .enum-told5 .given .1))
+returns-10 t c = tag-step (now (c .before .before .before .before .before .before .before .before .before .before .before .before .before .before .before .before .before .before .args .s)) (c .before .before .before .before .before .before .before .before .before .before .before .before .before .before .before .before .before .before .args .at) (c .before .before .before .before .before .before .before .before .before .before .before .before .before .before .before .before .before .before .args .left) (c .before .before .before .before .before .before .before .before .before .before .before .before .before .before .before .before .if1 .left) (c .before .before .before .before .before .before .before .before .before .before .before .before .before .before .before .read-byte .ensures) (c .before .before .before .before .before .before .before .before .before .before .before .before .before .tag .given .1)
+    (body-rest (expressionOutline (c .before .before .before .before .before .before .before .before .before .before .before .before .before .before .before .before .before .before .args .left - 1)) (now (c .before .before .before .before .before .before .before .before .before .before .before .before .before .before .before .before .before .before .args .s)) _ _ (c .before .before .before .before .before .before .before .before .before .before .if3 .left) (c .before .before .before .before .before .before .before .before .before .before .before .if2 .left) (c .before .before .before .before .before .before .before .before .before .skip-str .ensures) (c .before .before .before .before .before .before .before .q2 .given .1) (rest-term-bad (expressionOutline (c .before .before .before .before .before .before .before .before .before .before .before .before .before .before .before .before .before .before .args .left - 1)) (now (c .before .before .before .before .before .before .before .before .before .before .before .before .before .before .before .before .before .before .args .s)) _ _ (c .before .before .before .if6 .taken) (c .before .before .skip-optional2 .ensures) (c .enum-told5 .given .1)))
 
 pub sub-skip-term-arguments : (t : ℕ) → skip-expression-lts.Need-sub-skip-term-arguments (skip-expression-claims t) (skip-expression-at t) skip-expression-reads.Post
 sub-skip-term-arguments t c = omega arith
@@ -141,15 +120,9 @@ pub skip-term-arguments-requires : (t : ℕ) → skip-expression-lts.Need-skip-t
 skip-term-arguments-requires t c κs = omega arith
 
 pub returns-11 : (t : ℕ) → skip-expression-lts.Need-returns-11 (skip-expression-claims t) (skip-expression-at t) skip-expression-reads.Post
-returns-11 t c =
-    let tag-is = num-is (c .before .before .before .before .before .before .before .before .before .before .before .before .before .before .before .before .before .read-byte .ensures) (c .before .before .before .before .before .before .before .before .before .before .before .before .before .before .before .tag .given .1) in
-    let str = passing (c .before .before .before .before .before .before .before .before .before .before .before .skip-str .ensures) in
-    both-inline (now (c .before .before .before .before .before .before .before .before .before .before .before .before .before .before .before .before .before .before .before .before .args .s)) (c .before .before .before .before .before .before .before .before .before .before .before .before .before .before .before .before .before .before .before .before .args .at) (c .before .before .before .before .before .before .before .before .before .before .before .before .before .before .before .before .before .before .before .before .args .left) tag-is (c .before .before .before .before .before .before .before .before .before .before .before .before .before .if2 .left)
-    (body-term (expression (c .before .before .before .before .before .before .before .before .before .before .before .before .before .before .before .before .before .before .before .before .args .left - 1)) (inline (c .before .before .before .before .before .before .before .before .before .before .before .before .before .before .before .before .before .before .before .before .args .left - 1)) (now (c .before .before .before .before .before .before .before .before .before .before .before .before .before .before .before .before .before .before .before .before .args .s)) _ _ str (c .before .before .before .before .before .before .before .before .before .q2 .given .1) (c .before .before .before .before .before .if6 .taken) (c .before .before .before .before .skip-optional2 .ensures) (c .before .before .e .given .1) (c .skip-term-arguments .ensures))
+returns-11 t c = tag-step (now (c .before .before .before .before .before .before .before .before .before .before .before .before .before .before .before .before .before .before .before .before .args .s)) (c .before .before .before .before .before .before .before .before .before .before .before .before .before .before .before .before .before .before .before .before .args .at) (c .before .before .before .before .before .before .before .before .before .before .before .before .before .before .before .before .before .before .before .before .args .left) (c .before .before .before .before .before .before .before .before .before .before .before .before .before .before .before .before .before .before .if1 .left) (c .before .before .before .before .before .before .before .before .before .before .before .before .before .before .before .before .before .read-byte .ensures) (c .before .before .before .before .before .before .before .before .before .before .before .before .before .before .before .tag .given .1)
+    (body-rest (expressionOutline (c .before .before .before .before .before .before .before .before .before .before .before .before .before .before .before .before .before .before .before .before .args .left - 1)) (now (c .before .before .before .before .before .before .before .before .before .before .before .before .before .before .before .before .before .before .before .before .args .s)) _ _ (c .before .before .before .before .before .before .before .before .before .before .before .before .if3 .left) (c .before .before .before .before .before .before .before .before .before .before .before .before .before .if2 .left) (c .before .before .before .before .before .before .before .before .before .before .before .skip-str .ensures) (c .before .before .before .before .before .before .before .before .before .q2 .given .1) (rest-term-step (expressionOutline (c .before .before .before .before .before .before .before .before .before .before .before .before .before .before .before .before .before .before .before .before .args .left - 1)) (now (c .before .before .before .before .before .before .before .before .before .before .before .before .before .before .before .before .before .before .before .before .args .s)) _ _ (c .before .before .before .before .before .if6 .taken) (c .before .before .before .before .skip-optional2 .ensures) (c .before .before .e .given .1) (c .skip-term-arguments .ensures)))
 
 pub returns-12 : (t : ℕ) → skip-expression-lts.Need-returns-12 (skip-expression-claims t) (skip-expression-at t) skip-expression-reads.Post
-returns-12 t c =
-    let tag-is = num-is (c .before .before .before .before .before .before .before .before .before .before .before .before .read-byte .ensures) (c .before .before .before .before .before .before .before .before .before .before .tag .given .1) in
-    let str = passing (c .before .before .before .before .before .before .skip-str .ensures) in
-    both-inline (now (c .before .before .before .before .before .before .before .before .before .before .before .before .before .before .before .args .s)) (c .before .before .before .before .before .before .before .before .before .before .before .before .before .before .before .args .at) (c .before .before .before .before .before .before .before .before .before .before .before .before .before .before .before .args .left) tag-is (c .before .before .before .before .before .before .before .before .if2 .left)
-    (body-plain (expression (c .before .before .before .before .before .before .before .before .before .before .before .before .before .before .before .args .left - 1)) (inline (c .before .before .before .before .before .before .before .before .before .before .before .before .before .before .before .args .left - 1)) (now (c .before .before .before .before .before .before .before .before .before .before .before .before .before .before .before .args .s)) _ _ str (c .before .before .before .before .q2 .given .1) (c .before .before .before .before .before .before .before .if3 .left) (c .before .before .if4 .left) (c .before .if5 .left) (c .if6 .left))
+returns-12 t c = tag-step (now (c .before .before .before .before .before .before .before .before .before .before .before .before .before .before .before .args .s)) (c .before .before .before .before .before .before .before .before .before .before .before .before .before .before .before .args .at) (c .before .before .before .before .before .before .before .before .before .before .before .before .before .before .before .args .left) (c .before .before .before .before .before .before .before .before .before .before .before .before .before .if1 .left) (c .before .before .before .before .before .before .before .before .before .before .before .before .read-byte .ensures) (c .before .before .before .before .before .before .before .before .before .before .tag .given .1)
+    (body-rest (expressionOutline (c .before .before .before .before .before .before .before .before .before .before .before .before .before .before .before .args .left - 1)) (now (c .before .before .before .before .before .before .before .before .before .before .before .before .before .before .before .args .s)) _ _ (c .before .before .before .before .before .before .before .if3 .left) (c .before .before .before .before .before .before .before .before .if2 .left) (c .before .before .before .before .before .before .skip-str .ensures) (c .before .before .before .before .q2 .given .1) (rest-none (expressionOutline (c .before .before .before .before .before .before .before .before .before .before .before .before .before .before .before .args .left - 1)) (now (c .before .before .before .before .before .before .before .before .before .before .before .before .before .before .before .args .s)) _ _ (c .before .before .if4 .left) (c .before .if5 .left) (c .if6 .left)))

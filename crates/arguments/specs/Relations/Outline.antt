@@ -1,0 +1,58 @@
+-- What the code answers for a name, on any bytes: the arguments that can be read, from position 7 on (count at 5), each an Id's Str and a value by its
+-- lengths; of equal names the last. No rule for the bytes of a name or a value is looked at.
+use Prim.Native.Nat.{ℕ, zero, suc}
+use mathlib.Core.List.{List, [], _∷_}
+use mathlib.Core.Option.{Option, some, none}
+use lib.Dec.{eqb}
+use Rattle.records.specs.Got.{Got, got, bad, Parser, after, pick}
+use Rattle.records.specs.Bytes.{byteAt, numberAt, spanAt, strAt}
+use Rattle.records.specs.Decode.{as-a}
+use Rattle.records.specs.Names.{lastNamed}
+use Rattle.arguments.specs.declared.Given.{Given}
+use Rattle.arguments.specs.declared.Given.the-variants as given
+
+-- a number's ten bytes: sign, u64, scale
+unfoldable pub numberGiven : Parser Given
+numberGiven s at = after (byteAt s at) (λ f p. after (numberAt 8 s p) (λ d q. after (byteAt s q) (λ k e. got (given.Number (eqb f 1) d k) e)))
+
+-- a text: where it stands
+unfoldable pub textGiven : Parser Given
+textGiven s at = after (spanAt s at) (λ a e. got (given.Text a e) e)
+
+-- a value by its tag: 1 Str; 2 number; any other none
+unfoldable pub valueGiven : Parser Given
+valueGiven s at =
+    after (byteAt s at) (λ t p.
+    pick (eqb t 1) (textGiven s p)
+    (pick (eqb t 2) (numberGiven s p)
+    (got given.Nothing p)))
+
+-- an argument: the Str of its Id, and its value
+unfoldable pub rowAt : Parser (List ℕ × Given)
+rowAt s at = after (strAt s at) (λ n e. as-a (λ v. (n, v)) (valueGiven s e))
+
+-- what follows from what was read, or d where nothing was
+unfoldable pub readOr : {A B : Type 0} → B → Got A → (A → ℕ → B) → B
+readOr d (got a e) k = k a e
+readOr d bad k = d
+
+-- a value that was read, or Missing
+unfoldable pub givenFrom : Got Given → Given
+givenFrom g = readOr given.Missing g (λ v e. v)
+
+-- n of them, up to the first that cannot be read
+unfoldable pub readable : {A : Type 0} → ℕ → Parser A → List ℕ → ℕ → List A
+readable zero p s at = []
+readable (suc n) p s at = readOr [] (p s at) (λ a e. a ∷ readable n p s e)
+
+-- the arguments that can be read
+unfoldable pub rowsOf : List ℕ → List (List ℕ × Given)
+rowsOf s = readOr [] (numberAt 2 s 5) (λ n e. readable n rowAt s e)
+
+unfoldable pub orMissing : Option Given → Given
+orMissing none = given.Missing
+orMissing (some v) = v
+
+-- what they give for a name
+unfoldable pub givenBy : List ℕ → List ℕ → Given
+givenBy s name = orMissing (lastNamed name (rowsOf s))

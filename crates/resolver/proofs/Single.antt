@@ -1,0 +1,20 @@
+-- Laws of single steps: a text put, an error listed, a value found, a variant chosen, NUMBER called.
+pub mod Laws
+pub mod Locals
+pub mod Puts
+pub mod Steps
+pub mod Release
+pub mod Capture
+pub mod Buffers
+pub mod References
+pub mod Choosing
+pub mod Values
+pub mod Merges
+pub mod Variables
+pub mod Named
+pub mod Calls
+pub mod Results
+pub mod Written
+pub mod Pieces
+pub mod Wrong
+pub mod Acting

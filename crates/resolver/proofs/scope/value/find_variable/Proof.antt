@@ -1,0 +1,27 @@
+-- `scope::value::find_variable` meets its contract: among the term's arguments where there are any, else among the formatting's.
+use Rattle.arguments.proofs.Found.{found-means}
+use Rattle.resolver.proofs.Single.Variables.{variable-given, variable-inside}
+use borrow.Author.Needs.{needs}
+use denote.Ref.{now}
+use Rattle.resolver.proofs.scope.value.find_variable.Statement.{statement}
+use Rattle.resolver.proofs.scope.value.find_variable.Tie as tie
+
+find-local-requires : tie.Need-find-local-requires
+find-local-requires c κs = search needs
+
+returns : tie.Need-returns
+returns c = λ u x l w t L q k lv. variable-inside _ _ _ _ (lv .locals) (c .before .if1 .taken) (λ low f ns h n. c .find-local .ensures _ w low f ns h n)
+
+find-argument-requires : tie.Need-find-argument-requires
+find-argument-requires c κs = search needs
+
+argument-value-requires : tie.Need-argument-value-requires
+argument-value-requires c κs = search needs
+
+returns-2 : tie.Need-returns-2
+returns-2 c =
+    let found = found-means (now (c .before .before .before .before .before .before .args .args)) (now (c .before .before .before .before .before .before .args .name)) (c .before .find-argument .ensures) in
+    λ u x l w t L q k lv. variable-given _ _ _ _ (u .given-at) (lv .locals) (c .before .before .if1 .left) (found .0) (found .1 (u .given) (u .given-end) (u .given-at)) (λ low y z. c .argument-value .ensures _ _ w low y z)
+
+pub find-variable-spec : {M : Type 1} → statement M
+find-variable-spec = tie.close (tie.spec find-local-requires returns find-argument-requires argument-value-requires returns-2)

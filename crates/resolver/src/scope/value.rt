@@ -1,0 +1,255 @@
+// Values: literals, named arguments, variables.
+ghost use mathlib.Core.Path.{_≡_};
+ghost use mathlib.Core.List.{List, [], _∷_, _++_};
+ghost use mathlib.Core.Bool.{true, false};
+ghost use mathlib.Core.Option.{Option, some, none};
+ghost use Prim.Native.Nat.{ℕ, _+_, _-_, _≤_, max};
+ghost use lib.ListN.{length};
+ghost use Rattle.literals.specs.Relations.Shown.{literalOf};
+ghost use Rattle.records.specs.Got.{got};
+ghost use Rattle.records.specs.Tree.{Named};
+ghost use Rattle.records.specs.Decode.{many, namedAt};
+ghost use Rattle.resolution.specs.Effect.{State};
+ghost use Rattle.records.specs.Names.{lastNamed};
+ghost use Rattle.resolution.specs.Exec.{Limits, Machine};
+ghost use Rattle.resolution.specs.Format.{valuesOf};
+ghost use Rattle.resolver.specs.Relations.Meets.{world, env, Setup, Live, NamedIn, namedTexts};
+ghost use Rattle.resolver.specs.Relations.Leaves.{LocalIs, variableOf, StringAt, NamedAt};
+ghost use Rattle.arguments.specs.Relations.Given.{Within, meant, between};
+ghost use Rattle.resolver.specs.Relations.Values.{literalValued, TakenAt, LiteralAt, NamedReads, Ranged, valueOfSome};
+ghost use Rattle.state.specs.Setters.{heldS};
+use arguments::Given;
+use arguments::find_argument;
+use arguments::text_of;
+use decimals::bytes::same_bytes;
+use decimals::types::Number;
+use decimals::types::default_options;
+use literals::literal::Literal;
+use literals::literal::read_literal;
+use reader::read_marked;
+use records::Num;
+use state::Local;
+use state::Resolved;
+use state::Scope;
+use state::Value;
+use state::refuse;
+use unescape::has_backslash;
+use unescape::unescape_into;
+use unescape::unescaped_len;
+use writes::put::has_room;
+
+// A named argument, by positions in the store: its name, and its literal's tag and bytes.
+pub(crate) struct NamedSpan {
+    pub from: usize,
+    pub to: usize,
+    pub tag: usize,
+    pub start: usize,
+    pub end: usize,
+}
+
+pub(crate) enum NamedRead {
+    Is(NamedSpan),
+    Bad,
+}
+
+// Reads a named argument.
+pub(crate) fn read_named(s: &[u8], at: usize) -> NamedRead
+    ensures { λ r. ⌜ NamedReads (now (s .entry)) at r ⌝ }
+{
+    let row = read_marked(s, at);
+    let name = row.first;
+    let Num::At(from, to) = name else {
+        return NamedRead::Bad;
+    };
+    let mark = row.second;
+    let Num::At(tag, _) = mark else {
+        return NamedRead::Bad;
+    };
+    let text = row.third;
+    let Num::At(start, end) = text else {
+        return NamedRead::Bad;
+    };
+    NamedRead::Is(NamedSpan {
+        from: from,
+        to: to,
+        tag: tag,
+        start: start,
+        end: end,
+    })
+}
+
+// A number literal's value; an error where it is none.
+pub(crate) fn literal_number(s: &[u8], a: usize, e: usize) -> Value
+    ensures { λ r. ⌜ r ≡ literalValued (literalOf (between (now (s .entry)) a e)) ⌝ }
+{
+    let Literal::Is(n) = read_literal(text_of(s, a, e)) else {
+        return Value::Wrong;
+    };
+    Value::Number(n)
+}
+
+// A string literal's value: a part of the store, or, where it has a backslash, a text in the workspace.
+pub(crate) fn literal_string(s: &[u8], work: &mut [u8], st: Scope, a: usize, e: usize) -> Resolved
+    ensures { λ r. ⌜ StringAt (now (s .entry)) a e (now (work .entry)) st (now (work .exit)) (r .st) (r .value) ⌝ }
+{
+    if st.refused != 0 {
+        return Resolved {
+            st: st,
+            value: Value::Wrong,
+        };
+    }
+    let src = text_of(s, a, e);
+    if !has_backslash(src) {
+        return Resolved {
+            st: st,
+            value: Value::Store(a, e),
+        };
+    }
+    let n = unescaped_len(src);
+    if !has_room(st, n, work.len()) {
+        return Resolved {
+            st: refuse(st, 16),
+            value: Value::Wrong,
+        };
+    }
+    let back = st.back;
+    unescape_into(src, work, back - n);
+    let s1 = kept(st, n, work.len());
+    Resolved {
+        st: s1,
+        value: Value::Work(back - n, back),
+    }
+}
+
+// n bytes more are kept at the workspace's back, of `len` in all.
+fn kept(mut st: Scope, n: usize, len: usize) -> Scope
+    requires { ⌜ (st .front + n ≤ st .back) × (st .back ≤ len) ⌝ }
+    ensures { λ r. ⌜ r ≡ heldS (st .back - n) (max (st .high) (st .front + (len - (st .back - n)))) st ⌝ }
+{
+    st.back = st.back - n;
+    let used = st.front + (len - st.back);
+    if st.high < used {
+        st.high = used;
+    }
+    st
+}
+
+// Named arguments, in stored order: the texts of those with a backslash go to the workspace's back.
+pub(crate) fn resolve_named(s: &[u8], work: &mut [u8], st: Scope, at: usize, count: usize) -> Scope
+    ensures { λ r. ⌜ NamedAt (now (s .entry)) at count (now (work .entry)) st (now (work .exit)) r ⌝ }
+{
+    let mut now_st = st;
+    let mut p = at;
+    let mut i = count;
+    while 0 < i {
+        let NamedRead::Is(n) = read_named(s, p) else {
+            return now_st;
+        };
+        let e = n.end;
+        if n.tag == 1 {
+            let v = literal_string(s, work, now_st, n.start, e);
+            now_st = v.st;
+        }
+        p = e;
+        i -= 1;
+    }
+    now_st
+}
+
+// The bytes that a literal's text takes at the workspace's back.
+pub(crate) fn taken(s: &[u8], tag: usize, a: usize, e: usize) -> usize
+    ensures { λ r. ⌜ TakenAt (now (s .entry)) tag a e r ⌝ }
+{
+    if tag != 1 {
+        return 0;
+    }
+    if e < a {
+        return 0;
+    }
+    if s.len() < e {
+        return 0;
+    }
+    if has_backslash(&s[a..e]) {
+        return unescaped_len(&s[a..e]);
+    }
+    0
+}
+
+// The value of a literal whose text, if it is in the workspace, ends at `base`.
+pub(crate) fn literal_at(s: &[u8], tag: usize, a: usize, e: usize, base: usize) -> Value
+    ensures { λ r. ⌜ LiteralAt (now (s .entry)) tag a e base r ⌝ }
+{
+    if tag == 2 {
+        return literal_number(s, a, e);
+    }
+    if e < a {
+        return Value::Wrong;
+    }
+    if s.len() < e {
+        return Value::Wrong;
+    }
+    if !has_backslash(&s[a..e]) {
+        return Value::Store(a, e);
+    }
+    let n = unescaped_len(&s[a..e]);
+    if base < n {
+        return Value::Wrong;
+    }
+    Value::Work(base - n, base)
+}
+
+// A term's argument of a name: among the named arguments at `at`, whose texts end at `base` in the workspace. Of equal names the last holds.
+pub(crate) fn find_local(s: &[u8], at: usize, count: usize, base: usize, name: &[u8]) -> Local
+    ensures { λ r. ⌜ ((a w : List ℕ) (low f : ℕ) (ns : Named) → many [] _∷_ count namedAt (now (s .entry)) at ≡ got ns f → NamedIn w low base ns → LocalIs (now (s .entry)) a w low r (lastNamed (now (name .entry)) (namedTexts ns))) ⌝ }
+{
+    let mut found = Local::Missing;
+    let mut p = at;
+    let mut end = base;
+    let mut i = count;
+    while 0 < i {
+        let NamedRead::Is(n) = read_named(s, p) else {
+            return Local::Missing;
+        };
+        let b = n.from;
+        let q = n.to;
+        let e = n.end;
+        if same_bytes(&s[b..q], name) {
+            found = Local::Is(literal_at(s, n.tag, n.start, e, end));
+        }
+        let k = taken(s, n.tag, n.start, e);
+        if end < k {
+            return Local::Missing;
+        }
+        end = end - k;
+        p = e;
+        i -= 1;
+    }
+    found
+}
+
+// An argument as a value.
+pub(crate) fn argument_value(found: Given) -> Local
+    ensures { λ r. ⌜ ((i s w : List ℕ) (low : ℕ) → Within s found → Ranged (meant s found) → LocalIs i s w low r (valueOfSome (meant s found))) ⌝ }
+{
+    match found {
+        Given::Text(a, e) => Local::Is(Value::Args(a, e)),
+        Given::Number(negative, digits, scale) => Local::Is(Value::Number(Number {
+            negative: negative,
+            digits: digits,
+            scale: scale,
+            options: default_options(),
+        })),
+        Given::Nothing => Local::Is(Value::Nothing),
+        Given::Missing => Local::Missing,
+    }
+}
+
+// A variable: a term's argument where there are any, else the formatting's. A missing one is no Is.
+pub(crate) fn find_variable(s: &[u8], args: &[u8], st: Scope, name: &[u8]) -> Local
+    ensures { λ r. ⌜ ((u : Setup (env (now (s .entry)) (now (args .entry)))) (x l w t : List ℕ) (L : Limits) (q : State) (k : Machine) → Live L (world (now (s .entry)) x l w t st) q k → LocalIs (now (s .entry)) (now (args .entry)) w (st .back) r (variableOf (valuesOf (u .given)) (now (name .entry)) (q .locals))) ⌝ }
+{
+    if st.local {
+        return find_local(s, st.local_at, st.local_count, st.local_base, name);
+    }
+    argument_value(find_argument(args, name))
+}

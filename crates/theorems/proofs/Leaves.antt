@@ -1,0 +1,81 @@
+-- What stands in a pattern, in all its elements, variants, selectors and arguments: its texts, string literals, variables, functions called, and
+-- references.
+use mathlib.Core.List.{List, [], _∷_, _++_}
+use mathlib.Core.Option.{Option}
+use Prim.Native.Nat.{ℕ}
+use Rattle.records.specs.Tree.{Literal, Named, Pattern, pattern, Elements, no-more, more, Element, placeable, Expression, inline, select, Inline, nested, Arguments, without, with-args, Inlines, no-inline, and, Variants, no-variant, or, Variant, variant}
+use Rattle.rules.specs.Rules.{isText, isString}
+use Rattle.records.specs.Valid.{All, IfAny, Ruled, ValidId}
+use Rattle.records.specs.Images.{Attribute, Entry, Item}
+
+pub data Leaf : Type 0 where
+  text string variable function : List ℕ → Leaf
+  message term : List ℕ → Option (List ℕ) → Leaf
+
+unfoldable pub literalLeaves : Literal → List Leaf
+literalLeaves (Literal.string s) = Leaf.string s ∷ []
+literalLeaves (Literal.number n) = []
+
+-- the named arguments of a call are literals
+unfoldable pub namedLeaves : Named → List Leaf
+namedLeaves [] = []
+namedLeaves (e ∷ es) = literalLeaves (e .1) ++ namedLeaves es
+
+unfoldable mutual
+  pub leavesOf : Pattern → List Leaf
+  leavesOf (pattern b es) = elementsLeaves es
+
+  pub elementsLeaves : Elements → List Leaf
+  elementsLeaves no-more = []
+  elementsLeaves (more e es) = elementLeaves e ++ elementsLeaves es
+
+  pub elementLeaves : Element → List Leaf
+  elementLeaves (Element.text t) = Leaf.text t ∷ []
+  elementLeaves (placeable x) = expressionLeaves x
+
+  pub expressionLeaves : Expression → List Leaf
+  expressionLeaves (inline x) = inlineLeaves x
+  expressionLeaves (select x vs) = inlineLeaves x ++ variantsLeaves vs
+
+  pub inlineLeaves : Inline → List Leaf
+  inlineLeaves (Inline.string s) = Leaf.string s ∷ []
+  inlineLeaves (Inline.number n) = []
+  inlineLeaves (Inline.variable i) = Leaf.variable i ∷ []
+  inlineLeaves (Inline.function i xs ns) = Leaf.function i ∷ (inlinesLeaves xs ++ namedLeaves ns)
+  inlineLeaves (Inline.message i a) = Leaf.message i a ∷ []
+  inlineLeaves (Inline.term i a r) = Leaf.term i a ∷ argumentsLeaves r
+  inlineLeaves (nested x) = expressionLeaves x
+
+  pub argumentsLeaves : Arguments → List Leaf
+  argumentsLeaves without = []
+  argumentsLeaves (with-args xs ns) = inlinesLeaves xs ++ namedLeaves ns
+
+  pub inlinesLeaves : Inlines → List Leaf
+  inlinesLeaves no-inline = []
+  inlinesLeaves (and x xs) = inlineLeaves x ++ inlinesLeaves xs
+
+  pub variantsLeaves : Variants → List Leaf
+  variantsLeaves no-variant = []
+  variantsLeaves (or v vs) = variantLeaves v ++ variantsLeaves vs
+
+  pub variantLeaves : Variant → List Leaf
+  variantLeaves (variant k d p) = leavesOf p
+
+-- of every pattern of an entry: its value and its attributes
+abbrev pub InEntry : (Pattern → Type 0) → Entry → Type 0
+InEntry G e = IfAny G (e .value) × All (λ (a : Attribute). G (a .1)) (e .attributes)
+
+-- of every pattern of an item
+abbrev pub InItem : (Pattern → Type 0) → Item → Type 0
+InItem G (Item.plain es) = All (InEntry G) es
+InItem G (Item.overriding es) = All (InEntry G) es
+InItem G (Item.function i) = Unit {0}
+
+-- what a valid pattern has at its leaves
+abbrev pub ValidLeaf : Leaf → Type 0
+ValidLeaf (Leaf.text t) = Ruled isText t
+ValidLeaf (Leaf.string s) = Ruled isString s
+ValidLeaf (Leaf.variable i) = ValidId i
+ValidLeaf (Leaf.function i) = ValidId i
+ValidLeaf (Leaf.message i a) = ValidId i × IfAny ValidId a
+ValidLeaf (Leaf.term i a) = ValidId i × IfAny ValidId a

@@ -1,0 +1,4 @@
+pub mod Finished
+pub mod Steadiness
+pub mod Written
+pub mod Unlimited

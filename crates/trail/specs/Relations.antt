@@ -1,0 +1,2 @@
+-- Relations that inner contracts and proofs use.
+pub mod Trail

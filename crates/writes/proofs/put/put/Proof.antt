@@ -1,0 +1,32 @@
+-- `writes::put::put` meets its contract: nothing once refused, else to where the text goes.
+use Rattle.writes.proofs.Laws.{written-aside, written-over, written-text}
+use borrow.Author.Needs.{needs}
+use Rattle.writes.proofs.put.put.Statement.{statement}
+use Rattle.writes.proofs.put.put.Tie as tie
+
+returns : tie.Need-returns
+returns c = written-over _ _ _ _ (c .if1 .taken)
+
+put-front-requires : tie.Need-put-front-requires
+put-front-requires c κs = search needs
+
+same-length : tie.Need-same-length
+same-length c = search needs
+
+returns-2 : tie.Need-returns-2
+returns-2 c = written-aside _ _ _ _ (c .before .before .before .before .before .if1 .left) (c .before .before .before .before .if2 .taken) (c .before .before .put-front .ensures)
+
+put-bytes-requires : tie.Need-put-bytes-requires
+put-bytes-requires c κs = search needs
+
+text-after-requires : tie.Need-text-after-requires
+text-after-requires c κs = search needs
+
+same-length-2 : tie.Need-same-length-2
+same-length-2 c = search needs
+
+returns-3 : tie.Need-returns-3
+returns-3 c = written-text _ _ _ _ (c .before .before .before .before .before .before .if1 .left) (c .before .before .before .before .before .if2 .left) (c .before .before .before .put-bytes .ensures) (c .text-after .ensures)
+
+pub put-spec : {M : Type 1} → statement M
+put-spec = tie.close (tie.spec returns put-front-requires same-length returns-2 put-bytes-requires text-after-requires same-length-2 returns-3)
