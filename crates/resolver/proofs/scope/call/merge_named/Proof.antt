@@ -1,4 +1,4 @@
--- `scope::call::merge_named` meets its contract: each turn merges the first of the named arguments that are left.
+-- `resolver::scope::call::merge_named` meets its contract: each turn merges the first of the named arguments that are left.
 use Prim.Native.Nat.{ℕ}
 use Rattle.decimals.specs.Relations.Shown.{shownOptions}
 use Rattle.records.specs.Decode.{many, namedAt}

@@ -1,4 +1,4 @@
--- `scope::call::merge_one` meets its contract, by what the literal is.
+-- `resolver::scope::call::merge_one` meets its contract, by what the literal is.
 use Rattle.resolver.proofs.Single.Calls.{merge-digits, merge-digits-bad, merge-marked, merge-plain, merge-short}
 use Rattle.resolver.proofs.Single.Values.{flip-false, flip-true}
 use mathlib.Core.Path.{_∙_, sym}

@@ -1,4 +1,4 @@
--- `scope::call::number_function` meets its contract: a number's options are merged, or the call is refused; anything else gives Error.
+-- `resolver::scope::call::number_function` meets its contract: a number's options are merged, or the call is refused; anything else gives Error.
 use Rattle.resolver.proofs.Single.Results.{number-long, number-merged, number-other, number-over}
 use Rattle.resolver.proofs.Single.Wrong.{no-number}
 use borrow.Author.Needs.{needs}

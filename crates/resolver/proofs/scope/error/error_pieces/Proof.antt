@@ -1,4 +1,4 @@
--- `scope::error::error_pieces` meets its contract, by the tag of the expression.
+-- `resolver::scope::error::error_pieces` meets its contract, by the tag of the expression.
 use Rattle.records.proofs.Laws.{str-in}
 use Rattle.records.proofs.Views.{num-is, num-none, str-bad, str-is}
 use Rattle.resolver.proofs.Single.Pieces.{pieces-none, pieces-message, pieces-term, pieces-function, pieces-variable, pieces-unnamed}

@@ -1,4 +1,4 @@
--- `scope::error::reference_pieces` meets its contract.
+-- `resolver::scope::error::reference_pieces` meets its contract.
 use Rattle.resolver.specs.Relations.Leaves.{partedPieces}
 use Rattle.resolver.proofs.Single.Pieces.{reference-bad, reference-is}
 use mathlib.Core.Path.{_∙_}

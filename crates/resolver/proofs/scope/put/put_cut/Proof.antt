@@ -1,4 +1,4 @@
--- `scope::put::put_cut` meets its contract: of a select, the error is its selector's.
+-- `resolver::scope::put::put_cut` meets its contract: of a select, the error is its selector's.
 use Rattle.records.proofs.Views.{num-is, num-none}
 use Rattle.resolver.proofs.Single.Steps.{cut-clean, cut-inline, cut-none, cut-over, cut-select}
 use borrow.Author.Needs.{needs}

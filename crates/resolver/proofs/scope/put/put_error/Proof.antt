@@ -1,4 +1,4 @@
--- `scope::put::put_error` meets its contract: the pieces of the expression, written.
+-- `resolver::scope::put::put_error` meets its contract: the pieces of the expression, written.
 use Rattle.resolver.proofs.Single.Pieces.{error-written}
 use borrow.Author.Needs.{needs}
 use Rattle.resolver.proofs.scope.put.put_error.Statement.{statement}

@@ -1,4 +1,4 @@
--- `scope::put::put_pieces` meets its contract: the pieces written one after the other.
+-- `resolver::scope::put::put_pieces` meets its contract: the pieces written one after the other.
 use Rattle.resolver.proofs.Single.Acting.{braced-acts}
 use Rattle.resolver.proofs.Single.Pieces.{pieces-written}
 use borrow.Author.Needs.{needs}

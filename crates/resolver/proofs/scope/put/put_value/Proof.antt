@@ -1,4 +1,4 @@
--- `scope::put::put_value` meets its contract, by what the value is.
+-- `resolver::scope::put::put_value` meets its contract, by what the value is.
 use Rattle.resolver.proofs.Single.Buffers.{bytes-number, bytes-text, bytes-work}
 use Rattle.writes.proofs.Laws.{written-of}
 use mathlib.Core.Path.{_∙_}

@@ -1,4 +1,4 @@
--- `scope::put::text_in` meets its contract: the part is of the slice that the value names.
+-- `resolver::scope::put::text_in` meets its contract: the part is of the slice that the value names.
 use Rattle.resolver.proofs.Single.Buffers.{text-in-args, text-in-none, text-in-store}
 use mathlib.Core.Path.{_∙_}
 use borrow.Author.Needs.{needs}

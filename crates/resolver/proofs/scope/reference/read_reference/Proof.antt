@@ -1,4 +1,4 @@
--- `scope::reference::read_reference` meets its contract: what it reads as Strs is what the definition reads as Ids.
+-- `resolver::scope::reference::read_reference` meets its contract: what it reads as Strs is what the definition reads as Ids.
 use Rattle.records.proofs.Laws.{str-in}
 use Rattle.records.proofs.Views.{num-is, num-none, str-bad, str-is}
 use Rattle.records.specs.Bytes.{byteAt, spanAt}

@@ -1,4 +1,4 @@
--- `scope::reference::ref_error` meets its contract: the error is listed, then its text is written.
+-- `resolver::scope::reference::ref_error` meets its contract: the error is listed, then its text is written.
 use Rattle.resolver.proofs.Single.Acting.{reference-acts}
 use Rattle.records.proofs.Views.{num-is, num-none}
 use Rattle.resolver.proofs.Single.References.{ref-none, ref-read, ref-unread, reference-in, reference-known}

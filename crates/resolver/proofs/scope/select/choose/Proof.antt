@@ -1,4 +1,4 @@
--- `scope::select::choose` meets its contract, by where the value lies; none and an error match no key.
+-- `resolver::scope::select::choose` meets its contract, by where the value lies; none and an error match no key.
 use Rattle.heads.proofs.Heads.{locale-is}
 use Rattle.resolver.proofs.Single.Choosing.{by-nothing, by-number, by-text, by-work, by-wrong, choice-is}
 use borrow.Author.Needs.{needs}

@@ -1,4 +1,4 @@
--- `scope::value::argument_value` meets its contract: each answer of the search is the value that it means.
+-- `resolver::scope::value::argument_value` meets its contract: each answer of the search is the value that it means.
 use Rattle.resolver.proofs.Single.Variables.{argument-as, argument-missing, argument-nothing, argument-number, argument-text}
 use borrow.Author.Needs.{needs}
 use Rattle.resolver.proofs.scope.value.argument_value.Statement.{statement}

@@ -1,4 +1,4 @@
--- `scope::value::find_local` meets its contract: each turn takes the first of the named arguments that are left, which replaces what was found.
+-- `resolver::scope::value::find_local` meets its contract: each turn takes the first of the named arguments that are left, which replaces what was found.
 use Prim.Native.Nat.{ℕ}
 use Rattle.records.specs.Decode.{many, namedAt}
 use Rattle.records.specs.Got.{got}

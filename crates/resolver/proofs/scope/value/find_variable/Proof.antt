@@ -1,4 +1,4 @@
--- `scope::value::find_variable` meets its contract: among the term's arguments where there are any, else among the formatting's.
+-- `resolver::scope::value::find_variable` meets its contract: among the term's arguments where there are any, else among the formatting's.
 use Rattle.arguments.proofs.Found.{found-means}
 use Rattle.resolver.proofs.Single.Variables.{variable-given, variable-inside}
 use borrow.Author.Needs.{needs}

@@ -1,4 +1,4 @@
--- `scope::value::kept` meets its contract: the back moves down, and the highest use is the greater of two.
+-- `resolver::scope::value::kept` meets its contract: the back moves down, and the highest use is the greater of two.
 use Prim.Native.Nat.{_+_, _-_, max, ℕ}
 use Rattle.state.specs.Setters.{heldS}
 use borrow.Author.Needs.{needs}

@@ -1,4 +1,4 @@
--- `scope::value::literal_at` meets its contract: a number, a part of the store, or a text that ends at the base.
+-- `resolver::scope::value::literal_at` meets its contract: a number, a part of the store, or a text that ends at the base.
 use Rattle.resolver.proofs.Single.Named.{literal-digits-at, literal-marked, literal-number-is, literal-out, literal-plain, literal-short}
 use Rattle.resolver.proofs.Single.Values.{flip-false, flip-true}
 use borrow.Author.Needs.{needs}

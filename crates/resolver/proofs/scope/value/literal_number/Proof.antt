@@ -1,4 +1,4 @@
--- `scope::value::literal_number` meets its contract: the value is that of what was read.
+-- `resolver::scope::value::literal_number` meets its contract: the value is that of what was read.
 use Rattle.literals.specs.Relations.Shown.{literalOf}
 use Rattle.resolver.specs.Relations.Values.{literalValued}
 use borrow.Author.Needs.{needs}

@@ -1,4 +1,4 @@
--- `scope::value::literal_string` meets its contract: a literal without a backslash stays in the store, any other is kept at the workspace's back, or refused.
+-- `resolver::scope::value::literal_string` meets its contract: a literal without a backslash stays in the store, any other is kept at the workspace's back, or refused.
 use Rattle.writes.proofs.Laws.{room-is, room-short}
 use Rattle.resolver.proofs.Single.Values.{flip-false, flip-true, string-over, string-stored, string-refused, string-held, written-at}
 use mathlib.Core.Path.{_∙_, refl, sym}

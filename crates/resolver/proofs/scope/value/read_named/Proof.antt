@@ -1,4 +1,4 @@
--- `scope::value::read_named` meets its contract: what its three reads say is what the definition reads of a named argument.
+-- `resolver::scope::value::read_named` meets its contract: what its three reads say is what the definition reads of a named argument.
 use Rattle.records.proofs.Views.{num-is, num-none}
 use Rattle.records.specs.Bytes.{byteAt, spanAt}
 use Rattle.reader.proofs.Laws.{first-is, second-is, third-is}

@@ -1,4 +1,4 @@
--- `scope::value::resolve_named` meets its contract: each turn resolves the first of the named arguments that are left.
+-- `resolver::scope::value::resolve_named` meets its contract: each turn resolves the first of the named arguments that are left.
 use Prim.Native.Nat.{ℕ}
 use Rattle.resolver.proofs.Single.Values.{named-digits-as, named-end, named-string-as, named-unread}
 use Rattle.resolver.specs.Relations.Leaves.{NamedAt}

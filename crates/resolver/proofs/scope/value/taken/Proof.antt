@@ -1,4 +1,4 @@
--- `scope::value::taken` meets its contract: a string with a backslash takes the bytes that it reads as, any other literal none.
+-- `resolver::scope::value::taken` meets its contract: a string with a backslash takes the bytes that it reads as, any other literal none.
 use Rattle.resolver.proofs.Single.Named.{taken-digits, taken-marked, taken-out, taken-plain}
 use borrow.Author.Needs.{needs}
 use mathlib.Core.Path.{_∙_, sym}

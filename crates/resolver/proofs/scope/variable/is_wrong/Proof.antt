@@ -1,4 +1,4 @@
--- `scope::variable::is_wrong` meets its contract: only Error is.
+-- `resolver::scope::variable::is_wrong` meets its contract: only Error is.
 use Rattle.resolver.proofs.Single.Wrong.{is-wrong-so, is-wrong-not, wrong-else}
 use borrow.Author.Needs.{needs}
 use Rattle.resolver.proofs.scope.variable.is_wrong.Statement.{statement}

@@ -1,4 +1,4 @@
--- `scope::variable::resolve_variable` meets its contract: the value where the variable is there, else Error.
+-- `resolver::scope::variable::resolve_variable` meets its contract: the value where the variable is there, else Error.
 use Rattle.resolver.proofs.Single.Acting.{missing-acts}
 use Rattle.resolver.proofs.Single.Variables.{resolve-found, resolve-missing}
 use borrow.Author.Needs.{needs}

@@ -1,4 +1,4 @@
--- `scope::variable::write_result` meets its contract: the value's text, the name of a function that gave Error, or a reference to one that is missing.
+-- `resolver::scope::variable::write_result` meets its contract: the value's text, the name of a function that gave Error, or a reference to one that is missing.
 use Rattle.resolver.proofs.Single.Acting.{bare-acts, braced-acts, value-acts}
 use Rattle.resolver.proofs.Single.Written.{result-none, result-value, result-wrong}
 use Rattle.records.specs.Optional.{optionOf}

@@ -1,4 +1,4 @@
--- `scope::variable::write_variable` meets its contract: the value's text where the variable is there, else its name in braces.
+-- `resolver::scope::variable::write_variable` meets its contract: the value's text where the variable is there, else its name in braces.
 use Rattle.resolver.proofs.Single.Acting.{braced-acts, missing-acts, value-acts}
 use Rattle.resolver.proofs.Single.Variables.{write-found, write-missing}
 use borrow.Author.Needs.{needs}
