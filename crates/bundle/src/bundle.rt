@@ -43,7 +43,8 @@ pub fn add_resource(slice: &mut [u8], image: &[u8], list: &mut [u8]) -> Answer
     match resource_place(slice, image) {
         Place::Refused(n) => Answer::Refused(n),
         Place::At(used, count) => {
-            let marks = mark_image(slice, image, [0u8; 65536]);
+            let mut marks = [0u8; 10922];
+            mark_image(slice, image, &mut marks);
             let Listed::All(n) = list_repeats(image, &marks, list) else {
                 return Answer::Refused(7);
             };

@@ -1,5 +1,5 @@
 -- The records of the marked entries, as they are written; the list with its header.
-use mathlib.Core.Path.{_≡_, refl, ap, sym, _∙_}
+use mathlib.Core.Path.{_≡_, refl, ap, sym, subst, _∙_}
 use mathlib.Core.Bool.{Bool, true, false}
 use mathlib.Core.List.{List, [], _∷_, _++_, append-nil, append-assoc}
 use Prim.Native.Nat.{ℕ, _+_, _-_, _≤_, _<_}
@@ -108,11 +108,12 @@ module _ (image marks : List ℕ) where
   pub list-stuck : {n k at to : ℕ} {list out : List ℕ} {o : Next} → 0 < n → o ≡ nextOf (entryOutline image at) → o ≡ next.Bad → ListFrom n k at list to out
   list-stuck {n} {k} {at} z is b = record { says = λ es f q l _. first-endless image n at z q is b }
 
-  pub list-next : (count : ℕ) {k at i to to′ : ℕ} {list list′ out : List ℕ} {o : Next} → k < count → ListsEntry image at (getD marks k 0) list to to′ list′
+  pub list-next : (count : ℕ) {k at i m to to′ : ℕ} {list list′ out : List ℕ} {o : Next} → k < count → m ≡ getD marks k 0 → ListsEntry image at m list to to′ list′
       → o ≡ nextOf (entryOutline image at) → o ≡ next.At i → ListFrom (count - (k + 1)) (k + 1) i list′ to′ out → ListFrom (count - k) k at list to out
   unfolding marked
-  list-next count {k} {at} {i} {to} {to′} {list} {list′} {out} lt y is w rest = record {
+  list-next count {k} {at} {i} {m} {to} {to′} {list} {list′} {out} lt em y₀ is w rest = record {
     says = λ es f q l b.
+        let y : ListsEntry image at (getD marks k 0) list to to′ list′ = subst (λ (j : ℕ). ListsEntry image at j list to to′ list′) em y₀ in
         turn-ends image count k at lt q is w (λ x es′ hx hl el.
         let en : encAll encError (marked marks k es) ≡ recordOf (getD marks k 0) x ++ encAll encError (marked marks (k + 1) es′) =
         ap (λ (t : List Entry). encAll encError (marked marks k t)) el ∙ enc-repeat (eqb (getD marks k 0) 1) x (marked marks (k + 1) es′) in

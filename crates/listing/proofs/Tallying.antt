@@ -4,7 +4,7 @@ use mathlib.Core.Bool.{Bool, true, false}
 use mathlib.Core.List.{List, [], _∷_, _++_, append-nil}
 use Prim.Native.Nat.{ℕ, zero, suc, _+_, _-_, _≤_, _<_}
 use native.Mathlib.Omega.{arith}
-use lib.ListN.{length, getD, length-append}
+use lib.ListN.{length, getD, length-append, List·getD-eq-default}
 use lib.Dec.{eqb}
 use borrow.Author.Tests.{eq-eqb, ne-eqb}
 use Rattle.records.specs.declared.Next.{Next}
@@ -26,6 +26,10 @@ use Rattle.listing.specs.Relations.Tallies.{counted, Tallied, Tallies}
 use Rattle.entries.proofs.Open.{whole-resource}
 use Rattle.entries.proofs.Decoded.{first-unread, first-endless, turn-ends}
 use Rattle.entries.proofs.Lengths.{id-length, entry-size}
+
+-- there is no mark past the end
+pub mark-none : (marks : List ℕ) {k : ℕ} → length marks ≤ k → 0 ≡ getD marks k 0
+mark-none marks l = sym (List·getD-eq-default marks 0 l)
 
 -- records of entries
 repeat-length : (b : Bool) (x : Entry) (l : List Error) → length (repeatIf b x l) ≡ counted b 1 + length l
@@ -80,11 +84,12 @@ module _ (image marks : List ℕ) where
   pub tally-stuck : {n k at : ℕ} {t r : Tally} {o : Next} → 0 < n → o ≡ nextOf (entryOutline image at) → o ≡ next.Bad → TallyFrom n k at t r
   tally-stuck {n} {k} {at} z is b = record { says = λ es f q. first-endless image n at z q is b }
 
-  pub tally-next : (count : ℕ) {k at a e i : ℕ} {t t′ r : Tally} {o : Next} → k < count → behind 1 spanAt image at ≡ got a e → Tallied t (getD marks k 0) (e - a) t′
+  pub tally-next : (count : ℕ) {k at a e i m : ℕ} {t t′ r : Tally} {o : Next} → k < count → behind 1 spanAt image at ≡ got a e → m ≡ getD marks k 0 → Tallied t m (e - a) t′
       → o ≡ nextOf (entryOutline image at) → o ≡ next.At i → TallyFrom (count - (k + 1)) (k + 1) i t′ r → TallyFrom (count - k) k at t r
   unfolding marked
-  tally-next count {k} {at} {a} {e} {i} {t} {t′} {r} lt h y is w rest = record {
+  tally-next count {k} {at} {a} {e} {i} {m} {t} {t′} {r} lt h em y₀ is w rest = record {
     says = λ es f q.
+        let y : Tallied t (getD marks k 0) (e - a) t′ = subst (λ (j : ℕ). Tallied t j (e - a) t′) em y₀ in
         turn-ends image count k at lt q is w (λ x es′ hx hl el.
         let ih = rest .says es′ f hl in
         let i0 = ih .0 in let i1 = ih .1 in

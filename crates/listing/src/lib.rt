@@ -12,7 +12,7 @@ use texts::put_overriding;
 ghost use mathlib.Core.Path.{_≡_};
 ghost use Prim.Native.Nat.{ℕ, _+_, _≤_, _<_};
 ghost use mathlib.Core.List.{List};
-ghost use lib.ListN.{length};
+ghost use lib.ListN.{length, getD};
 ghost use lib.Dec.{eqb};
 ghost use Rattle.records.specs.Got.{got};
 ghost use Rattle.records.specs.Encode.{encAll};
@@ -35,6 +35,16 @@ pub struct Tally {
     pub size: usize,
 }
 
+// The mark of entry k: 0 where there is none.
+fn mark_of(marks: &[u8], k: usize) -> u8
+    ensures { λ r. ⌜ r ≡ getD (now (marks .entry)) k 0 ⌝ }
+{
+    if k < marks.len() {
+        return marks[k];
+    }
+    0
+}
+
 // One record more, for an Id of n bytes, if the entry is marked.
 fn tally_more(t: Tally, mark: u8, n: usize) -> Tally
     requires { ⌜ (t .count < 65536) × (t .size + n < 9000000000) ⌝ }
@@ -50,7 +60,7 @@ fn tally_more(t: Tally, mark: u8, n: usize) -> Tally
 }
 
 // The records of the marked entries.
-fn tally_marked(image: &[u8], marks: &[u8; 65536]) -> Tally
+fn tally_marked(image: &[u8], marks: &[u8]) -> Tally
     ensures { λ r. ⌜ ((es : List Entry) (f : ℕ) → resourceOf (now (image .entry)) ≡ got es f → Tallies (marked (now (marks .entry)) 0 es) r) × (r .size < 9000000000) ⌝ }
 {
     let mut tally = Tally { count: 0, size: 0 };
@@ -63,7 +73,7 @@ fn tally_marked(image: &[u8], marks: &[u8; 65536]) -> Tally
         let Num::At(a, e) = read_str_behind(image, at, 1) else {
             return tally;
         };
-        tally = tally_more(tally, marks[k], e - a);
+        tally = tally_more(tally, mark_of(marks, k), e - a);
         let Next::At(next) = skip_entry(image, at) else {
             return tally;
         };
@@ -99,7 +109,7 @@ fn list_entry(image: &[u8], at: usize, mark: u8, list: &mut [u8], to: usize) -> 
 }
 
 // Writes the records of the marked entries, behind the header.
-fn list_marked(image: &[u8], marks: &[u8; 65536], list: &mut [u8])
+fn list_marked(image: &[u8], marks: &[u8], list: &mut [u8])
     ensures { λ _. ⌜ ((es : List Entry) (f : ℕ) → resourceOf (now (image .entry)) ≡ got es f → 5 + length (encAll encError (marked (now (marks .entry)) 0 es)) ≤ length (now (list .entry))
         → now (list .exit) ≡ over (now (list .entry)) 5 (encAll encError (marked (now (marks .entry)) 0 es))) ⌝ }
 {
@@ -110,7 +120,7 @@ fn list_marked(image: &[u8], marks: &[u8; 65536], list: &mut [u8])
     let mut to = 5usize;
     let mut k = 0usize;
     while k < count {
-        to = list_entry(image, at, marks[k], list, to);
+        to = list_entry(image, at, mark_of(marks, k), list, to);
         let Next::At(next) = skip_entry(image, at) else {
             return;
         };
@@ -120,7 +130,7 @@ fn list_marked(image: &[u8], marks: &[u8; 65536], list: &mut [u8])
 }
 
 // Lists the marked entries in a buffer that is long enough for the header and their records.
-pub fn list_repeats(image: &[u8], marks: &[u8; 65536], list: &mut [u8]) -> Listed
+pub fn list_repeats(image: &[u8], marks: &[u8; 10922], list: &mut [u8]) -> Listed
     ensures { λ r. ⌜ ((es : List Entry) (f : ℕ) → resourceOf (now (image .entry)) ≡ got es f → Lists (marked (now (marks .entry)) 0 es) (now (list .entry)) r (now (list .exit))) ⌝ }
 {
     let tally = tally_marked(image, marks);

@@ -2,7 +2,7 @@
 use mathlib.Core.Path.{_≡_, refl, ap, sym, subst, _∙_}
 use mathlib.Core.Bool.{Bool, true, false, _||_}
 use mathlib.Core.List.{List, [], _∷_, _++_}
-use Prim.Native.Nat.{ℕ, zero, suc, _+_, _-_, _≤_, _<_}
+use Prim.Native.Nat.{ℕ, zero, suc, _+_, _*_, _-_, _≤_, _<_}
 use native.Mathlib.Numerals.{add-one}
 use native.Mathlib.Omega.{arith}
 use lib.ListN.{length, getD, set}
@@ -16,9 +16,9 @@ use Rattle.records.specs.Relations.Answer.{nextOf}
 use Rattle.records.specs.Bytes.{part, numberAt, spanAt}
 use Rattle.decimals.specs.Bytes.{sameBytes}
 use Rattle.records.specs.Decode.{many}
-use Rattle.records.specs.Images.{Entry, Store, isSome, entryAt, storeOf, resourceOf}
+use Rattle.records.specs.Images.{Entry, Store, maxImage, isSome, entryAt, storeOf, resourceOf}
 use Rattle.records.proofs.Laws.{after-is, after-elim, got-elim}
-use Rattle.records.proofs.Views.{both, never, as-elim, many-nil}
+use Rattle.records.proofs.Views.{both, never, as-elim, many-cons, many-nil}
 use Rattle.entries.specs.Lookup.{Holder, Find, firstEntry, findIn}
 use Rattle.records.specs.Optional.{orElse, optionOf}
 use Rattle.entries.specs.Outline.{behind, entryOutline}
@@ -26,9 +26,10 @@ use Rattle.entries.specs.Repeats.{isHeld, repeatIf, repeatsFrom, repeats}
 use Rattle.repeats.specs.Relations.Seen.{seenAfter}
 use Rattle.entries.specs.Relations.Marked.{marked}
 use Rattle.entries.proofs.Open.{whole-resource}
+use Rattle.entries.proofs.Lengths.{entry-size}
 use Rattle.entries.proofs.Decoded.{first-unread, first-endless, turn-ends, id-there}
 
-or-true : (b : Bool) → b || true ≡ true
+pub or-true : (b : Bool) → b || true ≡ true
 or-true true = refl
 or-true false = refl
 
@@ -106,12 +107,28 @@ module _ (s image : List ℕ) (start : ℕ) (R : Store → Type 0) where
         (λ j′ lj. ih .1 j′ (omega arith) ∙ ap (λ (l : List ℕ). getD l j′ 0) hs′ ∙ getD-set-other marks k j′ m 0 (λ z. let z′ : j′ ≡ k = z in omega arith)),
       ))
 
+-- how many entries an image can have
+entries-bytes : (s : List ℕ) (n at : ℕ) {es : List Entry} {f : ℕ} → many [] _∷_ n entryAt s at ≡ got es f → at + n * 6 ≤ f
+entries-bytes s zero at h = many-nil [] _∷_ entryAt s zero at (omega arith) h (λ _ ef. omega arith)
+entries-bytes s (suc n) at {es} {f} h =
+    many-cons [] _∷_ entryAt s (suc n) at (omega arith) h (λ x e es′ hx hl _.
+    let m : suc n - 1 ≡ n = omega arith in
+    let ih = entries-bytes s n e (subst (λ (j : ℕ). many [] _∷_ j entryAt s e ≡ got es′ f) m hl) in
+    let b = entry-size s at hx in let b0 = b .0 in
+    omega arith)
+
 -- what the marks are for
 abbrev pub MarksRepeats : List ℕ → List ℕ → (Store → Type 0) → List ℕ → Type 0
 MarksRepeats s image R out = (st : Store) (u : ℕ) (es : List Entry) (f : ℕ) → storeOf s ≡ got st u → resourceOf image ≡ got es f → R st → marked out 0 es ≡ repeats (findIn (st .items)) es
 
 pub marks-no-count : (s image : List ℕ) (R : Store → Type 0) (out : List ℕ) → numberAt 2 image 5 ≡ bad → MarksRepeats s image R out
 marks-no-count s image R out h st u es f hs hr rs = whole-resource image hr (λ k hk _ _ _ _. never h hk)
+
+-- an image with more entries is none
+pub marks-many : (s image : List ℕ) (R : Store → Type 0) (out : List ℕ) {count start : ℕ} → numberAt 2 image 5 ≡ got count start → 10921 < count → MarksRepeats s image R out
+unfolding maxImage
+marks-many s image R out {count} h l st u es f hs hr rs =
+    whole-resource image hr (λ k hk hm _ le _. both h hk (λ ek _. let b = entries-bytes image k 7 hm in absurd (omega arith)))
 
 pub marks-start : (s image : List ℕ) (R : Store → Type 0) (marks out : List ℕ) {count start : ℕ} → numberAt 2 image 5 ≡ got count start → MarkFrom s image start R (count - 0) 0 start marks out → MarksRepeats s image R out
 unfolding repeats many seenAfter

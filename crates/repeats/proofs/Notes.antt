@@ -1,11 +1,11 @@
--- Steps of the table of held ids: what is noted of an id, of entries, of an item and of a store; and the mark of an entry that stands in its slot.
+-- Steps of the table of held ids: what is noted of an id, of entries, of an item and of a store; and the mark of an entry by its slot.
 use mathlib.Core.Path.{_≡_, refl, ap, sym, subst, _∙_}
 use mathlib.Core.Bool.{Bool, true, false, _||_}
 use mathlib.Core.List.{List, [], _∷_}
 use mathlib.Core.Option.{Option, some, none}
-use Prim.Native.Nat.{ℕ, zero, suc, _-_, _≤_, _<_}
+use Prim.Native.Nat.{ℕ, _-_, _≤_, _<_}
 use native.Mathlib.Omega.{arith}
-use lib.ListN.{length, getD, set, length-set, replicate}
+use lib.ListN.{length, getD, set, length-set, replicate, length-replicate}
 use lib.Seq.{getD-set-same, getD-set-other}
 use lib.Dec.{eqb}
 use borrow.Author.Tests.{eq-eqb, ne-eqb, eqb-true, eqb-false}
@@ -25,74 +25,59 @@ use Rattle.entries.specs.Outline.{behind, entryOutline}
 use Rattle.walks.specs.Relations.Passes.{Passes}
 use Rattle.entries.specs.Repeats.{isHeld}
 use Rattle.repeats.specs.Relations.Seen.{seenAfter}
-use Rattle.repeats.specs.Relations.Slots.{slotOf, slotted, placed, PlacesAll, Stands, Notes, NotesEntries, NotesItem, Ready}
+use Rattle.repeats.specs.Relations.Slots.{hasId, seekOf, slotted, PlacesAll, Stands, Notes, NotesEntries, NotesItem, Ready}
 use Rattle.entries.proofs.Decoded.{first-unread, first-endless, first-ends, id-there}
 use Rattle.entries.proofs.Open.{item-cases, resource-parts, function-parts, store-parts}
 use Rattle.entries.proofs.Walk.{not-read, end-of}
-use Rattle.repeats.proofs.Marking.{held-after}
-use Rattle.repeats.proofs.Places.{same-refl}
+use Rattle.repeats.proofs.Marking.{held-after, mark-among}
+use Rattle.repeats.proofs.Places.{zero-at}
+use Rattle.repeats.proofs.Seeking.{same-refl, span-one, stands-id}
 
 -- what is noted of an id
 module _ (image places held : List ℕ) where
-  pub notes-vacant : {by : List ℕ → Bool} → length places ≡ 0 → Notes image places held by held
-  notes-vacant e = record { same = refl; notes = λ z l x st. absurd (omega arith) }
-
-  pub notes-unlike : {by : List ℕ → Bool} → (length held ≡ length places → ⊥) → Notes image places held by held
-  notes-unlike e = record { same = refl; notes = λ z l x st. absurd (e l) }
-
   pub notes-nothing : Notes image places held (λ x. false) held
-  notes-nothing = record { same = refl; notes = λ z l x st. refl }
+  notes-nothing = record { same = refl; notes = λ l x st. refl }
 
-  module _ (id : List ℕ) (h : ℕ) (eh : h ≡ slotOf (length places) id) where
-    -- an id that stands in the slot is the one that stands there
-    there : (x : List ℕ) {a e : ℕ} → Stands image places x → slotOf (length places) x ≡ h → behind 1 spanAt image (getD places h 0) ≡ got a e → part image a (e - a) ≡ x
-    there x {a} {e} st eq q =
-        both (subst (λ (z : ℕ). behind 1 spanAt image (getD places z 0) ≡ got (st .from) (st .to)) eq (st .span)) q (λ ea ee. rw (← ea, ← ee) (st .same))
+  module _ (id : List ℕ) (h : ℕ) (eh : h ≡ seekOf image places id) where
+    -- ids that stand in one slot are the same
+    one-id : (x : List ℕ) → Stands image places x → seekOf image places x ≡ h → h < 8200 → id ≡ x
+    one-id x st eq lt =
+        let t = st .taken in
+        let es : slotted image places id ≡ slotted image places x = ap (λ (k : ℕ). getD places k 0) (sym eh ∙ sym eq) in
+        let own : Stands image places id = record { inside = omega arith; taken = omega arith } in
+        span-one image id x (behind 1 spanAt image (slotted image places x)) (ap (hasId image id) (sym es) ∙ stands-id image places id own) (stands-id image places x st)
 
-    slot-same : (x : List ℕ) → sameBytes id x ≡ true → slotOf (length places) x ≡ h
-    slot-same x y = ap (slotOf (length places)) (sym (same-eq id x y)) ∙ sym eh
+    slot-same : (x : List ℕ) → sameBytes id x ≡ true → seekOf image places x ≡ h
+    slot-same x y = ap (seekOf image places) (sym (same-eq id x y)) ∙ sym eh
 
     untold : (b c : Bool) → (b ≡ true → ⊥) → c ≡ b || c
     untold true c n = absurd (n refl)
     untold false c n = refl
 
-    pub notes-unread : behind 1 spanAt image (getD places h 0) ≡ bad → Notes image places held (sameBytes id) held
-    notes-unread q = record {
+    pub notes-none : 8200 ≤ h → Notes image places held (sameBytes id) held
+    notes-none l = record {
       same = refl;
-      notes = λ z l x st. untold (sameBytes id x) (eqb (getD held (slotOf (length places) x) 0) 1)
-          (λ y. never q (subst (λ (k : ℕ). behind 1 spanAt image (getD places k 0) ≡ got (st .from) (st .to)) (slot-same x y) (st .span)));
+      notes = λ _ x st. untold (sameBytes id x) (eqb (getD held (seekOf image places x) 0) 1) (λ y. let e = slot-same x y in let i = st .inside in omega arith);
     }
 
-    module _ (a e : ℕ) (q : behind 1 spanAt image (getD places h 0) ≡ got a e) where
-      pub notes-other : sameBytes (part image a (e - a)) id ≡ false → Notes image places held (sameBytes id) held
-      notes-other d = record {
-        same = refl;
-        notes = λ z l x st. untold (sameBytes id x) (eqb (getD held (slotOf (length places) x) 0) 1)
-            (λ y.
-            let p : part image a (e - a) ≡ x = there x st (slot-same x y) q in
-            let w : sameBytes (part image a (e - a)) id ≡ true = ap (λ (t : List ℕ). sameBytes t id) (p ∙ sym (same-eq id x y)) ∙ same-refl id in
-            let v : _≡_ {A = Bool} true false = sym w ∙ d in
-            let u : _≡_ {A = ℕ} 0 1 = cc in omega arith);
-      }
-
-      pub notes-same : h < length held → sameBytes (part image a (e - a)) id ≡ true → Notes image places held (sameBytes id) (set held h 1)
-      notes-same lh d = record {
-        same = length-set held h 1;
-        notes = λ z l x st. go x st (eqb (slotOf (length places) x) h) refl;
-      }
-        where
-          go : (x : List ℕ) → Stands image places x → (b : Bool) → eqb (slotOf (length places) x) h ≡ b → eqb (getD (set held h 1) (slotOf (length places) x) 0) 1 ≡ sameBytes id x || eqb (getD held (slotOf (length places) x) 0) 1
-          go x st true t =
-              let eq : slotOf (length places) x ≡ h = eqb-true (slotOf (length places) x) h t in
-              let p : part image a (e - a) ≡ x = there x st eq q in
-              let ix : id ≡ x = sym (same-eq (part image a (e - a)) id d) ∙ p in
-              let y : sameBytes id x ≡ true = ap (sameBytes id) (sym ix) ∙ same-refl id in
-              let v : getD (set held h 1) (slotOf (length places) x) 0 ≡ 1 = ap (λ (k : ℕ). getD (set held h 1) k 0) eq ∙ getD-set-same held h 1 0 lh in
-              eq-eqb (getD (set held h 1) (slotOf (length places) x) 0) 1 v ∙ ap (λ (c : Bool). c || eqb (getD held (slotOf (length places) x) 0) 1) (sym y)
-          go x st false t =
-              let ne : slotOf (length places) x ≡ h → ⊥ = eqb-false (slotOf (length places) x) h t in
-              ap (λ (k : ℕ). eqb k 1) (getD-set-other held h (slotOf (length places) x) 1 0 ne)
-              ∙ untold (sameBytes id x) (eqb (getD held (slotOf (length places) x) 0) 1) (λ y. ne (slot-same x y))
+    pub notes-one : h < 8200 → Notes image places held (sameBytes id) (set held h 1)
+    notes-one lt = record {
+      same = length-set held h 1;
+      notes = λ l x st. go l x st (eqb (seekOf image places x) h) refl;
+    }
+      where
+        go : length held ≡ 8200 → (x : List ℕ) → Stands image places x → (b : Bool) → eqb (seekOf image places x) h ≡ b
+            → eqb (getD (set held h 1) (seekOf image places x) 0) 1 ≡ sameBytes id x || eqb (getD held (seekOf image places x) 0) 1
+        go l x st true t =
+            let eq : seekOf image places x ≡ h = eqb-true (seekOf image places x) h t in
+            let ix : id ≡ x = one-id x st eq lt in
+            let y : sameBytes id x ≡ true = ap (sameBytes id) (sym ix) ∙ same-refl id in
+            let v : getD (set held h 1) (seekOf image places x) 0 ≡ 1 = ap (λ (k : ℕ). getD (set held h 1) k 0) eq ∙ getD-set-same held h 1 0 (omega arith) in
+            eq-eqb (getD (set held h 1) (seekOf image places x) 0) 1 v ∙ ap (λ (c : Bool). c || eqb (getD held (seekOf image places x) 0) 1) (sym y)
+        go l x st false t =
+            let ne : seekOf image places x ≡ h → ⊥ = eqb-false (seekOf image places x) h t in
+            ap (λ (k : ℕ). eqb k 1) (getD-set-other held h (seekOf image places x) 1 0 ne)
+            ∙ untold (sameBytes id x) (eqb (getD held (seekOf image places x) 0) 1) (λ y. ne (slot-same x y))
 
 or-move : (a b c : Bool) → a || (b || c) ≡ (b || a) || c
 or-move true true c = refl
@@ -103,11 +88,11 @@ or-move false false c = refl
 pub notes-then : {image places held mid out : List ℕ} {by more : List ℕ → Bool} → Notes image places held by mid → Notes image places mid more out → Notes image places held (λ x. by x || more x) out
 notes-then {by = by} {more = more} a b = record {
   same = b .same ∙ a .same;
-  notes = λ z l x st. b .notes z (a .same ∙ l) x st ∙ ap (λ (c : Bool). more x || c) (a .notes z l x st) ∙ or-move (more x) (by x) _;
+  notes = λ l x st. b .notes (a .same ∙ l) x st ∙ ap (λ (c : Bool). more x || c) (a .notes l x st) ∙ or-move (more x) (by x) _;
 }
 
 pub notes-as : {image places held out : List ℕ} {by by′ : List ℕ → Bool} → Notes image places held by out → ((x : List ℕ) → by x ≡ by′ x) → Notes image places held by′ out
-notes-as {places = places} {held = held} a e = record { same = a .same; notes = λ z l x st. a .notes z l x st ∙ ap (λ (c : Bool). c || eqb (getD held (slotOf (length places) x) 0) 1) (e x) }
+notes-as {image} {places} {held} a e = record { same = a .same; notes = λ l x st. a .notes l x st ∙ ap (λ (c : Bool). c || eqb (getD held (seekOf image places x) 0) 1) (e x) }
 
 -- entries, items and stores
 some-or : (a b : Option Holder) → isSome (orElse a b) ≡ isSome a || isSome b
@@ -262,36 +247,44 @@ module _ (s image places : List ℕ) where
   store-noted held out h w st f q = store-parts s q (λ k _ _ hk _ hm _ _. both h hk (λ ek ep. w .says (st .items) f (rw (ek, ep) hm)))
 
 -- both tables say what is held
-zero-at : (n h : ℕ) → _≡_ {A = ℕ} (getD (replicate n 0) h 0) 0
-zero-at zero h = refl
-zero-at (suc n) zero = refl
-zero-at (suc n) (suc h) = zero-at n h
-
 zero-not : (n h : ℕ) → eqb (getD (replicate n 0) h 0) 1 ≡ false
 zero-not n h = ne-eqb (getD (replicate n 0) h 0) 1 (λ z. let e = zero-at n h in omega arith)
 
-pub ready : (image places held : List ℕ) {zero out : List ℕ} {find : Find} → PlacesAll image places → zero ≡ replicate (length held) 0 → Notes image places zero (λ x. isSome (find x)) out → Ready image places out find
-ready image places held {zero} {out} {find} p e n = record {
+pub ready : {image places out : List ℕ} {find : Find} → PlacesAll image places → Notes image places (replicate 8200 0) (λ x. isSome (find x)) out → Ready image places out find
+ready {image} {places} {out} {find} p n = record {
   placed = p;
-  holds = λ z l x st.
-      n .notes z (sym (n .same) ∙ l) x st
-      ∙ ap (λ (c : Bool). isSome (find x) || c) (ap (λ (t : List ℕ). eqb (getD t (slotOf (length places) x) 0) 1) e ∙ zero-not (length held) (slotOf (length places) x))
+  holds = λ x st.
+      n .notes (length-replicate {A = ℕ} 8200 0) x st
+      ∙ ap (λ (c : Bool). isSome (find x) || c) (zero-not 8200 (seekOf image places x))
       ∙ or-swap (isSome (find x)) false;
 }
 
--- an entry that stands in its slot is not held by one before it
-module _ (image places held : List ℕ) (find : Find) (r : Ready image places held find) {count start : ℕ} (hc : numberAt 2 image 5 ≡ got count start) where
-  pub mark-quick : (k at a e h : ℕ) (pre : List Entry) → k ≤ count → 0 < length places → length held ≡ length places → many [] _∷_ k entryAt image start ≡ got pre at → behind 1 spanAt image at ≡ got a e
-      → h ≡ slotOf (length places) (part image a (e - a)) → getD places h 0 ≡ at → eqb (getD held h 0) 1 ≡ isHeld find (seenAfter [] pre) (part image a (e - a))
+-- the mark of an entry by its slot
+module _ (image places held : List ℕ) (find : Find) (r : Ready image places held find) {count start : ℕ} (hc : numberAt 2 image 5 ≡ got count start)
+    (k at a e h p : ℕ) (pre : List Entry) (lk : k ≤ count) (hp : many [] _∷_ k entryAt image start ≡ got pre at) (hi : behind 1 spanAt image at ≡ got a e)
+    (eh : h ≡ seekOf image places (part image a (e - a))) (lh : h < 8200) (ep : p ≡ getD places h 0) (zp : 0 < p) where
+  here : slotted image places (part image a (e - a)) ≡ p
+  here = ap (λ (j : ℕ). getD places j 0) (sym eh) ∙ sym ep
+
+  stands : Stands image places (part image a (e - a))
+  stands = let w = here in record { inside = omega arith; taken = omega arith }
+
+  -- an entry that stands in its slot is not held by one before it
+  pub mark-quick : p ≡ at → eqb (getD held h 0) 1 ≡ isHeld find (seenAfter [] pre) (part image a (e - a))
   unfolding isHeld
-  mark-quick k at a e h pre lk z0 lh hp hi eh ep =
+  mark-quick eq =
       let id : List ℕ = part image a (e - a) in
-      let here : slotted places id ≡ at = ap (λ (j : ℕ). getD places j 0) (sym eh) ∙ ep in
-      let st : Stands image places id = record { from = a; to = e; span = subst (λ (j : ℕ). behind 1 spanAt image j ≡ got a e) (sym here) hi; same = refl } in
-      let m : eqb (getD held h 0) 1 ≡ isSome (find id) = ap (λ (j : ℕ). eqb (getD held j 0) 1) eh ∙ r .holds z0 lh id st in
-      let f : isSome (firstEntry id pre) ≡ false = go (isSome (firstEntry id pre)) refl (λ y. let o = r .placed count start hc z0 .low k pre at lk hp id y in let o1 = o .1 in omega arith) in
+      let m : eqb (getD held h 0) 1 ≡ isSome (find id) = ap (λ (j : ℕ). eqb (getD held j 0) 1) eh ∙ r .holds id stands in
+      let f : isSome (firstEntry id pre) ≡ false = go (isSome (firstEntry id pre)) refl (λ y. let w = here in let o = r .placed count start hc .low k pre at lk hp id y (stands .inside) in let o1 = o .1 in omega arith) in
       m ∙ ap (λ (c : Bool). c || isSome (find id)) (sym f) ∙ sym (held-after find [] pre id)
     where
       go : (b : Bool) → {c : Bool} → c ≡ b → (c ≡ true → ⊥) → c ≡ false
       go true e n = absurd (n e)
       go false e n = e
+
+  -- what stands in its slot from before is an entry before it
+  pub mark-before : p < at → eqb 1 1 ≡ isHeld find (seenAfter [] pre) (part image a (e - a))
+  mark-before l =
+      let w = here in
+      let has : hasId image (part image a (e - a)) (getD places h 0) ≡ true = ap (λ (j : ℕ). hasId image (part image a (e - a)) (getD places j 0)) eh ∙ stands-id image places (part image a (e - a)) stands in
+      mark-among find pre (part image a (e - a)) (sym (r .placed count start hc .first k pre at lk hp (part image a (e - a)) h (omega arith) (omega arith) has))

@@ -1,9 +1,8 @@
 // The marks of an image's entries: 1 if the id is held in the store, or by an entry before it.
-use crate::slots::clear;
 use crate::slots::note_store;
 use crate::slots::place_entries;
-use crate::slots::slot;
-use buffers::fill_zero;
+use crate::slots::position;
+use crate::slots::seek;
 use entries::Found;
 use entries::entry::has_holder;
 use entries::resource::find_first;
@@ -55,12 +54,12 @@ fn mark_of(s: &[u8], image: &[u8], start: usize, k: usize, a: usize, e: usize) -
     0
 }
 
-// The mark of an entry: from its slot, if it stands there; else by walking.
+// The mark of an entry: from its slot, if it or one before it stands there; else by walking.
 fn mark_at(
     s: &[u8],
     image: &[u8],
-    places: &[usize],
-    held: &[u8],
+    places: &[u16; 8200],
+    held: &[u8; 8200],
     start: usize,
     k: usize,
     at: usize,
@@ -72,96 +71,57 @@ fn mark_at(
         → numberAt 2 (now (image .entry)) 5 ≡ got count start → k ≤ count → many [] _∷_ k entryAt (now (image .entry)) start ≡ got pre at → behind 1 spanAt (now (image .entry)) at ≡ got a e
         → eqb r 1 ≡ isHeld (findIn (st .items)) (seenAfter [] pre) (part (now (image .entry)) a (e - a))) ⌝ }
 {
-    let n = places.len();
-    if n == 0 {
-        return mark_of(s, image, start, k, a, e);
-    }
-    if held.len() != n {
-        return mark_of(s, image, start, k, a, e);
-    }
-    let h = slot(&image[a..e], n);
-    if places[h] == at {
-        return held[h];
+    let j = seek(image, places, &image[a..e]);
+    if j < 8200 {
+        let p = position(places[j]);
+        if 0 < p {
+            if p == at {
+                return held[j];
+            }
+            if p < at {
+                return 1;
+            }
+        }
     }
     mark_of(s, image, start, k, a, e)
 }
 
-// Marks the entries of an image that repeat an id.
-fn mark_repeats(
-    s: &[u8],
-    image: &[u8],
-    places: &[usize],
-    held: &[u8],
-    mut marks: [u8; 65536],
-) -> [u8; 65536]
-    ensures { λ r. ⌜ ((st : Store) (u : ℕ) (es : List Entry) (f : ℕ) → storeOf (now (s .entry)) ≡ got st u → resourceOf (now (image .entry)) ≡ got es f
-        → Ready (now (image .entry)) (now (places .entry)) (now (held .entry)) (findIn (st .items)) → marked r 0 es ≡ repeats (findIn (st .items)) es) ⌝ }
+// Marks the entries of an image that repeat an id. An entry has 6 bytes or more, so an image of 65,536 has at most 10,921.
+fn mark_repeats(s: &[u8], image: &[u8], places: &[u16; 8200], held: &[u8; 8200], marks: &mut [u8])
+    requires { ⌜ 10922 ≤ length (now marks) ⌝ }
+    ensures { λ _. ⌜ ((st : Store) (u : ℕ) (es : List Entry) (f : ℕ) → storeOf (now (s .entry)) ≡ got st u → resourceOf (now (image .entry)) ≡ got es f
+        → Ready (now (image .entry)) (now (places .entry)) (now (held .entry)) (findIn (st .items)) → marked (now (marks .exit)) 0 es ≡ repeats (findIn (st .items)) es) ⌝ }
 {
     let Num::At(count, start) = read_u16(image, 5) else {
-        return marks;
+        return;
     };
+    if 10921 < count {
+        return;
+    }
     let mut at = start;
     let mut k = 0usize;
     while k < count {
         let Num::At(a, e) = read_str_behind(image, at, 1) else {
-            return marks;
+            return;
         };
         marks[k] = mark_at(s, image, places, held, start, k, at, a, e);
         let Next::At(next) = skip_entry(image, at) else {
-            return marks;
+            return;
         };
         at = next;
         k += 1;
     }
-    marks
 }
 
 // Marks the entries of an image that repeat an id, with two tables to do it by: n entries and a store of m are walked once each, and only an entry
-// whose slot another one has is looked up by a walk of its own. Of 3,120 entries in 65,536 slots about 70 are.
-fn mark_entries(
-    s: &[u8],
-    image: &[u8],
-    places: &mut [usize],
-    held: &mut [u8],
-    marks: [u8; 65536],
-) -> [u8; 65536]
-    ensures { λ r. ⌜ ((st : Store) (u : ℕ) (es : List Entry) (f : ℕ) → storeOf (now (s .entry)) ≡ got st u → resourceOf (now (image .entry)) ≡ got es f
-        → marked r 0 es ≡ repeats (findIn (st .items)) es) ⌝ }
+// whose id finds none of its eight slots is looked up by a walk of its own. Of 3,800 numbered ids fewer than 20 are.
+pub fn mark_image(s: &[u8], image: &[u8], marks: &mut [u8; 10922])
+    ensures { λ _. ⌜ ((st : Store) (u : ℕ) (es : List Entry) (f : ℕ) → storeOf (now (s .entry)) ≡ got st u → resourceOf (now (image .entry)) ≡ got es f
+        → marked (now (marks .exit)) 0 es ≡ repeats (findIn (st .items)) es) ⌝ }
 {
-    clear(places);
-    fill_zero(held);
-    place_entries(image, places);
-    note_store(s, image, places, held);
-    mark_repeats(s, image, places, held, marks)
-}
-
-// By tables of 4,096 slots, which are soon cleared.
-fn mark_few(s: &[u8], image: &[u8], marks: [u8; 65536]) -> [u8; 65536]
-    ensures { λ r. ⌜ ((st : Store) (u : ℕ) (es : List Entry) (f : ℕ) → storeOf (now (s .entry)) ≡ got st u → resourceOf (now (image .entry)) ≡ got es f
-        → marked r 0 es ≡ repeats (findIn (st .items)) es) ⌝ }
-{
-    let mut places = [0usize; 4096];
-    let mut held = [0u8; 4096];
-    mark_entries(s, image, &mut places, &mut held, marks)
-}
-
-// By tables of 65,536 slots.
-fn mark_many(s: &[u8], image: &[u8], marks: [u8; 65536]) -> [u8; 65536]
-    ensures { λ r. ⌜ ((st : Store) (u : ℕ) (es : List Entry) (f : ℕ) → storeOf (now (s .entry)) ≡ got st u → resourceOf (now (image .entry)) ≡ got es f
-        → marked r 0 es ≡ repeats (findIn (st .items)) es) ⌝ }
-{
-    let mut places = [0usize; 65536];
-    let mut held = [0u8; 65536];
-    mark_entries(s, image, &mut places, &mut held, marks)
-}
-
-// Marks the entries of an image that repeat an id, by tables that suit its size: an image of 2,048 bytes has fewer than 300 entries.
-pub fn mark_image(s: &[u8], image: &[u8], marks: [u8; 65536]) -> [u8; 65536]
-    ensures { λ r. ⌜ ((st : Store) (u : ℕ) (es : List Entry) (f : ℕ) → storeOf (now (s .entry)) ≡ got st u → resourceOf (now (image .entry)) ≡ got es f
-        → marked r 0 es ≡ repeats (findIn (st .items)) es) ⌝ }
-{
-    if image.len() <= 2048 {
-        return mark_few(s, image, marks);
-    }
-    mark_many(s, image, marks)
+    let mut places = [0u16; 8200];
+    let mut held = [0u8; 8200];
+    place_entries(image, &mut places);
+    note_store(s, image, &places, &mut held);
+    mark_repeats(s, image, &places, &held, marks);
 }

@@ -1,7 +1,7 @@
 -- `listing::list_marked` meets its contract. The loop's invariant: a list to which the records of the entries that are left are appended has those of all.
 use Prim.Native.Nat.{_-_, ℕ}
-use Rattle.listing.proofs.Records.{ListFrom, list-next, list-no-count, list-none, list-start, list-stuck}
 use Rattle.entries.proofs.Lengths.{u16-small}
+use Rattle.listing.proofs.Records.{ListFrom, list-next, list-no-count, list-none, list-start, list-stuck}
 use Rattle.records.proofs.Views.{num-is, num-none}
 use borrow.Author.Needs.{needs}
 use lib.ListN.{length}
@@ -32,11 +32,8 @@ returns c = list-no-count _ _ _ _ (num-none (c .before .before .read-u16 .ensure
 loop-holds : tie.Need-loop-holds Inv-loop μ-loop
 loop-holds c = ((λ out h. h), refl)
 
-element-copy-out-list-entry : tie.Need-element-copy-out-list-entry Inv-loop μ-loop
-element-copy-out-list-entry c =
-    let count = num-is (c .before .before .before .before .before .read-u16 .ensures) (c .before .before .before .count .given .1) in
-    let small = u16-small _ _ (λ i. omega (arith, c .before .before .before .before .before .before .before .shared-slice-known .given i)) count in
-    let h = small in omega arith
+mark-of-requires : tie.Need-mark-of-requires Inv-loop μ-loop
+mark-of-requires c κs = search needs
 
 list-entry-requires : tie.Need-list-entry-requires Inv-loop μ-loop
 list-entry-requires c κs = search needs
@@ -61,14 +58,14 @@ returns-2 c =
 add-k : tie.Need-add-k Inv-loop μ-loop
 add-k c =
     let count = num-is (c .before .before .before .before .before .before .before .before .before .before .before .before .before .before .read-u16 .ensures) (c .before .before .before .before .before .before .before .before .before .before .before .before .count .given .1) in
-    let small = u16-small _ _ (λ i. omega (arith, c .before .before .before .before .before .before .before .before .before .before .before .before .before .before .before .before .shared-slice-known .given i)) count in
+    let small = u16-small _ _ (λ i. omega (arith, c .before .before .before .before .before .before .before .before .before .before .before .before .before .before .before .before .before .shared-slice-known .given i)) count in
     let h = small in omega arith
 
 loop-less : tie.Need-loop-less Inv-loop μ-loop
 loop-less c = search needs
 
 loop-again : tie.Need-loop-again Inv-loop μ-loop
-loop-again c = ((λ out h. c .before .before .before .before .before .before .before .before .before .before .loop .inv .0 out (list-next _ _ _ (c .before .before .before .before .before .before .before .before .before .loop-test .taken) (c .before .before .before .before .before .before .list-entry .ensures) (c .before .before .before .skip-entry .ensures) (c .before .next .given .1) h)), c .before .before .before .before .before .before .list-entry .ensures .same ∙ c .before .before .before .before .before .before .before .before .before .before .loop .inv .1)
+loop-again c = ((λ out h. c .before .before .before .before .before .before .before .before .before .before .loop .inv .0 out (list-next _ _ _ (c .before .before .before .before .before .before .before .before .before .loop-test .taken) (c .before .before .before .before .before .before .before .before .mark-of .ensures) (c .before .before .before .before .before .before .list-entry .ensures) (c .before .before .before .skip-entry .ensures) (c .before .next .given .1) h)), c .before .before .before .before .before .before .list-entry .ensures .same ∙ c .before .before .before .before .before .before .before .before .before .before .loop .inv .1)
 
 same-length-2 : tie.Need-same-length-2 Inv-loop μ-loop
 same-length-2 c = c .before .loop .inv .1
@@ -79,4 +76,4 @@ returns-3 c =
     list-start _ _ _ _ count (c .before .loop .inv .0 _ (list-none _ _ (omega arith)))
 
 pub list-marked-spec : {M : Type 1} → statement M
-list-marked-spec = tie.close (tie.spec Inv-loop μ-loop read-u16-requires enum-known-count enum-told returns loop-holds element-copy-out-list-entry list-entry-requires skip-entry-requires enum-known-next enum-told-2 same-length returns-2 add-k loop-less loop-again same-length-2 returns-3)
+list-marked-spec = tie.close (tie.spec Inv-loop μ-loop read-u16-requires enum-known-count enum-told returns loop-holds mark-of-requires list-entry-requires skip-entry-requires enum-known-next enum-told-2 same-length returns-2 add-k loop-less loop-again same-length-2 returns-3)

@@ -32,7 +32,7 @@ same-length-2 : tie.Need-same-length-2
 same-length-2 c = search needs
 
 returns : tie.Need-returns
-returns c = plain-short _ _ _ _ (c .before .before .before .before .before .before .before .before .before .before .before .before .resource-place .ensures) (c .before .before .before .before .before .before .before .before .before .before .used .given .1) (c .before .before .before .before .before .before .before .mark-image .ensures) (c .before .before .before .before .list-repeats .ensures) (c .enum-told .given .1)
+returns c = plain-short _ _ _ _ (c .before .before .before .before .before .before .before .before .before .before .before .before .before .resource-place .ensures) (c .before .before .before .before .before .before .before .before .before .before .before .used .given .1) (c .before .before .before .before .before .before .before .mark-image .ensures) (c .before .before .before .before .list-repeats .ensures) (c .enum-told .given .1)
 
 file-resource-requires : tie.Need-file-resource-requires
 file-resource-requires c κs = search needs
@@ -50,7 +50,7 @@ same-length-5 : tie.Need-same-length-5
 same-length-5 c = search needs
 
 returns-3 : tie.Need-returns-3
-returns-3 c = plain-filed _ _ _ _ (c .before .before .before .before .before .before .before .before .before .before .before .before .before .before .before .before .before .resource-place .ensures) (c .before .before .before .before .before .before .before .before .before .before .before .before .before .before .before .used .given .1) (c .before .before .before .before .before .before .before .before .before .before .before .before .mark-image .ensures) (c .before .before .before .before .before .before .before .before .before .list-repeats .ensures) (c .before .before .before .before .before .n2 .given .1) (c .before .before .file-resource .ensures)
+returns-3 c = plain-filed _ _ _ _ (c .before .before .before .before .before .before .before .before .before .before .before .before .before .before .before .before .before .before .resource-place .ensures) (c .before .before .before .before .before .before .before .before .before .before .before .before .before .before .before .before .used .given .1) (c .before .before .before .before .before .before .before .before .before .before .before .before .mark-image .ensures) (c .before .before .before .before .before .before .before .before .before .list-repeats .ensures) (c .before .before .before .before .before .n2 .given .1) (c .before .before .file-resource .ensures)
 
 pub add-resource-spec : {M : Type 1} → statement M
 add-resource-spec = tie.close (tie.spec resource-place-requires enum-known-n enum-known-used mark-image-requires list-repeats-requires enum-known-n-2 enum-told same-length same-length-2 returns file-resource-requires same-length-3 returns-2 same-length-4 same-length-5 returns-3)

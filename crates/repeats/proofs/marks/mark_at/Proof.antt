@@ -1,51 +1,45 @@
--- `repeats::marks::mark_at` meets its contract: an entry that stands in its slot is marked as its slot is; any other by walking.
-use Rattle.repeats.proofs.Notes.{mark-quick}
+-- `repeats::marks::mark_at` meets its contract: an entry that stands in its slot is marked as its slot is, one that another stands there for is held by that; any other is marked by walking.
+use Rattle.repeats.proofs.Notes.{mark-before, mark-quick}
 use borrow.Author.Needs.{needs}
 use native.Mathlib.Omega.{arith}
 use Rattle.repeats.proofs.marks.mark_at.Statement.{statement}
 use Rattle.repeats.proofs.marks.mark_at.Tie as tie
 
+sub-seek : tie.Need-sub-seek
+sub-seek c = let h = c .before .before .pre in omega arith
+
+part-seek-start : tie.Need-part-seek-start
+part-seek-start c = let h = c .before .before .pre in omega arith
+
+part-seek-end : tie.Need-part-seek-end
+part-seek-end c = let h = c .before .before .pre in omega arith
+
+seek-requires : tie.Need-seek-requires
+seek-requires c κs = search needs
+
+mul-position : tie.Need-mul-position
+mul-position c = search needs
+
+element-copy-out-position : tie.Need-element-copy-out-position
+element-copy-out-position c = search needs
+
+position-requires : tie.Need-position-requires
+position-requires c κs = search needs
+
+element-copy-out-result : tie.Need-element-copy-out-result
+element-copy-out-result c = search needs
+
+returns : tie.Need-returns
+returns c = λ st f count pre hs r hc lk hp hi. mark-quick _ _ _ _ r hc _ _ _ _ _ _ pre lk hp hi (c .before .before .before .before .before .before .seek .ensures) (c .before .before .before .before .before .if1 .taken) (c .before .before .before .position .ensures) (c .before .before .if2 .taken) (c .before .if3 .taken)
+
+returns-2 : tie.Need-returns-2
+returns-2 c = λ st f count pre hs r hc lk hp hi. mark-before _ _ _ _ r hc _ _ _ _ _ _ pre lk hp hi (c .before .before .before .before .before .before .seek .ensures) (c .before .before .before .before .before .if1 .taken) (c .before .before .before .position .ensures) (c .before .before .if2 .taken) (c .if4 .taken)
+
 mark-of-requires : tie.Need-mark-of-requires
 mark-of-requires c κs = search needs
 
-returns : tie.Need-returns
-returns c = λ st f count pre hs r hc lk hp hi. c .mark-of .ensures st f pre _ hs hp
-
-mark-of-requires-2 : tie.Need-mark-of-requires-2
-mark-of-requires-2 c κs = search needs
-
-returns-2 : tie.Need-returns-2
-returns-2 c = λ st f count pre hs r hc lk hp hi. c .mark-of2 .ensures st f pre _ hs hp
-
-sub-slot : tie.Need-sub-slot
-sub-slot c = let h = c .before .before .before .before .before .before .pre in omega arith
-
-part-slot-start : tie.Need-part-slot-start
-part-slot-start c = let h = c .before .before .before .before .before .before .pre in omega arith
-
-part-slot-end : tie.Need-part-slot-end
-part-slot-end c = let h = c .before .before .before .before .before .before .pre in omega arith
-
-slot-requires : tie.Need-slot-requires
-slot-requires c κs = search needs
-
-mul-if3 : tie.Need-mul-if3
-mul-if3 c = search needs
-
-shared-slice-read-if3 : tie.Need-shared-slice-read-if3
-shared-slice-read-if3 c = let s = c .before .slot .ensures .1 in omega arith
-
-shared-slice-read-result : tie.Need-shared-slice-read-result
-shared-slice-read-result c = let s = c .before .before .before .slot .ensures .1 in omega arith
-
 returns-3 : tie.Need-returns-3
-returns-3 c = λ st f count pre hs r hc lk hp hi. mark-quick _ _ _ _ r hc _ _ _ _ _ pre lk (let s = c .before .before .before .slot .ensures .1 in omega arith) (c .before .before .before .before .before .if2 .left) hp hi (c .before .before .before .slot .ensures .0) (c .before .if3 .taken)
-
-mark-of-requires-3 : tie.Need-mark-of-requires-3
-mark-of-requires-3 c κs = search needs
-
-returns-4 : tie.Need-returns-4
-returns-4 c = λ st f count pre hs r hc lk hp hi. c .mark-of3 .ensures st f pre _ hs hp
+returns-3 c = λ st f count pre hs r hc lk hp hi. c .mark-of .ensures st f pre _ hs hp
 
 pub mark-at-spec : {M : Type 1} → statement M
-mark-at-spec = tie.close (tie.spec mark-of-requires returns mark-of-requires-2 returns-2 sub-slot part-slot-start part-slot-end slot-requires mul-if3 shared-slice-read-if3 shared-slice-read-result returns-3 mark-of-requires-3 returns-4)
+mark-at-spec = tie.close (tie.spec sub-seek part-seek-start part-seek-end seek-requires mul-position element-copy-out-position position-requires element-copy-out-result returns returns-2 mark-of-requires returns-3)

@@ -1,25 +1,23 @@
 -- `repeats::slots::note_entries` meets its contract. The loop's invariant: what is noted of the entries that are left is noted of all.
 use Prim.Native.Nat.{ℕ}
-use Rattle.repeats.proofs.Notes.{entries-bad, entries-next, entries-none, entries-stuck}
 use Rattle.entries.proofs.Walk.{behind-in}
-use Rattle.repeats.specs.Relations.Slots.{NotesEntries}
 use Rattle.records.proofs.Views.{num-is, num-none}
+use Rattle.repeats.proofs.Notes.{entries-bad, entries-next, entries-none, entries-stuck}
+use Rattle.repeats.specs.Relations.Slots.{NotesEntries}
 use borrow.Author.Needs.{needs}
-use lib.ListN.{length}
 use mathlib.Core.List.{List}
-use mathlib.Core.Path.{_∙_, _≡_, refl}
 use native.Mathlib.Omega.{arith}
 use Rattle.repeats.proofs.slots.note_entries.Statement.{statement}
 use Rattle.repeats.proofs.slots.note_entries.Tie as tie
 
 abbrev Inv-loop : tie.InvT-loop
-Inv-loop s from count image places held₀ at₀ left₀ held at left = ((out : List ℕ) → NotesEntries s image places left at held out → NotesEntries s image places left₀ at₀ held₀ out) × (length held ≡ length held₀)
+Inv-loop s from count image places held₀ at₀ left₀ held at left = (out : List ℕ) → NotesEntries s image places left at held out → NotesEntries s image places left₀ at₀ held₀ out
 
 abbrev μ-loop : tie.MeasureT-loop
 μ-loop s from count image places held₀ at₀ left₀ held at left = left
 
 loop-holds : tie.Need-loop-holds Inv-loop μ-loop
-loop-holds c = ((λ out h. h), refl)
+loop-holds c = λ out h. h
 
 read-str-behind-requires : tie.Need-read-str-behind-requires Inv-loop μ-loop
 read-str-behind-requires c κs = search needs
@@ -30,11 +28,8 @@ enum-known-a c = search needs
 enum-told : tie.Need-enum-told Inv-loop μ-loop
 enum-told c = search needs
 
-same-length : tie.Need-same-length Inv-loop μ-loop
-same-length c = c .before .before .before .before .loop .inv .1
-
 returns : tie.Need-returns Inv-loop μ-loop
-returns c = c .before .before .before .before .loop .inv .0 _ (entries-bad _ _ _ (c .before .before .before .loop-test .taken) (num-none (c .before .before .read-str-behind .ensures) (c .enum-told .given .1)))
+returns c = c .before .before .before .before .loop .inv _ (entries-bad _ _ _ (c .before .before .before .loop-test .taken) (num-none (c .before .before .read-str-behind .ensures) (c .enum-told .given .1)))
 
 sub-note-id : tie.Need-sub-note-id Inv-loop μ-loop
 sub-note-id c =
@@ -63,13 +58,8 @@ enum-known-next c = search needs
 enum-told-2 : tie.Need-enum-told-2 Inv-loop μ-loop
 enum-told-2 c = search needs
 
-same-length-2 : tie.Need-same-length-2 Inv-loop μ-loop
-same-length-2 c =
-    let kept = c .before .before .before .before .before .note-id .ensures .same ∙ c .before .before .before .before .before .before .before .before .before .before .before .before .before .loop .inv .1 in
-    kept
-
 returns-2 : tie.Need-returns-2 Inv-loop μ-loop
-returns-2 c = c .before .before .before .before .before .before .before .before .before .before .before .before .before .loop .inv .0 _ (entries-stuck _ _ _ (c .before .before .before .before .before .before .before .before .before .before .before .before .loop-test .taken) (c .before .before .skip-entry .ensures) (c .enum-told2 .given .1))
+returns-2 c = c .before .before .before .before .before .before .before .before .before .before .before .loop .inv _ (entries-stuck _ _ _ (c .before .before .before .before .before .before .before .before .before .before .loop-test .taken) (c .before .before .skip-entry .ensures) (c .enum-told2 .given .1))
 
 sub-left : tie.Need-sub-left Inv-loop μ-loop
 sub-left c = search needs
@@ -79,15 +69,11 @@ loop-less c = search needs
 
 loop-again : tie.Need-loop-again Inv-loop μ-loop
 loop-again c =
-    let span = num-is (c .before .before .before .before .before .before .before .before .before .before .before .before .read-str-behind .ensures) (c .before .before .before .before .before .before .before .before .before .before .a .given .1) in
-    let kept = c .before .before .before .before .before .before .note-id .ensures .same ∙ c .before .before .before .before .before .before .before .before .before .before .before .before .before .before .loop .inv .1 in
-    ((λ out h. c .before .before .before .before .before .before .before .before .before .before .before .before .before .before .loop .inv .0 out (entries-next _ _ _ (c .before .before .before .before .before .before .before .before .before .before .before .before .before .loop-test .taken) span (c .before .before .before .before .before .before .note-id .ensures) (c .before .before .before .skip-entry .ensures) (c .before .next .given .1) h)), kept)
-
-same-length-3 : tie.Need-same-length-3 Inv-loop μ-loop
-same-length-3 c = c .before .loop .inv .1
+    let span = num-is (c .before .before .before .before .before .before .before .before .before .before .read-str-behind .ensures) (c .before .before .before .before .before .before .before .before .a .given .1) in
+    λ out h. c .before .before .before .before .before .before .before .before .before .before .before .before .loop .inv out (entries-next _ _ _ (c .before .before .before .before .before .before .before .before .before .before .before .loop-test .taken) span (c .before .before .before .before .note-id .ensures) (c .before .before .before .skip-entry .ensures) (c .before .next .given .1) h)
 
 returns-3 : tie.Need-returns-3 Inv-loop μ-loop
-returns-3 c = c .before .loop .inv .0 _ (entries-none _ _ _ (c .loop-test .left))
+returns-3 c = c .before .loop .inv _ (entries-none _ _ _ (c .loop-test .left))
 
 pub note-entries-spec : {M : Type 1} → statement M
-note-entries-spec = tie.close (tie.spec Inv-loop μ-loop loop-holds read-str-behind-requires enum-known-a enum-told same-length returns sub-note-id part-note-id-start part-note-id-end note-id-requires skip-entry-requires enum-known-next enum-told-2 same-length-2 returns-2 sub-left loop-less loop-again same-length-3 returns-3)
+note-entries-spec = tie.close (tie.spec Inv-loop μ-loop loop-holds read-str-behind-requires enum-known-a enum-told returns sub-note-id part-note-id-start part-note-id-end note-id-requires skip-entry-requires enum-known-next enum-told-2 returns-2 sub-left loop-less loop-again returns-3)

@@ -1,7 +1,7 @@
 -- `repeats::slots::note_item` meets its contract: a function's Id, or the ids of a resource's entries.
-use Rattle.repeats.proofs.Notes.{function-noted, function-unread, item-unread, resource-noted, resource-unread}
 use Rattle.entries.proofs.Walk.{behind-in}
 use Rattle.records.proofs.Views.{num-is, num-none}
+use Rattle.repeats.proofs.Notes.{function-noted, function-unread, item-unread, resource-noted, resource-unread}
 use borrow.Author.Needs.{needs}
 use native.Mathlib.Omega.{arith}
 use Rattle.repeats.proofs.slots.note_item.Statement.{statement}
@@ -51,14 +51,11 @@ part-note-id-end c =
 note-id-requires : tie.Need-note-id-requires
 note-id-requires c κs = search needs
 
-same-length : tie.Need-same-length
-same-length c = c .before .before .note-id .ensures .same
-
 returns-3 : tie.Need-returns-3
 returns-3 c =
-    let mode = num-is (c .before .before .before .before .before .before .before .before .before .before .before .before .before .read-byte .ensures) (c .before .before .before .before .before .before .before .before .before .before .before .mode .given .1) in
-    let span = num-is (c .before .before .before .before .before .before .before .before .read-str-behind .ensures) (c .before .before .before .before .before .before .a .given .1) in
-    function-noted _ _ _ mode (c .before .before .before .before .before .before .before .before .before .if1 .taken) span (c .before .before .note-id .ensures)
+    let mode = num-is (c .before .before .before .before .before .before .before .before .before .before .before .read-byte .ensures) (c .before .before .before .before .before .before .before .before .before .mode .given .1) in
+    let span = num-is (c .before .before .before .before .before .before .read-str-behind .ensures) (c .before .before .before .before .a .given .1) in
+    function-noted _ _ _ mode (c .before .before .before .before .before .before .before .if1 .taken) span (c .note-id .ensures)
 
 read-u16-behind-requires : tie.Need-read-u16-behind-requires
 read-u16-behind-requires c κs = search needs
@@ -77,13 +74,10 @@ returns-4 c =
 note-entries-requires : tie.Need-note-entries-requires
 note-entries-requires c κs = search needs
 
-same-length-2 : tie.Need-same-length-2
-same-length-2 c = search needs
-
 returns-5 : tie.Need-returns-5
 returns-5 c =
-    let mode = num-is (c .before .before .before .before .before .before .before .before .before .before .before .before .read-byte .ensures) (c .before .before .before .before .before .before .before .before .before .before .mode .given .1) in
-    resource-noted _ _ _ mode (c .before .before .before .before .before .before .before .before .if1 .left) (num-is (c .before .before .before .before .before .before .before .read-u16-behind .ensures) (c .before .before .before .before .before .count .given .1)) (c .before .before .note-entries .ensures)
+    let mode = num-is (c .before .before .before .before .before .before .before .before .before .before .read-byte .ensures) (c .before .before .before .before .before .before .before .before .mode .given .1) in
+    resource-noted _ _ _ mode (c .before .before .before .before .before .before .if1 .left) (num-is (c .before .before .before .before .before .read-u16-behind .ensures) (c .before .before .before .count .given .1)) (c .note-entries .ensures)
 
 pub note-item-spec : {M : Type 1} → statement M
-note-item-spec = tie.close (tie.spec read-byte-requires enum-known-mode enum-told returns read-str-behind-requires enum-known-a enum-told-2 returns-2 sub-note-id part-note-id-start part-note-id-end note-id-requires same-length returns-3 read-u16-behind-requires enum-known-count enum-told-3 returns-4 note-entries-requires same-length-2 returns-5)
+note-item-spec = tie.close (tie.spec read-byte-requires enum-known-mode enum-told returns read-str-behind-requires enum-known-a enum-told-2 returns-2 sub-note-id part-note-id-start part-note-id-end note-id-requires returns-3 read-u16-behind-requires enum-known-count enum-told-3 returns-4 note-entries-requires returns-5)
