@@ -115,3 +115,16 @@ module _ (s : List ℕ) (at tag p : ℕ) (hb : byteAt s at ≡ got tag p) {C : T
         go z (is-term e q) = absurd (n5 e)
         go z (is-variable n e q w) = absurd (n6 e)
         go z (is-nested x e q w) = absurd (n7 e)
+
+    -- no other tag stands before an inline expression
+    pub no-body : (tag ≡ 1 → ⊥) → (tag ≡ 2 → ⊥) → (tag ≡ 3 → ⊥) → (tag ≡ 6 → ⊥) → C
+    no-body n1 n2 n3 n6 = by-body go
+      where
+        go : 0 < d → Body (expression (d - 1)) (inline (d - 1)) s p tag y f → C
+        go z (is-string t e q w) = absurd (n1 e)
+        go z (is-number t e q w) = absurd (n2 e)
+        go z (is-function n q a e hn ha w) = absurd (n3 e)
+        go z (is-message n q a e hn ha w) = absurd (n4 e)
+        go z (is-term e q) = absurd (n5 e)
+        go z (is-variable n e q w) = absurd (n6 e)
+        go z (is-nested x e q w) = absurd (n7 e)

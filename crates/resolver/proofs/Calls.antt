@@ -23,9 +23,9 @@ use Rattle.entries.specs.declared.Found.the-variants as found
 use Rattle.resolution.specs.Effect.{Bytes, unfound, State, Out, M, Done, ret, _>>=_, _>>_, emit, release}
 use Rattle.resolution.specs.Exec.{Machine, Limits}
 use Rattle.resolution.specs.Resolve.{Trail, namedValues, Given, mergesOf, call, callFunction, lookUp, resolveInline, getArguments}
-use Rattle.state.specs.declared.Scope.{Scope}
-use Rattle.state.specs.declared.Value as code-value
-use Rattle.state.specs.declared.Value.the-variants as val
+use Rattle.state.specs.Progress.{Progress}
+use Rattle.values.specs.declared.Value as code-value
+use Rattle.values.specs.declared.Value.the-variants as val
 use Rattle.resolver.specs.Relations.Meets.{World, world, Live, Ended, ended, stopped, Runs, Kept, Acts, NamedIn, namedTexts, Holds, in-store, in-args, in-work, is-number, is-nothing, is-wrong, Env, Setup, settingOf, findOf, crossOf}
 use Rattle.resolver.specs.Relations.Leaves.{FirstIs, first-none, first-number, first-other, ResultIs, has-result, no-function, NamedAt, NumberAt}
 use Rattle.resolver.specs.Relations.Members.{Here, ValueAt, positionalValues, PositionalAt, CalledAt}
@@ -167,8 +167,8 @@ module _ (e : Env) (left at : ℕ) (w u1 : World) (first : code-value.Value) (en
   arguments-unnamed b h = args-elim h (λ k c q m r hk hx hm hr. never b hm)
 
 -- the named ones, then what follows
-module _ (e : Env) (left at : ℕ) (w : World) (x l w1 t : List ℕ) (s1 : Scope) (first : code-value.Value) (end : ℕ) (pos : PositionalAt e left at w (world (e .store) x l w1 t s1) first end)
-    (m named : ℕ) (hm : numberAt 2 (e .store) end ≡ got m named) (w2 : List ℕ) (s2 : Scope) (nm : NamedAt (e .store) named m w1 s1 w2 s2) where
+module _ (e : Env) (left at : ℕ) (w : World) (x l w1 t : List ℕ) (s1 : Progress) (first : code-value.Value) (end : ℕ) (pos : PositionalAt e left at w (world (e .store) x l w1 t s1) first end)
+    (m named : ℕ) (hm : numberAt 2 (e .store) end ≡ got m named) (w2 : List ℕ) (s2 : Progress) (nm : NamedAt (e .store) named m w1 s1 w2 s2) where
   abbrev pub mid : World
   mid = world (e .store) x l w1 t s1
 
@@ -251,8 +251,8 @@ module _ (e : Env) (left at : ℕ) where
         result = λ u i q xs ns f hi ha n t here L s m lv r. call-id hi (λ ei ep. arguments-unnamed e left p w u1 first end pos h (at-id ep ha));
       }
 
-    module _ (w : World) {x l w1 t : List ℕ} {s1 : Scope} {first : code-value.Value} {end : ℕ} (pos : PositionalAt e left p w (world (e .store) x l w1 t s1) first end)
-        {m named : ℕ} (hm : numberAt 2 (e .store) end ≡ got m named) {w2 : List ℕ} {s2 : Scope} (nm : NamedAt (e .store) named m w1 s1 w2 s2) where
+    module _ (w : World) {x l w1 t : List ℕ} {s1 : Progress} {first : code-value.Value} {end : ℕ} (pos : PositionalAt e left p w (world (e .store) x l w1 t s1) first end)
+        {m named : ℕ} (hm : numberAt 2 (e .store) end ≡ got m named) {w2 : List ℕ} {s2 : Progress} (nm : NamedAt (e .store) named m w1 s1 w2 s2) where
       abbrev known : World
       known = world (e .store) x l w2 t s2
 
@@ -271,7 +271,7 @@ module _ (e : Env) (left at : ℕ) where
         holder-of u ei = rw ei (hold (u .held) (u .used) (u .held-at))
 
         -- what follows the arguments, freed
-        called-by : {s3 r : Scope} {b : Bool} {c : code-value.Value} → r ≡ backS (w .st .back) s3 → Kept known (world (e .store) x l w2 t s3)
+        called-by : {s3 r : Progress} {b : Bool} {c : code-value.Value} → r ≡ backS (w .st .back) s3 → Kept known (world (e .store) x l w2 t s3)
             → ((u : Setup e) (i : Bytes) (ns : Named) (f : ℕ) → i ≡ idOf → (vs : List Value) (L : Limits) (s : State) (k : Machine) → Live L known s k → FirstIs first vs → NamedIn w2 (s2 .back) (s1 .back) ns
             → many [] _∷_ m namedAt (e .store) named ≡ got ns f → Ended L known (world (e .store) x l w2 t s3) (callFunction (findOf e u) i (given vs (namedTexts ns)) s) k)
             → ((u : Setup e) (i : Bytes) (ns : Named) (f : ℕ) → i ≡ idOf → (vs : List Value) (q : State) → FirstIs first vs → NamedIn w2 (s2 .back) (s1 .back) ns
@@ -281,7 +281,7 @@ module _ (e : Env) (left at : ℕ) where
         called-by {s3} {r} {b} {c} er kp go val =
             let kw = kept-then (kept-named e left p w x l w1 t s1 first end pos m named hm w2 s2 nm) kp in
             record {
-              kept = record { begun = (let o = kw .begun in let o2 = ap (λ (q : Scope). q .begun) er in omega arith); over = λ f. ap (λ (q : Scope). q .refused) er ∙ kw .over f };
+              kept = record { begun = (let o = kw .begun in let o2 = ap (λ (q : Progress). q .begun) er in omega arith); over = λ f. ap (λ (q : Progress). q .refused) er ∙ kw .over f };
               runs = λ u i q xs ns f hi ha n tr here. call-id hi (λ ei ep.
                   release-back w (world (e .store) x l w2 t s3) _ er
                   (arguments-runs e left p w x l w1 t s1 first end pos m named hm w2 s2 nm (λ g. callFunction (findOf e u) i g) kp u xs ns f (at-id ep ha) n tr here
@@ -290,11 +290,11 @@ module _ (e : Env) (left at : ℕ) where
                   arguments-value e left p w x l w1 t s1 first end pos m named hm w2 s2 nm (λ g. callFunction (findOf e u) i g) kp u xs ns f (at-id ep ha) n tr here L s k lv z1 z2
                   (λ vs q ev fi ni hr.
                   subst (λ (o : Option Value). ResultIs (e .store) (e .args) w2 (r .back) b c o) (sym ev)
-                  (val u i ns f ei vs q fi ni hr (sym (ap (λ (o : Scope). o .refused) er) ∙ z))));
+                  (val u i ns f ei vs q fi ni hr (sym (ap (λ (o : Progress). o .refused) er) ∙ z))));
             }
 
         -- the one function
-        pub called-function : {s3 r : Scope} {c : code-value.Value} → h ≡ found.Function → NumberAt (e .store) w2 s2 named m (s1 .back) first s3 c → r ≡ backS (w .st .back) s3
+        pub called-function : {s3 r : Progress} {c : code-value.Value} → h ≡ found.Function → NumberAt (e .store) w2 s2 named m (s1 .back) first s3 c → r ≡ backS (w .st .back) s3
             → CalledAt e left at w (world (e .store) x l w2 t r) true c
         unfolding callFunction call _>>_ _>>=_ ret
         called-function {s3} {r} {c} eh nb er = called-by er (nb .kept x l t)
@@ -307,7 +307,7 @@ module _ (e : Env) (left at : ℕ) where
             (nb .holds ns f vs (s2 .back) hr fi ni (e .args) (r .back) z2 z3)))
 
         -- an entry is no function
-        called-other : {r : Scope} → r ≡ backS (w .st .back) s2 → ((u : Setup e) (i : Bytes) → i ≡ idOf → (y : Entry) × (findOf e u i ≡ some (Holder.entry y)))
+        called-other : {r : Progress} → r ≡ backS (w .st .back) s2 → ((u : Setup e) (i : Bytes) → i ≡ idOf → (y : Entry) × (findOf e u i ≡ some (Holder.entry y)))
             → CalledAt e left at w (world (e .store) x l w2 t r) false val.Wrong
         unfolding callFunction call ret
         called-other {r} er is = called-by er (kept-same known)
@@ -318,14 +318,14 @@ module _ (e : Env) (left at : ℕ) where
             let y = is u i ei in
             no-function refl refl (ap (λ (o : M (Option Value)). o q .value) (look-found (findOf e u) i (λ o. call (given vs (namedTexts ns)) o) (Holder.entry (y .0)) (y .1))))
 
-        pub called-message : {r : Scope} {q : ℕ} → h ≡ found.Message q → r ≡ backS (w .st .back) s2 → CalledAt e left at w (world (e .store) x l w2 t r) false val.Wrong
+        pub called-message : {r : Progress} {q : ℕ} → h ≡ found.Message q → r ≡ backS (w .st .back) s2 → CalledAt e left at w (world (e .store) x l w2 t r) false val.Wrong
         called-message eh er = called-other er (λ u i ei. known-message (holder-of u ei) eh (λ y f eo ek hy. (y, eo)))
 
-        pub called-term : {r : Scope} {q : ℕ} → h ≡ found.Term q → r ≡ backS (w .st .back) s2 → CalledAt e left at w (world (e .store) x l w2 t r) false val.Wrong
+        pub called-term : {r : Progress} {q : ℕ} → h ≡ found.Term q → r ≡ backS (w .st .back) s2 → CalledAt e left at w (world (e .store) x l w2 t r) false val.Wrong
         called-term eh er = called-other er (λ u i ei. known-term (holder-of u ei) eh (λ y f eo ek hy. (y, eo)))
 
         -- nothing has the Id
-        pub called-lost : {s3 r : Scope} → h ≡ found.Nothing → ((i x l w t : List ℕ) → Acts (emit unfound) (world i x l w t s2) (world i x l w t s3)) → r ≡ backS (w .st .back) s3
+        pub called-lost : {s3 r : Progress} → h ≡ found.Nothing → ((i x l w t : List ℕ) → Acts (emit unfound) (world i x l w t s2) (world i x l w t s3)) → r ≡ backS (w .st .back) s3
             → CalledAt e left at w (world (e .store) x l w2 t r) false val.Wrong
         unfolding callFunction call ret _>>_ _>>=_
         called-lost {s3} {r} eh c er =

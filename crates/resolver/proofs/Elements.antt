@@ -20,7 +20,7 @@ use Rattle.records.proofs.Views.{both, never, many-cons, many-nil, element-elim
 use Rattle.resolution.specs.Effect.{Bytes, Effect, report, begin, expand, State, Out, M, Done, ret, _>>=_, _>>_, emit, write, isDirty, maxPlaceables, enterIf, enter, onlyIf, entered}
 use Rattle.resolution.specs.Exec.{Machine, Limits, Ran, ran, refused, exec, andThen, step}
 use Rattle.resolution.specs.Resolve.{Trail, braced, bare, fsi, pdi, mark, cutShort, errorOf, severalOf, writePattern, writeElements, writeElement, writeExpression}
-use Rattle.state.specs.declared.Scope.{Scope}
+use Rattle.state.specs.Progress.{Progress}
 use Rattle.resolver.specs.Relations.Meets.{World, world, Live, LocalsStay, locals-same, locals-cleared, Moved, Ended, ended, stopped, Runs, Kept, Acts, trailOf, Env, Setup, settingOf, findOf, crossOf}
 use Rattle.resolver.specs.Relations.Leaves.{TooMany, CutAt}
 use Rattle.resolver.specs.Relations.Members.{Here, PatternAt, ElementsAt, ElementAt, ExpressionAt}
@@ -165,7 +165,7 @@ runs-expand w L s k lv =
     refl
     (let a = moved-none w s (tt {0}) in record { store = a .store; front = a .front; back = a .back; rest = a .rest; aside = a .aside; depth = a .depth; trail = a .trail; stay = a .stay; outs = a .outs })
 
-module _ (i x l w t : List ℕ) (st : Scope) where
+module _ (i x l w t : List ℕ) (st : Progress) where
   -- the state that a placeable is begun in
   pub live-begun : {L : Limits} {s : State} {k : Machine} (b : ℕ) (d : Bool) → b ≡ st .begun + 1 → (d ≡ false → b ≤ 100) → b ≤ 101
       → Live L (world i x l w t st) s k → Live L (world i x l w t (begunS b d st)) (begunState s d) (begunM k)
@@ -201,15 +201,15 @@ module _ (i x l w t : List ℕ) (st : Scope) where
       let a = moved-none (world i x l w t st) (r .state) (r .value) in
       record { store = refl; front = rw et (a .front); back = omega arith; rest = refl; aside = refl; depth = refl; trail = λ _. refl; stay = locals-same refl refl refl refl; outs = record { text-up = omega arith; list-up = omega arith; text-rest = refl; list-rest = refl } }
 
-  pub runs-entered : {u v : World} {r : Scope} (before m : M Done) → st .dirty ≡ false → st .begun < 100 → r ≡ begunS (st .begun + 1) (st .dirty) st
+  pub runs-entered : {u v : World} {r : Progress} (before m : M Done) → st .dirty ≡ false → st .begun < 100 → r ≡ begunS (st .begun + 1) (st .dirty) st
       → Acts before (world i x l w t r) u → Kept u v → (Stays (world i x l w t r) u → Runs m u v) → Runs (entered before m) (world i x l w t st) v
   unfolding entered enter enterIf onlyIf begun′ maxPlaceables
   runs-entered {u} {v} {r} before m dn few er a kp h L s k lv =
       let w1 : World = world i x l w t r in
       let es : enter s ≡ begun′ s = rw (lv .dirty ∙ dn, lt-ltb (s .begun) 100 (let q = lv .begun in omega arith)) in
       let er′ : r ≡ begunS (st .begun + 1) false st = er ∙ ap (λ (d : Bool). begunS (st .begun + 1) d st) dn in
-      let lu : Live L w1 (begunState s false) (begunM k) = subst (λ (q : Scope). Live L (world i x l w t q) (begunState s false) (begunM k)) (sym er′) (live-begun (st .begun + 1) false refl (λ _. omega arith) (omega arith) lv) in
-      let mu : Moved (world i x l w t st) w1 (begun′ s) = subst (λ (q : Scope). Moved (world i x l w t st) (world i x l w t q) (begun′ s)) (sym er′) (moved-begun (st .begun + 1) false (begun′ s) refl refl) in
+      let lu : Live L w1 (begunState s false) (begunM k) = subst (λ (q : Progress). Live L (world i x l w t q) (begunState s false) (begunM k)) (sym er′) (live-begun (st .begun + 1) false refl (λ _. omega arith) (omega arith) lv) in
+      let mu : Moved (world i x l w t st) w1 (begun′ s) = subst (λ (q : Progress). Moved (world i x l w t st) (world i x l w t q) (begun′ s)) (sym er′) (moved-begun (st .begun + 1) false (begun′ s) refl refl) in
       let rest : Runs (before >> (emit expand >> m)) w1 v = runs-then (a .runs) kp (λ q. runs-then (runs-expand u) kp (λ _. h q)) in
       subst (λ (o : Out Done). Ended L (world i x l w t st) v o k) (sym (bind-at enter begun′ (λ go. onlyIf go (before >> (emit expand >> m))) s es))
       (ended-then begun′ (λ go. onlyIf go (before >> (emit expand >> m))) L s k (ended (begunM k) (exec-one L k) lu refl mu) (kept-then (a .kept) kp) (λ k′ l′ mv. rest L _ k′ l′))
@@ -245,7 +245,7 @@ module _ (e : Env) (left : ℕ) (iso : Bool) (at : ℕ) where
   pub element-none : (w : World) → byteAt (e .store) at ≡ bad → ElementAt e left iso at w w
   element-none w h = record { kept = kept-same w; runs = λ u y f k. element-elim (expression left) (e .store) at k (λ p b hb hs ey. never h hb) (λ p z hb hz ey. never h hb) }
 
-  pub element-dirty : (i x l w t : List ℕ) (st : Scope) → st .dirty ≡ true → ElementAt e left iso at (world i x l w t st) (world i x l w t st)
+  pub element-dirty : (i x l w t : List ℕ) (st : Progress) → st .dirty ≡ true → ElementAt e left iso at (world i x l w t st) (world i x l w t st)
   unfolding writeElement onlyIf
   element-dirty i x l w t st h = record {
     kept = kept-same _;
@@ -277,8 +277,8 @@ module _ (e : Env) (left : ℕ) (iso : Bool) (at : ℕ) where
     pub element-far : (w : World) → w .st .dirty ≡ false → 100 < w .st .begun → ElementAt e left iso at w w
     element-far w dn h = record { kept = kept-same w; runs = λ u y f k n tr here L s m lv. absurd (let a = lv .few (lv .dirty ∙ dn) in let b = lv .begun in omega arith) }
 
-    module _ (x l w t : List ℕ) (st : Scope) (n1 : tag ≡ 1 → ⊥) (z : st .refused ≡ 0) (dn : st .dirty ≡ false) where
-      pub element-full : {l′ : List ℕ} {r : Scope} → st .begun ≡ 100 → TooMany l st l′ r → ElementAt e left iso at (world (e .store) x l w t st) (world (e .store) x l′ w t r)
+    module _ (x l w t : List ℕ) (st : Progress) (n1 : tag ≡ 1 → ⊥) (z : st .refused ≡ 0) (dn : st .dirty ≡ false) where
+      pub element-full : {l′ : List ℕ} {r : Progress} → st .begun ≡ 100 → TooMany l st l′ r → ElementAt e left iso at (world (e .store) x l w t st) (world (e .store) x l′ w t r)
       unfolding writeElement
       element-full full a = record {
         kept = record { begun = (let q = a .acts (e .store) x w t .kept .begun in omega arith); over = λ f. absurd (f z) };
@@ -287,7 +287,7 @@ module _ (e : Env) (left : ℕ) (iso : Bool) (at : ℕ) where
             (λ p y′ hb′ hz ey. runs-as (ap (λ (z : Element). writeElement (settingOf e u) (findOf e u) (crossOf e u n) tr z iso) ey) (runs-full (e .store) x l w t st _ _ dn full (a .acts (e .store) x w t)));
       }
 
-      pub element-placeable : {x1 w1 : List ℕ} {s1 s2 : Scope} {x3 l3 w3 t3 : List ℕ} {s3 : Scope} {x4 w4 : List ℕ} {s4 : Scope} {v : World} {marks : Bool}
+      pub element-placeable : {x1 w1 : List ℕ} {s1 s2 : Progress} {x3 l3 w3 t3 : List ℕ} {s3 : Progress} {x4 w4 : List ℕ} {s4 : Progress} {v : World} {marks : Bool}
           → st .begun < 100 → s1 ≡ begunS (st .begun + 1) (st .dirty) st
           → ((d : ℕ) (y : Expression) (f : ℕ) → expression d (e .store) p ≡ got y f → marks ≡ (iso && not (bare y)))
           → Acts (mark marks fsi) (world (e .store) x l w t s1) (world (e .store) x1 l w1 t s2)
@@ -297,7 +297,7 @@ module _ (e : Env) (left : ℕ) (iso : Bool) (at : ℕ) where
           → ElementAt e left iso at (world (e .store) x l w t st) v
       unfolding writeElement
       element-placeable {x1} {w1} {s1} {s2} {x3} {l3} {w3} {t3} {s3} {x4} {w4} {s4} {v} {marks} few es1 hm a h c b =
-          let k1 : st .begun ≤ s1 .begun = (let i = ap (λ (o : Scope). o .begun) es1 in omega arith) in
+          let k1 : st .begun ≤ s1 .begun = (let i = ap (λ (o : Progress). o .begun) es1 in omega arith) in
           let k34 = kept-then (c .kept l3 t3) (b .kept) in
           let k24 = kept-then (h .kept) k34 in
           let k14 = kept-then (a .kept) k24 in
@@ -309,9 +309,9 @@ module _ (e : Env) (left : ℕ) (iso : Bool) (at : ℕ) where
                 let hy′ : expression left (e .store) p ≡ got y′ f = subst (λ (j : ℕ). expression left (e .store) j ≡ got y′ f) (sym ep) hy in
                 let em : marks ≡ (iso && not (bare y′)) = hm left y′ f hy′ in
                 let here1 : Here e (world (e .store) x l w t s1) 0 n tr = record {
-                  on = here .on ∙ ap (λ (o : Scope). trailOf (e .store) t (o .depth)) (sym es1);
-                  fuel = (let i = here .fuel in let j = ap (λ (o : Scope). o .begun) es1 in omega arith);
-                  room = (let i = here .room in let j = ap (λ (o : Scope). o .begun) es1 in let j2 = ap (λ (o : Scope). o .depth) es1 in omega arith);
+                  on = here .on ∙ ap (λ (o : Progress). trailOf (e .store) t (o .depth)) (sym es1);
+                  fuel = (let i = here .fuel in let j = ap (λ (o : Progress). o .begun) es1 in omega arith);
+                  room = (let i = here .room in let j = ap (λ (o : Progress). o .begun) es1 in let j2 = ap (λ (o : Progress). o .depth) es1 in omega arith);
                   same = refl;
                 } in
                 runs-as (ap (λ (z : Element). writeElement (settingOf e u) (findOf e u) (crossOf e u n) tr z iso) ey

@@ -19,7 +19,7 @@ use Rattle.resolution.specs.Exec.{Machine, Ran, ran, refused}
 use Rattle.resolution.specs.Format.{Answer, finished, refusedBefore, refusedRunning, Buffers, Formatted, zeros, refuse, orRefuse, ended, formatWith, formatArguments, format, limitsOf, runPattern, valuesOf}
 use Rattle.layout.specs.Exact.{Octets}
 use Rattle.theorems.proofs.Formattings.{few-unfound}
-use Rattle.state.specs.declared.Scope.{Scope}
+use Rattle.state.specs.Progress.{Progress}
 use Rattle.resolver.specs.Relations.Meets.{Env, env, Setup, settingOf, findOf}
 use Rattle.state.specs.Setters.{maxUnfound}
 use Rattle.resolver.specs.declared.format.Answer as code-answer
@@ -76,7 +76,7 @@ module _ (s id : Bytes) (a : Option Bytes) (image x l w : Bytes) {p : code-part.
       format-header small er = found-elim (λ st used pt f hs hp k. refused-is s id a image x l w 7 (k ∙ rw (ha, lt-leb 5 (length l) small)) er)
 
       -- the run
-      pub format-run : {x₁ l₁ w₁ x₂ l₂ w₂ : Bytes} {sc : Scope} {r : code-answer.Answer} → Octets s → 5 ≤ length l → RunAt (env s image) q x l w x₁ l₁ w₁ sc → FinishAt sc x₁ l₁ w₁ x₂ l₂ w₂ r
+      pub format-run : {x₁ l₁ w₁ x₂ l₂ w₂ : Bytes} {sc : Progress} {r : code-answer.Answer} → Octets s → 5 ≤ length l → RunAt (env s image) q x l w x₁ l₁ w₁ sc → FinishAt sc x₁ l₁ w₁ x₂ l₂ w₂ r
           → gave r x₂ l₂ w₂ ≡ format s id a image (buffers x l w)
       unfolding formatArguments formatWith orRefuse listHeader
       format-run {r = r} oct big ru fi = found-elim (λ st used pt f hs hp k.

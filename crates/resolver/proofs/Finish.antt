@@ -1,8 +1,9 @@
 -- What the buffers hold in the end.
 use mathlib.Core.Path.{_≡_, refl, ap, sym, subst, _∙_}
 use mathlib.Core.List.{List, [], _∷_, _++_}
-use Prim.Native.Nat.{ℕ, _+_, _-_, _≤_, _<_, min}
+use Prim.Native.Nat.{ℕ, _+_, _-_, _≤_, _<_, _%_, min}
 use native.Mathlib.Omega.{arith}
+use native.Mathlib.Nat.{mod-eq-of-lt}
 use lib.ListN.{length, take, drop, replicate}
 use lib.Seq.{drop-drop}
 use Rattle.records.specs.Bytes.{part, toBe}
@@ -16,7 +17,7 @@ use Rattle.growth.specs.Items.{atFront}
 use Rattle.resolution.specs.Effect.{Bytes}
 use Rattle.resolution.specs.Exec.{Machine, Ran, ran, refused}
 use Rattle.resolution.specs.Format.{Answer, finished, refusedRunning, Buffers, zeros, ended}
-use Rattle.state.specs.declared.Scope.{Scope}
+use Rattle.state.specs.Progress.{Progress}
 use Rattle.state.specs.Setters.{maxUnfound}
 use Rattle.resolver.proofs.Single.Puts.{errors-length}
 use Rattle.resolver.specs.declared.format.Answer as code-answer
@@ -57,25 +58,25 @@ gave-is r ea ex el ew = rw (ea, ex, el, ew) refl
 abbrev Ends : Ran → Bytes → Bytes → Bytes → Bytes → Bytes → Bytes → code-answer.Answer → Type 0
 Ends o x l w x₂ l₂ w₂ r = gave r x₂ l₂ w₂ ≡ stopped (ended o (buffers x l w))
 
-module _ (sc : Scope) (x₁ l₁ w₁ : Bytes) {x₂ l₂ w₂ : Bytes} {r : code-answer.Answer} where
+module _ (sc : Progress) (x₁ l₁ w₁ : Bytes) {x₂ l₂ w₂ : Bytes} {r : code-answer.Answer} where
   -- a run that was refused
-  pub finish-cleared : (sc .refused ≡ 0 → ⊥) → x₂ ≡ replicate (length x₁) 0 → l₂ ≡ replicate (length l₁) 0 → w₂ ≡ replicate (length w₁) 0 → r ≡ ans.Cleared (sc .refused) → FinishAt sc x₁ l₁ w₁ x₂ l₂ w₂ r
+  pub finish-cleared : {n : ℕ} → (sc .refused ≡ 0 → ⊥) → x₂ ≡ replicate (length x₁) 0 → l₂ ≡ replicate (length l₁) 0 → w₂ ≡ replicate (length w₁) 0 → n ≡ sc .refused % 256 → r ≡ ans.Cleared n → FinishAt sc x₁ l₁ w₁ x₂ l₂ w₂ r
   unfolding answerOf stopped stoppedOf ended zeros
-  finish-cleared z ex el ew er = record { finishes = λ o x l w h lx ll lw. go o x l w lx ll lw h }
+  finish-cleared z ex el ew es er = record { finishes = λ o x l w h lx ll lw. go o x l w lx ll lw h }
     where
       go : (o : Ran) (x l w : Bytes) → length x₁ ≡ length x → length l₁ ≡ length l → length w₁ ≡ length w → RanAs o x l x₁ l₁ sc → Ends o x l w x₂ l₂ w₂ r
       go o x l w lx ll lw (ran-as m _ g _ _ _ _ _ _ _ _ _ _ _ _) = absurd (z g)
-      go o x l w lx ll lw (refused-as n eq _ en) =
+      go o x l w lx ll lw (refused-as n eq _ few en) =
           subst (λ (q : Ran). Ends q x l w x₂ l₂ w₂ r) (sym eq)
-          (gave-is r (ap answerOf er ∙ ap refusedRunning en) (ex ∙ ap (λ (k : ℕ). replicate k 0) lx) (el ∙ ap (λ (k : ℕ). replicate k 0) ll) (ew ∙ ap (λ (k : ℕ). replicate k 0) lw))
+          (gave-is r (ap answerOf er ∙ ap refusedRunning (es ∙ ap (λ (k : ℕ). k % 256) en ∙ mod-eq-of-lt few)) (ex ∙ ap (λ (k : ℕ). replicate k 0) lx) (el ∙ ap (λ (k : ℕ). replicate k 0) ll) (ew ∙ ap (λ (k : ℕ). replicate k 0) lw))
 
   -- a run that was not
-  pub finish-ran : sc .refused ≡ 0 → x₂ ≡ x₁ → l₂ ≡ headed l₁ (sc .«list_at») → w₂ ≡ replicate (length w₁) 0 → r ≡ ans.Finished (record { text = sc .«text_at»; errors = sc .errors; begun = sc .begun; unfound = sc .unfound; work = sc .high }) → FinishAt sc x₁ l₁ w₁ x₂ l₂ w₂ r
+  pub finish-ran : {b u : ℕ} → sc .refused ≡ 0 → x₂ ≡ x₁ → l₂ ≡ headed l₁ (sc .«list_at») → w₂ ≡ replicate (length w₁) 0 → b ≡ sc .begun → u ≡ sc .unfound → r ≡ ans.Finished (record { text = sc .«text_at»; errors = sc .errors; begun = b; unfound = u; work = sc .high }) → FinishAt sc x₁ l₁ w₁ x₂ l₂ w₂ r
   unfolding answerOf stopped stoppedOf ended zeros
-  finish-ran z ex el ew er = record { finishes = λ o x l w h lx ll lw. go o x l w ll lw h }
+  finish-ran z ex el ew bs us er = record { finishes = λ o x l w h lx ll lw. go o x l w ll lw h }
     where
       go : (o : Ran) (x l w : Bytes) → length l₁ ≡ length l → length w₁ ≡ length w → RanAs o x l x₁ l₁ sc → Ends o x l w x₂ l₂ w₂ r
       go o x l w ll lw (ran-as m eq _ et xf en big _ room records rest ee eb eu eh) =
           subst (λ (q : Ran). Ends q x l w x₂ l₂ w₂ r) (sym eq)
-          (gave-is r (ap answerOf er ∙ rw (et, ee, eb, eu, eh) refl) (ex ∙ xf) (el ∙ list-is (m .errors) l l₁ (sc .«list_at») en big (omega arith) records rest) (ew ∙ ap (λ (k : ℕ). replicate k 0) lw))
-      go o x l w ll lw (refused-as n _ nz en) = absurd (nz (sym en ∙ z))
+          (gave-is r (ap answerOf er ∙ rw (bs, us, et, ee, eb, eu, eh) refl) (ex ∙ xf) (el ∙ list-is (m .errors) l l₁ (sc .«list_at») en big (omega arith) records rest) (ew ∙ ap (λ (k : ℕ). replicate k 0) lw))
+      go o x l w ll lw (refused-as n _ nz _ en) = absurd (nz (sym en ∙ z))

@@ -23,8 +23,8 @@ use Rattle.records.proofs.Views.{both, never, str-is, ruled-elim, id-str, strin
 use Rattle.resolution.specs.Effect.{Bytes, State, M, Done, ret, _>>=_, write, release}
 use Rattle.resolution.specs.Exec.{Limits, Machine}
 use Rattle.resolution.specs.Resolve.{Trail, getVariable, writeVariable, callFunction, writeResult, writeInline, getArguments}
-use Rattle.state.specs.declared.Value as code-value
-use Rattle.state.specs.declared.Value.the-variants as val
+use Rattle.values.specs.declared.Value as code-value
+use Rattle.values.specs.declared.Value.the-variants as val
 use Rattle.resolver.specs.Relations.Meets.{World, Live, Runs, Kept, Acts, Holds, is-number, Env, Setup, settingOf, findOf, crossOf}
 use Rattle.resolver.specs.Relations.Leaves.{ResultAt, VariableAt}
 use Rattle.resolver.specs.Relations.Members.{Here, ExpressionAt, InlineAt, MessageAt, TermAt, CalledAt}
@@ -32,7 +32,7 @@ use Rattle.resolver.proofs.Single.Laws.{kept-same, kept-then, ended-the
 use Rattle.resolver.proofs.Single.Steps.{runs-as, runs-over}
 use Rattle.variants.proofs.Literals.{id-short}
 use Rattle.literals.proofs.Ranged.{literal-ranged}
-use Rattle.resolver.proofs.Bodies.{string-body, number-body, message-body, term-body, variable-body, nested-body, str-body, function-body}
+use Rattle.resolver.proofs.Bodies.{string-body, number-body, message-body, term-body, variable-body, nested-body, str-body, function-body, no-body}
 
 -- the length of a part that lies in a list
 part-length : (s : List ℕ) (a b : ℕ) → a ≤ b → b ≤ length s → length (part s a (b - a)) ≡ b - a
@@ -143,3 +143,16 @@ module _ (e : Env) (left at : ℕ) where
             let x = g .result u i q xs ns f hn hx n t here L s k₀ lv (l′ .go) in
             subst (λ (j : Bytes). Runs (writeResult j (m s .value)) u1 v) (sym ei) (r .runs (m s .value) x (inside .0) (inside .1) few) L (m s .state) k′ l′))));
       }
+
+    -- no inline expression has another tag: never
+    pub inline-other : (w : World) → (tag ≡ 7 → ⊥) → (tag ≡ 4 → ⊥) → (tag ≡ 5 → ⊥) → (tag ≡ 3 → ⊥) → (tag ≡ 1 → ⊥) → (tag ≡ 2 → ⊥) → (tag ≡ 6 → ⊥) → InlineAt e left at w w
+    inline-other w n7 n4 n5 n3 n1 n2 n6 = record { kept = kept-same w; runs = λ u y f k. no-body (e .store) at tag p hb left k n4 n5 n7 n1 n2 n3 n6 }
+
+    -- no Str stands past a call's tag: never
+    pub inline-uncalled : {found : Bool} {c : code-value.Value} {w v : World} → tag ≡ 3 → strAt (e .store) p ≡ bad → CalledAt e (left - 1) p w v found c → InlineAt e left at w v
+    inline-uncalled h b g = record { kept = g .kept; runs = λ u y f k. str-body (e .store) at tag p hb left k (λ o. omega arith) (λ o. omega arith) (λ o. omega arith) b }
+
+    module _ {a b : ℕ} {r : Num} (is : r ≡ numOf (spanAt (e .store) p)) (ha : r ≡ num.At a b) where
+      -- a call, and then its result, written
+      pub inline-called : {found : Bool} {c : code-value.Value} {w u1 v : World} → tag ≡ 3 → CalledAt e (left - 1) p w u1 found c → ResultAt e a b found c u1 v → InlineAt e left at w v
+      inline-called h g k = inline-function is ha (λ o. omega arith) (λ o. omega arith) (λ o. omega arith) (λ o. omega arith) (λ o. omega arith) (λ o. omega arith) g k

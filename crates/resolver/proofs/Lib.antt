@@ -11,9 +11,11 @@ pub mod References
 pub mod Values
 pub mod Calls
 pub mod Terms
+pub mod Refusals
 pub mod Whole
 pub mod Ends
 pub mod Patterns
 pub mod Finish
 pub mod Targets
 pub mod Answers
+pub mod Parts

@@ -25,7 +25,7 @@ use Rattle.entries.specs.declared.Found.{Found}
 use Rattle.entries.specs.declared.Found.the-variants as found
 use Rattle.resolution.specs.Effect.{Bytes, report, unfound, M, Done, emit, write, _>>=_, _>>_}
 use Rattle.resolution.specs.Resolve.{Trail, dotted, errorText, braced, writeRefError, lookUp, messageOnly, termOnly, asMessage, asTerm, track, onPart, missingPart, messageFound, termFound, writeMessage}
-use Rattle.state.specs.declared.Scope.{Scope}
+use Rattle.state.specs.Progress.{Progress}
 use Rattle.state.specs.declared.Reference.{Reference}
 use Rattle.state.specs.declared.Referring.{Referring}
 use Rattle.state.specs.declared.Reference.the-variants as ref
@@ -195,7 +195,7 @@ module _ (e : Env) (at : ℕ) where
       asks hn ha = reference-is (e .store) (at + 1) rd y er hn ha .2
 
       -- the error of a reference
-      module _ {x l w x′ l′ w′ : List ℕ} {st s′ : Scope} (t : List ℕ) where
+      module _ {x l w x′ l′ w′ : List ℕ} {st s′ : Progress} (t : List ℕ) where
         module _ (re : RefErrorAt (e .store) at (referredOf referred.Message) x l w st x′ l′ w′ s′) where
           message-error : (d : ℕ) {i : Bytes} {a : Option Bytes} {f : ℕ} → inline d (e .store) at ≡ got (Inline.message i a) f → Runs (writeRefError (reference Referred.message i a) (dotted i a)) (world (e .store) x l w t st) (world (e .store) x′ l′ w′ t s′)
           unfolding referredOf
@@ -217,7 +217,7 @@ module _ (e : Env) (at : ℕ) where
                 runs-as (look-found (findOf e u) i _ Holder.function eo) (message-error d k)));
           }
 
-          pub message-lost : {s0 : Scope} → h ≡ found.Nothing → ((i x l w t : List ℕ) → Acts (emit unfound) (world i x l w t s0) (world i x l w t st)) → MessageAt e at (world (e .store) x l w t s0) (world (e .store) x′ l′ w′ t s′)
+          pub message-lost : {s0 : Progress} → h ≡ found.Nothing → ((i x l w t : List ℕ) → Acts (emit unfound) (world i x l w t s0) (world i x l w t st)) → MessageAt e at (world (e .store) x l w t s0) (world (e .store) x′ l′ w′ t s′)
           unfolding writeMessage messageFound asMessage
           message-lost {s0} eh c =
               let c1 = c (e .store) x l w t in
@@ -248,7 +248,7 @@ module _ (e : Env) (at : ℕ) where
                 runs-as (look-found (findOf e u) i _ Holder.function eo) (term-error d k)));
           }
 
-          pub found-term-lost : {s0 : Scope} → h ≡ found.Nothing → ((i x l w t : List ℕ) → Acts (emit unfound) (world i x l w t s0) (world i x l w t st)) → FoundTermAt e at (world (e .store) x l w t s0) (world (e .store) x′ l′ w′ t s′)
+          pub found-term-lost : {s0 : Progress} → h ≡ found.Nothing → ((i x l w t : List ℕ) → Acts (emit unfound) (world i x l w t s0) (world i x l w t st)) → FoundTermAt e at (world (e .store) x l w t s0) (world (e .store) x′ l′ w′ t s′)
           unfolding termFound asTerm
           found-term-lost {s0} eh c =
               let c1 = c (e .store) x l w t in
@@ -280,7 +280,7 @@ module _ (e : Env) (at : ℕ) where
               runs-as (look-found (findOf e u) i _ (Holder.entry z) eo ∙ of-term (crossOf e u n) t i a z ek ep) (g .runs u d (Inline.term i a r) f k p j′ hp n t here))));
         }
 
-        module _ {x l w x′ l′ w′ : List ℕ} {st s′ : Scope} (t : List ℕ) where
+        module _ {x l w x′ l′ w′ : List ℕ} {st s′ : Progress} (t : List ℕ) where
           pub found-term-no-part : h ≡ found.Term entry → rn ≡ next.Bad → RefErrorAt (e .store) at (referredOf referred.Term) x l w st x′ l′ w′ s′ → FoundTermAt e at (world (e .store) x l w t st) (world (e .store) x′ l′ w′ t s′)
           unfolding onPart
           found-term-no-part eh en re = record {
@@ -299,7 +299,7 @@ module _ (e : Env) (at : ℕ) where
                 runs-as (look-found (findOf e u) i _ (Holder.entry z) eo ∙ of-message (crossOf e u n) tr i a z ek ep ∙ ap (λ (o : Error). writeRefError o (dotted i a)) ei) (message-error t re d k))));
           }
 
-        pub message-no-value : {x l w l1 x′ w′ : List ℕ} {st s1 s′ : Scope} (t : List ℕ) → h ≡ found.Message entry → rn ≡ next.Bad → y .has ≡ false
+        pub message-no-value : {x l w l1 x′ w′ : List ℕ} {st s1 s′ : Progress} (t : List ℕ) → h ≡ found.Message entry → rn ≡ next.Bad → y .has ≡ false
             → ((i x w t : List ℕ) → Kept (world i x l w t st) (world i x l1 w t s1)) × (length (part (e .store) (y .from) (y .to - y .from)) ≤ 255
             → (i x w t : List ℕ) → Acts (emit (report (noValue (part (e .store) (y .from) (y .to - y .from))))) (world i x l w t st) (world i x l1 w t s1))
             → ErrorAt (e .store) at x w s1 x′ w′ s′ → MessageAt e at (world (e .store) x l w t st) (world (e .store) x′ l1 w′ t s′)

@@ -17,8 +17,8 @@ use Rattle.records.proofs.Views.{both, never, select-elim}
 use Rattle.entries.specs.Lookup.{Find}
 use Rattle.resolution.specs.Effect.{report, M, Done, ret, _>>=_, emit, release}
 use Rattle.resolution.specs.Resolve.{Setting, Trail, chosen, writePattern, writeExpression, writeNth, writeVariant, resolveInline}
-use Rattle.state.specs.declared.Scope.{Scope}
-use Rattle.state.specs.declared.Value as code-value
+use Rattle.state.specs.Progress.{Progress}
+use Rattle.values.specs.declared.Value as code-value
 use Rattle.resolver.specs.Relations.Meets.{World, world, Runs, Kept, Acts, Holds, Env, Setup, settingOf, findOf, crossOf}
 use Rattle.variants.specs.Relations.Pick.{patternOf, nthOf, Pick, picked, no-pick, PickAt}
 use Rattle.resolver.specs.Relations.Members.{Here, PatternAt, SelectAt, ValueAt}
@@ -55,14 +55,14 @@ module _ (e : Env) (left at : ℕ) where
           (runs-stopped _ _ z (release-over w u1 _ z (val .runs u i p hi n t here))));
     }
 
-    module _ {s2 : Scope} (es : s2 ≡ backS (w .st .back) (u1 .st)) {rn : Next} (past : (y : Inline) (f : ℕ) → inline left (e .store) at ≡ got y f → rn ≡ next.At f) where
+    module _ {s2 : Progress} (es : s2 ≡ backS (w .st .back) (u1 .st)) {rn : Next} (past : (y : Inline) (f : ℕ) → inline left (e .store) at ≡ got y f → rn ≡ next.At f) where
       abbrev after : World
       after = world (u1 .store) (u1 .text) (u1 .list) (u1 .work) (u1 .trail) s2
 
       -- no selector stands there: never
       pub select-never : rn ≡ next.Bad → SelectAt e left at w after
       select-never en = record {
-        kept = subst (λ (o : Scope). Kept w (world (u1 .store) (u1 .text) (u1 .list) (u1 .work) (u1 .trail) o)) (sym es) (kept-freed w u1 (val .kept));
+        kept = subst (λ (o : Progress). Kept w (world (u1 .store) (u1 .text) (u1 .list) (u1 .work) (u1 .trail) o)) (sym es) (kept-freed w u1 (val .kept));
         runs = λ u y f k. select-elim (expression left) (inline left) (e .store) at k (λ i p k′ q vs hi hk zk hv ey.
             let o = past i p hi in let z : _≡_ {A = ℕ} 0 1 = cc in absurd (omega arith));
       }
@@ -90,7 +90,7 @@ module _ (e : Env) (left at : ℕ) where
 
         pub select-chosen : {to : ℕ} {v : World} → rc ≡ next.At to → PatternAt e left to after v → SelectAt e left at w v
         select-chosen {to} {v} ec h =
-            let h2 : PatternAt e left to (freed w u1) v = subst (λ (o : Scope). PatternAt e left to (world (u1 .store) (u1 .text) (u1 .list) (u1 .work) (u1 .trail) o) v) es h in
+            let h2 : PatternAt e left to (freed w u1) v = subst (λ (o : Progress). PatternAt e left to (world (u1 .store) (u1 .text) (u1 .list) (u1 .work) (u1 .trail) o) v) es h in
             after-choice (h2 .kept) (λ u vs o pk n t here. go u vs o n t here h2 pk)
           where
             go : (u : Setup e) (vs : Variants) (o : Option ℕ) (n : ℕ) (t : Trail) → Here e (freed w u1) 0 n t → PatternAt e left to (freed w u1) v → Pick (e .store) left o vs rc
@@ -104,7 +104,7 @@ module _ (e : Env) (left at : ℕ) where
 
         pub select-default : {v : World} → rc ≡ next.Bad → Acts (emit (report missingDefault)) after v → SelectAt e left at w v
         select-default {v} ec h =
-            let h2 : Acts (emit (report missingDefault)) (freed w u1) v = subst (λ (o : Scope). Acts (emit (report missingDefault)) (world (u1 .store) (u1 .text) (u1 .list) (u1 .work) (u1 .trail) o) v) es h in
+            let h2 : Acts (emit (report missingDefault)) (freed w u1) v = subst (λ (o : Progress). Acts (emit (report missingDefault)) (world (u1 .store) (u1 .text) (u1 .list) (u1 .work) (u1 .trail) o) v) es h in
             after-choice (h2 .kept) (λ u vs o pk n t here. go u vs o n t h2 pk)
           where
             go : (u : Setup e) (vs : Variants) (o : Option ℕ) (n : ℕ) (t : Trail) → Acts (emit (report missingDefault)) (freed w u1) v → Pick (e .store) left o vs rc

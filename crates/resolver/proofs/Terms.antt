@@ -16,8 +16,8 @@ use Rattle.entries.specs.Lookup.{Find}
 use Rattle.resolution.specs.Effect.{Bytes, Trace, Locals, State, Out, M, Done, ret, _>>=_, _>>_, setLocals, release}
 use Rattle.resolution.specs.Exec.{Machine, Limits}
 use Rattle.resolution.specs.Resolve.{Setting, Trail, lookUp, asTerm, termFound, writeTerm, Given, termArguments, getArguments, resolve}
-use Rattle.state.specs.declared.Scope.{Scope}
-use Rattle.state.specs.declared.Value as code-value
+use Rattle.state.specs.Progress.{Progress}
+use Rattle.values.specs.declared.Value as code-value
 use Rattle.state.specs.declared.Reference.{Reference}
 use Rattle.state.specs.declared.Referring.{Referring}
 use Rattle.state.specs.declared.Reference.the-variants as ref
@@ -59,7 +59,7 @@ module _ (cross : Pattern → Trail → M Done) (t : Trail) (find : Find) (i : B
       ∙ ap (λ (q : ℕ). record { trace = r .trace; text = r .text; kept = q; state = within none (r .state); value = tt }) e
 
 -- the term's arguments are set, and cleared
-module _ (i x l w t : List ℕ) (st : Scope) (at count base : ℕ) where
+module _ (i x l w t : List ℕ) (st : Progress) (at count base : ℕ) where
   abbrev inside : World
   inside = world i x l w t (localsS at count base st)
 
@@ -141,7 +141,7 @@ release-none m L w v s k z lw (ended k′ e lv n mv) =
 release-none m L w v s k z lw (stopped n e nz r) = stopped-release w v m L s k (λ q. nz (sym r ∙ q)) (stopped n e nz r)
 
 -- no arguments
-bare-locals : (i x l w t : List ℕ) (st : Scope) → st .back ≤ length w → LocalsAt (world i x l w t (localsS 0 0 (st .back) st)) (some [])
+bare-locals : (i x l w t : List ℕ) (st : Progress) → st .back ≤ length w → LocalsAt (world i x l w t (localsS 0 0 (st .back) st)) (some [])
 unfolding many namedTexts
 bare-locals i x l w t st h = some-locals [] 0 (st .back) refl refl refl (omega arith) (named-none {base = st .back} (omega arith) h)
 
@@ -174,14 +174,14 @@ module _ (e : Env) (left at : ℕ) where
             c (b .0) (b .1) (subst (λ (j : ℕ). argumentsAt (inline left) (e .store) j ≡ got (b .0, b .1) f) (sym ep) hx) eq))
 
         -- without arguments
-        pub term-bare : (x l w t : List ℕ) (st : Scope) {s1 s2 : Scope} {u4 : World} → st .refused ≡ 0 → flag ≡ 0 → s1 ≡ localsS 0 0 (st .back) st → FoundTermAt e at (world (e .store) x l w t s1) u4 → s2 ≡ clearS (u4 .st)
+        pub term-bare : (x l w t : List ℕ) (st : Progress) {s1 s2 : Progress} {u4 : World} → st .refused ≡ 0 → flag ≡ 0 → s1 ≡ localsS 0 0 (st .back) st → FoundTermAt e at (world (e .store) x l w t s1) u4 → s2 ≡ clearS (u4 .st)
             → TermAt e left at (world (e .store) x l w t st) (world (u4 .store) (u4 .text) (u4 .list) (u4 .work) (u4 .trail) s2)
         unfolding termArguments cleared
         term-bare x l w t st {s1} {s2} {u4} z zf e1 h e2 =
-            let h1 : FoundTermAt e at (world (e .store) x l w t (localsS 0 0 (st .back) st)) u4 = subst (λ (s : Scope). FoundTermAt e at (world (e .store) x l w t s) u4) e1 h in
+            let h1 : FoundTermAt e at (world (e .store) x l w t (localsS 0 0 (st .back) st)) u4 = subst (λ (s : Progress). FoundTermAt e at (world (e .store) x l w t s) u4) e1 h in
             let w0 : World = world (e .store) x l w t st in
             record {
-              kept = record { begun = (let o = h1 .kept .begun in let o2 = ap (λ (s : Scope). s .begun) e2 in omega arith); over = λ f. absurd (f z) };
+              kept = record { begun = (let o = h1 .kept .begun in let o2 = ap (λ (s : Progress). s .begun) e2 in omega arith); over = λ f. absurd (f z) };
               runs = λ u i a q f k n tr here L s m lv. arguments-at k (λ ht. is-without zf ht (λ eq.
                   let T = writeTerm (crossOf e u n) tr (findOf e u) i a [] in
                   let en = h1 .runs u (suc left) i a q f k n tr (record { on = here .on; fuel = here .fuel; room = here .room; same = here .same }) L (within (some []) s) m
@@ -195,7 +195,7 @@ module _ (e : Env) (left at : ℕ) where
                   ap (λ (o : Arguments). termArguments (settingOf e u) (findOf e u) (crossOf e u n) tr o >>= λ g. writeTerm (crossOf e u n) tr (findOf e u) i a (g .named)) eq
                   ∙ ret-bind (given [] []) (λ g. writeTerm (crossOf e u n) tr (findOf e u) i a (g .named)) in
                   subst (λ (o : M Done). Ended L w0 (world (u4 .store) (u4 .text) (u4 .list) (u4 .work) (u4 .trail) s2) (release o s) m) (sym em)
-                  (subst (λ (o : Scope). Ended L w0 (world (u4 .store) (u4 .text) (u4 .list) (u4 .work) (u4 .trail) o) (release T s) m) (sym e2)
+                  (subst (λ (o : Progress). Ended L w0 (world (u4 .store) (u4 .text) (u4 .list) (u4 .work) (u4 .trail) o) (release T s) m) (sym e2)
                   (release-none T L w0 (world (u4 .store) (u4 .text) (u4 .list) (u4 .work) (u4 .trail) (clearS (u4 .st))) s m kn lv et))));
             }
 
@@ -222,17 +222,17 @@ module _ (e : Env) (left at : ℕ) where
           pub term-unnamed : {u1 : World} {first : code-value.Value} {end : ℕ} → PositionalAt e left p w u1 first end → numberAt 2 (e .store) end ≡ bad → TermAt e left at w u1
           term-unnamed {u1} {first} {end} pos b = term-by u1 (pos .kept) (λ u i a q f xs ns k ha n t here. arguments-unnamed e left p w u1 first end pos b ha)
 
-          module _ {x l w1 t : List ℕ} {s1 : Scope} {first : code-value.Value} {end : ℕ} (pos : PositionalAt e left p w (world (e .store) x l w1 t s1) first end)
-              {m named : ℕ} (hm : numberAt 2 (e .store) end ≡ got m named) {w2 : List ℕ} {s2 : Scope} (nm : NamedAt (e .store) named m w1 s1 w2 s2)
-              {s3 : Scope} (e3 : s3 ≡ localsS named m (s1 .back) s2) {u4 : World} (fd : FoundTermAt e at (world (e .store) x l w2 t s3) u4) {s5 : Scope} (e5 : s5 ≡ clearS (u4 .st)) where
+          module _ {x l w1 t : List ℕ} {s1 : Progress} {first : code-value.Value} {end : ℕ} (pos : PositionalAt e left p w (world (e .store) x l w1 t s1) first end)
+              {m named : ℕ} (hm : numberAt 2 (e .store) end ≡ got m named) {w2 : List ℕ} {s2 : Progress} (nm : NamedAt (e .store) named m w1 s1 w2 s2)
+              {s3 : Progress} (e3 : s3 ≡ localsS named m (s1 .back) s2) {u4 : World} (fd : FoundTermAt e at (world (e .store) x l w2 t s3) u4) {s5 : Progress} (e5 : s5 ≡ clearS (u4 .st)) where
             abbrev known : World
             known = world (e .store) x l w2 t s2
 
-            abbrev last : Scope → World
+            abbrev last : Progress → World
             last s = world (u4 .store) (u4 .text) (u4 .list) (u4 .work) (u4 .trail) s
 
             found-it : FoundTermAt e at (world (e .store) x l w2 t (localsS named m (s1 .back) s2)) u4
-            found-it = subst (λ (s : Scope). FoundTermAt e at (world (e .store) x l w2 t s) u4) e3 fd
+            found-it = subst (λ (s : Progress). FoundTermAt e at (world (e .store) x l w2 t s) u4) e3 fd
 
             kept-last : Kept known (last (clearS (u4 .st)))
             kept-last = record { begun = found-it .kept .begun; over = found-it .kept .over }
@@ -252,13 +252,13 @@ module _ (e : Env) (left at : ℕ) where
                 (live-inside (e .store) x l w2 t s2 named m (s1 .back) (some-locals ns f (s2 .back) refl hr refl (omega arith) ni) lv))))
 
             pub term-refused : (s5 .refused ≡ 0 → ⊥) → TermAt e left at w (last s5)
-            term-refused z = subst (λ (s : Scope). TermAt e left at w (last s)) (sym e5)
+            term-refused z = subst (λ (s : Progress). TermAt e left at w (last s)) (sym e5)
                 (term-by (last (clearS (u4 .st))) kept-whole (λ u i a q f xs ns k ha n tr here.
-                release-over w (last (clearS (u4 .st))) _ (λ o. z (ap (λ (s : Scope). s .refused) e5 ∙ o)) (term-runs u i a q f xs ns k ha n tr here)))
+                release-over w (last (clearS (u4 .st))) _ (λ o. z (ap (λ (s : Progress). s .refused) e5 ∙ o)) (term-runs u i a q f xs ns k ha n tr here)))
 
-            pub term-freed : {s6 : Scope} → s6 ≡ backS (w .st .back) s5 → TermAt e left at w (last s6)
+            pub term-freed : {s6 : Progress} → s6 ≡ backS (w .st .back) s5 → TermAt e left at w (last s6)
             term-freed {s6} e6 =
-                let e7 : s6 ≡ backS (w .st .back) (clearS (u4 .st)) = e6 ∙ ap (λ (s : Scope). backS (w .st .back) s) e5 in
+                let e7 : s6 ≡ backS (w .st .back) (clearS (u4 .st)) = e6 ∙ ap (λ (s : Progress). backS (w .st .back) s) e5 in
                 term-by (last s6)
-                (record { begun = (let o = kept-whole .begun in let o2 = ap (λ (s : Scope). s .begun) e7 in omega arith); over = λ f. ap (λ (s : Scope). s .refused) e7 ∙ kept-whole .over f })
+                (record { begun = (let o = kept-whole .begun in let o2 = ap (λ (s : Progress). s .begun) e7 in omega arith); over = λ f. ap (λ (s : Progress). s .refused) e7 ∙ kept-whole .over f })
                 (λ u i a q f xs ns k ha n tr here. release-back w (last (clearS (u4 .st))) _ e7 (term-runs u i a q f xs ns k ha n tr here))

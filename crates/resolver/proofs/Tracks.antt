@@ -21,7 +21,7 @@ use Rattle.trail.proofs.Trail.{bytes-at}
 use Rattle.resolution.specs.Effect.{Bytes, report, State, Out, M, Done, emit, write, _>>_}
 use Rattle.resolution.specs.Exec.{Machine, Limits}
 use Rattle.resolution.specs.Resolve.{Setting, Trail, onTrail, bytesOf, braced, errorText, writeRefError, trackIf, track, writePattern, resolve}
-use Rattle.state.specs.declared.Scope.{Scope}
+use Rattle.state.specs.Progress.{Progress}
 use Rattle.resolver.specs.Relations.Meets.{World, world, Live, LocalsStay, locals-same, locals-cleared, Moved, Ended, ended, stopped, Runs, Kept, Acts, trailOf, patternBytes, Env, Setup, settingOf, findOf, crossOf}
 use Rattle.resolver.specs.Relations.Leaves.{ErrorAt}
 use Rattle.resolver.specs.Relations.Members.{Here, PatternAt, TrackAt}
@@ -47,7 +47,7 @@ trail-tail : (s a b : List ℕ) (d : ℕ) → trailOf s a (d + 1) ≡ trailOf s 
 trail-tail s a b d h = let q : patternBytes s (getD a d 0) ∷ trailOf s a d ≡ patternBytes s (getD b d 0) ∷ trailOf s b d = sym (trail-step s a d) ∙ h ∙ trail-step s b d in cc
 
 -- a pattern that is entered and left
-module _ (i x l w t : List ℕ) (st : Scope) (at : ℕ) where
+module _ (i x l w t : List ℕ) (st : Progress) (at : ℕ) where
   abbrev inner : World
   inner = world i x l w (set t (st .depth) at) (depthS (st .depth + 1) st)
 
@@ -146,14 +146,14 @@ module _ (e : Env) (at q : ℕ) where
   pub track-far : (w : World) → 102 ≤ w .st .depth → TrackAt e at q w w
   track-far w h = record { kept = kept-same w; runs = λ u d y f k p g hp n t here L s m lv. absurd (let a = here .room in let b = lv .most in let c = lv .begun in omega arith) }
 
-  module _ (x l w t : List ℕ) (st : Scope) (on : Bool) (ht : on ≡ onTrail (patternBytes (e .store) q) (trailOf (e .store) t (st .depth))) where
+  module _ (x l w t : List ℕ) (st : Progress) (on : Bool) (ht : on ≡ onTrail (patternBytes (e .store) q) (trailOf (e .store) t (st .depth))) where
     abbrev from : World
     from = world (e .store) x l w t st
 
     on-it : {n : ℕ} {tr : Trail} → Here e from 0 n tr → (p : Pattern) (g : ℕ) → entryPatternAt (e .store) q ≡ got p g → onTrail (bytesOf p) tr ≡ on
     on-it here p g hp = rw (bytes-of (e .store) q hp, here .on) (sym ht)
 
-    pub track-cyclic : {l1 x2 w2 : List ℕ} {s1 s2 : Scope} → on ≡ true → ((i x w t : List ℕ) → Acts (emit (report (plainOf plain.Cyclic))) (world i x l w t st) (world i x l1 w t s1))
+    pub track-cyclic : {l1 x2 w2 : List ℕ} {s1 s2 : Progress} → on ≡ true → ((i x w t : List ℕ) → Acts (emit (report (plainOf plain.Cyclic))) (world i x l w t st) (world i x l1 w t s1))
         → ErrorAt (e .store) at x w s1 x2 w2 s2 → TrackAt e at q from (world (e .store) x2 l1 w2 t s2)
     unfolding track trackIf writeRefError plainOf
     track-cyclic {l1} {x2} {w2} {s1} {s2} met a b =
@@ -163,14 +163,14 @@ module _ (e : Env) (at q : ℕ) where
           runs = λ u d y f k p g hp n tr here. rw (on-it here p g hp, met) (runs-then (a1 .runs) (b .kept l1 t) (λ _. b .runs l1 t d y f k));
         }
 
-    pub track-cross : {s1 s2 : Scope} {v : World} → st .refused ≡ 0 → on ≡ false → st .depth < 102 → s1 ≡ depthS (st .depth + 1) st
+    pub track-cross : {s1 s2 : Progress} {v : World} → st .refused ≡ 0 → on ≡ false → st .depth < 102 → s1 ≡ depthS (st .depth + 1) st
         → PatternAt e 32 q (world (e .store) x l w (set t (st .depth) q) s1) v → s2 ≡ depthS (st .depth) (v .st)
         → TrackAt e at q from (world (v .store) (v .text) (v .list) (v .work) (v .trail) s2)
     unfolding track trackIf entryPatternAt maxDepth
     track-cross {s1} {s2} {v} z off far e1 h e2 =
-        let h1 : PatternAt e 32 q (inner (e .store) x l w t st q) v = subst (λ (s : Scope). PatternAt e 32 q (world (e .store) x l w (set t (st .depth) q) s) v) e1 h in
+        let h1 : PatternAt e 32 q (inner (e .store) x l w t st q) v = subst (λ (s : Progress). PatternAt e 32 q (world (e .store) x l w (set t (st .depth) q) s) v) e1 h in
         record {
-          kept = record { begun = (let a = h1 .kept .begun in let b = ap (λ (s : Scope). s .begun) e2 in omega arith); over = λ f. absurd (f z) };
+          kept = record { begun = (let a = h1 .kept .begun in let b = ap (λ (s : Progress). s .begun) e2 in omega arith); over = λ f. absurd (f z) };
           runs = λ u d y f k p g hp n tr here L s m lv.
               let pos : 0 < n = (let a = here .fuel in let b = lv .most in let c = lv .begun in omega arith) in
               let lt : st .depth < length t = (let a = lv .trail-len in omega arith) in
@@ -186,6 +186,6 @@ module _ (e : Env) (at q : ℕ) where
               let en = h1 .runs u p g hp (n - 1) (bytesOf p ∷ tr) here1 L s m (live-inner (e .store) x l w t st q lv) in
               let em : track (crossOf e u n) tr (errorText y) p ≡ writePattern (settingOf e u) (findOf e u) (crossOf e u (n - 1)) (bytesOf p ∷ tr) p =
               rw (on-it here p g hp, off) (resolve-more (settingOf e u) (findOf e u) n p (bytesOf p ∷ tr) pos) in
-              subst (λ (o : Scope). Ended L from (world (v .store) (v .text) (v .list) (v .work) (v .trail) o) (track (crossOf e u n) tr (errorText y) p s) m) (sym e2)
+              subst (λ (o : Progress). Ended L from (world (v .store) (v .text) (v .list) (v .work) (v .trail) o) (track (crossOf e u n) tr (errorText y) p s) m) (sym e2)
               (subst (λ (a : M Done). Ended L from (world (v .store) (v .text) (v .list) (v .work) (v .trail) (depthS (st .depth) (v .st))) (a s) m) (sym em) (leave-inner (e .store) x l w t st q v en));
         }

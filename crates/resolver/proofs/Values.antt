@@ -7,6 +7,7 @@ use Prim.Native.Nat.{ℕ, zero, suc, _+_, _-_, _≤_, _<_, min}
 use native.Mathlib.Omega.{arith}
 use lib.ListN.{length, take, drop, length-take, length-drop}
 use lib.Seq.{length-take-le}
+use lib.Dec.{eqb}
 use Rattle.numbers.specs.Number.{Number, isNumber, literal, inRange}
 use Rattle.numbers.specs.Value.{Value, textual, numeric, nothing, wrong}
 use Rattle.decimals.specs.Relations.Shown.{shown}
@@ -21,19 +22,20 @@ use Rattle.buffers.proofs.Place.{moved-keeps}
 use Rattle.resolution.specs.Effect.{Bytes, State, Out, M, Done, ret, _>>=_, _>>_, capture, release}
 use Rattle.resolution.specs.Exec.{Machine, Limits}
 use Rattle.resolution.specs.Resolve.{Trail, held, stringValue, getVariable, orWrong, callFunction, getArguments, writeInline, resolveInline, writeExpression, writeMessage}
-use Rattle.state.specs.declared.Scope.{Scope}
-use Rattle.state.specs.declared.Value as code-value
-use Rattle.state.specs.declared.Value.the-variants as val
+use Rattle.state.specs.Progress.{Progress}
+use Rattle.values.specs.declared.Value as code-value
+use Rattle.values.specs.declared.Value.the-variants as val
 use Rattle.resolver.specs.Relations.Meets.{World, world, Live, Ended, Runs, Kept, Holds, in-store, in-args, in-work, is-number as holds-number, is-nothing, is-wrong, Env, Setup, settingOf, findOf, crossOf}
 use Rattle.resolver.specs.Relations.Leaves.{ResultIs, has-result, no-function, StringAt, VariableValueAt}
 use Rattle.resolver.specs.Relations.Members.{Here, InlineAt, ValueAt, TextValueAt, CalledAt}
+use Rattle.resolver.specs.Relations.Parts.{TextKept}
 use Rattle.state.specs.Setters.{asideS, keptS}
 use Rattle.resolver.proofs.Single.Laws.{kept-same, runs-ret, ended-then}
 use Rattle.resolver.proofs.Single.Steps.{runs-as, runs-over}
 use Rattle.resolver.proofs.Single.Capture.{opened, live-opened, ended-capture, holds-capture, capture-stopped, capture-lies, ended-held}
 use Rattle.variants.proofs.Literals.{id-short}
 use Rattle.literals.proofs.Ranged.{literal-ranged}
-use Rattle.resolver.proofs.Bodies.{string-body, number-body, message-body, term-body, variable-body, nested-body, str-body, function-body}
+use Rattle.resolver.proofs.Bodies.{string-body, number-body, message-body, term-body, variable-body, nested-body, str-body, function-body, no-body}
 use Rattle.resolver.proofs.Single.Values.{string-value}
 use Rattle.heads.specs.Tags.{textTag}
 use Rattle.heads.proofs.Heads.{text-tag}
@@ -105,7 +107,7 @@ module _ (e : Env) (left at : ℕ) where
       same h c = both hs h (λ et _. c (sym et))
 
       -- a string literal
-      pub value-string : {w w′ : List ℕ} {st r : Scope} {c : code-value.Value} (x l t : List ℕ) → tag ≡ 1 → StringAt (e .store) a f w st w′ r c
+      pub value-string : {w w′ : List ℕ} {st r : Progress} {c : code-value.Value} (x l t : List ℕ) → tag ≡ 1 → StringAt (e .store) a f w st w′ r c
           → ValueAt e left at (world (e .store) x l w t st) (world (e .store) x l w′ t r) c
       unfolding resolveInline
       value-string {w} {w′} {st} {r} {c} x l t h g = record {
@@ -173,12 +175,12 @@ module _ (e : Env) (left at : ℕ) where
         or-value (some o) s (no-function ef ec eo) = let z : _≡_ {A = ℕ} 0 1 = cc in absurd (omega arith)
 
 -- a text of its own
-module _ (e : Env) (left at : ℕ) (x l w t : List ℕ) (st : Scope) {s1 : Scope} (es : s1 ≡ asideS true st) (u : World) (g : InlineAt e left at (world (e .store) x l w t s1) u) where
+module _ (e : Env) (left at : ℕ) (x l w t : List ℕ) (st : Progress) {s1 : Progress} (es : s1 ≡ asideS true st) (u : World) (g : InlineAt e left at (world (e .store) x l w t s1) u) where
   abbrev before : World
   before = world (e .store) x l w t st
 
   aside : InlineAt e left at (world (e .store) x l w t (asideS true st)) u
-  aside = subst (λ (q : Scope). InlineAt e left at (world (e .store) x l w t q) u) es g
+  aside = subst (λ (q : Progress). InlineAt e left at (world (e .store) x l w t q) u) es g
 
   kept-all : Kept before u
   kept-all = record { begun = aside .kept .begun; over = aside .kept .over }
@@ -207,20 +209,53 @@ module _ (e : Env) (left at : ℕ) (x l w t : List ℕ) (st : Scope) {s1 : Scope
         let q = capture-lies (e .store) x l w t st u (writeInline (settingOf e p) (findOf e p) (crossOf e p n) tr y) L s k r lv (ran-it p y j h n tr here L s k lv) in absurd (f (q .0) (q .1) (q .2));
   }
 
-  pub text-made : (w3 : List ℕ) (n to : ℕ) {s3 : Scope} → u .st .refused ≡ 0 → st .front ≤ u .st .front → u .st .front ≤ u .st .back → u .st .back ≤ length (u .work)
+  pub text-made : (w3 : List ℕ) (n to : ℕ) {s3 : Progress} → u .st .refused ≡ 0 → st .front ≤ u .st .front → u .st .front ≤ u .st .back → u .st .back ≤ length (u .work)
       → n ≡ u .st .front - st .front → to ≡ u .st .back - n → w3 ≡ movedBack (u .work) (st .front) n to → s3 ≡ keptS (st .front) to (st .aside) (u .st)
       → TextValueAt e left at before (world (u .store) (u .text) (u .list) w3 (u .trail) s3) (val.Work to (u .st .back))
   unfolding held capture ret _>>=_
   text-made w3 n to {s3} r le₁ le₂ le₃ en et ew e3 =
       let kp : Keeps (u .work) (st .front) to n w3 = subst (λ (q : List ℕ). Keeps (u .work) (st .front) to n q) (sym ew) (moved-keeps (u .work) (st .front) n to (omega arith) (omega arith)) in
       record {
-        kept = record { begun = (let a = aside .kept .begun in let b = ap (λ (q : Scope). q .begun) e3 in omega arith); over = λ f. ap (λ (q : Scope). q .refused) e3 ∙ aside .kept .over f };
+        kept = record { begun = (let a = aside .kept .begun in let b = ap (λ (q : Progress). q .begun) e3 in omega arith); over = λ f. ap (λ (q : Progress). q .refused) e3 ∙ aside .kept .over f };
         runs = λ p y j h n′ tr here L s k lv.
             let m = writeInline (settingOf e p) (findOf e p) (crossOf e p n′) tr y in
-            subst (λ (q : Scope). Ended L before (world (u .store) (u .text) (u .list) w3 (u .trail) q) (held (capture m) s) k) (sym e3)
+            subst (λ (q : Progress). Ended L before (world (u .store) (u .text) (u .list) w3 (u .trail) q) (held (capture m) s) k) (sym e3)
             (ended-held (capture m) L s k (ended-capture (e .store) x l w t st u w3 n to en et kp m L s k r lv (ran-it p y j h n′ tr here L s k lv)));
         holds = λ p y j h n′ tr here L s k lv z.
             let m = writeInline (settingOf e p) (findOf e p) (crossOf e p n′) tr y in
-            subst (λ (q : Scope). Holds (e .store) (e .args) w3 (q .back) (val.Work to (u .st .back)) (textual (m s .text))) (sym e3)
+            subst (λ (q : Progress). Holds (e .store) (e .args) w3 (q .back) (val.Work to (u .st .back)) (textual (m s .text))) (sym e3)
             (holds-capture (e .store) x l w t st u w3 n to en et kp (e .store) (e .args) m L s k r lv (ran-it p y j h n′ tr here L s k lv));
       }
+
+-- what is left to do once a text of its own was written
+module _ (start was : ℕ) (w : List ℕ) (st : Progress) where
+  -- it was refused
+  pub kept-stopped : (c : code-value.Value) → (st .refused ≡ 0 → ⊥) → TextKept start was w st w st c
+  kept-stopped c f = record { kept = λ e left at x l w₀ t s₀ es i x₁ l₁ t₁ g ef ea. text-stopped e left at x l w₀ t s₀ es _ g c f }
+
+  -- it does not lie as it should: never
+  pub kept-never : (c : code-value.Value) → st .refused ≡ 0 → (start ≤ st .front → st .front ≤ st .back → st .back ≤ length w → ⊥) → TextKept start was w st w st c
+  kept-never c r f = record { kept = λ e left at x l w₀ t s₀ es i x₁ l₁ t₁ g ef ea. text-never e left at x l w₀ t s₀ es _ g c r (λ p. f (subst (λ (j : ℕ). j ≤ st .front) (sym ef) p)) }
+
+  -- it was moved to the back, and is the value
+  pub kept-made : {w′ : List ℕ} (n to : ℕ) {r : Progress} {c : code-value.Value} → st .refused ≡ 0 → start ≤ st .front → st .front ≤ st .back → st .back ≤ length w
+      → n ≡ st .front - start → to ≡ st .back - n → w′ ≡ movedBack w start n to → r ≡ keptS start to (eqb was 1) st → c ≡ val.Work to (st .back) → TextKept start was w st w′ r c
+  kept-made {w′} n to {r} {c} z le₁ le₂ le₃ en et ew er ec = record {
+    kept = λ e left at x l w₀ t s₀ es i x₁ l₁ t₁ g ef ea.
+        subst (λ (q : code-value.Value). TextValueAt e left at (world (e .store) x l w₀ t s₀) (world i x₁ l₁ w′ t₁ r) q) (sym ec)
+        (text-made e left at x l w₀ t s₀ es _ g w′ n to z (omega arith) le₂ le₃ (omega arith) et
+        (ew ∙ ap (λ (j : ℕ). movedBack w j n to) ef) (er ∙ ap (λ (j : ℕ). keptS j to (eqb was 1) st) ef ∙ ap (λ (b : Bool). keptS (s₀ .front) to b st) ea));
+  }
+
+-- the same value, under another name
+pub value-as : {e : Env} {left at : ℕ} {w v : World} {c d : code-value.Value} → c ≡ d → ValueAt e left at w v d → ValueAt e left at w v c
+value-as {e} {left} {at} {w} {v} h g = subst (λ (q : code-value.Value). ValueAt e left at w v q) (sym h) g
+
+module _ (e : Env) (left at tag p : ℕ) (hb : byteAt (e .store) at ≡ got tag p) where
+  -- no inline expression has another tag: never
+  pub value-other : (w : World) (c : code-value.Value) → (tag ≡ 4 → ⊥) → (tag ≡ 5 → ⊥) → (tag ≡ 7 → ⊥) → (tag ≡ 1 → ⊥) → (tag ≡ 2 → ⊥) → (tag ≡ 3 → ⊥) → (tag ≡ 6 → ⊥) → ValueAt e left at w w c
+  value-other w c n4 n5 n7 n1 n2 n3 n6 = record {
+    kept = kept-same w;
+    runs = λ u y f k n t here. no-body (e .store) at tag p hb left k n4 n5 n7 n1 n2 n3 n6;
+    holds = λ u y f k n t here L s m lv z. no-body (e .store) at tag p hb left k n4 n5 n7 n1 n2 n3 n6;
+  }

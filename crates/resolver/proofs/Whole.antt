@@ -21,19 +21,24 @@ use Rattle.resolution.specs.Resolve.{Trail, bytesOf, resolve}
 use Rattle.resolution.specs.Exec.{Machine, Limits, Ran, ran, refused, exec, start}
 use Rattle.resolution.specs.Format.{Buffers, limitsOf, maxPatterns, fresh, runPattern}
 use Rattle.trail.specs.Relations.Trail.{prefixed, patternBytes, trailOf}
-use Rattle.state.specs.declared.Scope.{Scope}
+use Rattle.state.specs.Progress.{Progress}
 use Rattle.resolver.specs.Relations.Meets.{World, world, Live, LocalsAt, no-locals, Moved, Ended, ended, stopped, Env, env, Setup, settingOf, findOf, crossOf}
 use Rattle.resolver.specs.Relations.Members.{Here, PatternAt}
 use Rattle.state.specs.Setters.{depthS, maxUnfound, newS}
 use Rattle.resolver.proofs.Single.Puts.{errors-length}
+use Rattle.resolver.proofs.Refusals.{refused-small}
 use Rattle.resolver.specs.Relations.Runs.{RanAs, ran-as, refused-as}
 
 -- the state in which a run begins
-abbrev pub scope0 : List ℕ → Scope
+abbrev pub scope0 : List ℕ → Progress
 scope0 w = depthS 1 (newS (length w))
 
 abbrev pub buffers : List ℕ → List ℕ → List ℕ → Buffers
 buffers x l w = record { text = x; list = l; work = w }
+
+-- a pattern that is written from one state is written from each that equals it
+pub from-state : {e : Env} {n at : ℕ} {s x l w t : List ℕ} {p q : Progress} {v : World} → p ≡ q → PatternAt e n at (world s x l w t p) v → PatternAt e n at (world s x l w t q) v
+from-state {e} {n} {at} {s} {x} {l} {w} {t} {p} {q} {v} eq h = subst (λ (y : Progress). PatternAt e n at (world s x l w t y) v) eq h
 
 pub front-is : (x y b : List ℕ) (n : ℕ) → n ≡ length b → take n y ≡ b → drop n y ≡ drop n x → y ≡ atFront b x
 unfolding atFront
@@ -99,7 +104,7 @@ module _ (e : Env) (q : ℕ) (x l w t : List ℕ) (tl : length t ≡ 102) (t0 : 
       ran-as k eq (lv .go) (sym tl) (front-is x (v .text) (k .written) (v .st .«text_at») (sym tl) (sym (lv .written)) (mv .outs .text-rest))
       (omega arith) (lv .list-u32) (lv .header-in) (omega arith) (sym (lv .listed)) (mv .outs .list-rest)
       (lv .errors) (sym (lv .machine-begun)) (lv .unfounds) (sym (lv .high))
-  ended-as (stopped n eq z r) = refused-as n eq z r
+  ended-as {r = o} (stopped n eq z r) = refused-as n eq z (refused-small (limitsOf (buffers x l w)) (o .trace) start n eq) r
 
   pub whole-run : (u : Setup e) (p : Pattern) (f : ℕ) → entryPatternAt (e .store) q ≡ got p f → RanAs (runPattern (settingOf e u) (findOf e u) (limitsOf (buffers x l w)) p) x l (v .text) (v .list) (v .st)
   unfolding runPattern

@@ -6,3 +6,4 @@ pub mod Meets
 pub mod Leaves
 pub mod Members
 pub mod Values
+pub mod Parts

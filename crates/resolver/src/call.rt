@@ -1,8 +1,10 @@
 // Calls: the positional arguments, and the function's result.
-ghost use mathlib.Core.Path.{_≡_};
+ghost use Rattle.state.specs.Progress.{progressOf};
 ghost use Rattle.resolver.specs.Relations.Meets.{world, env};
+ghost use mathlib.Core.Path.{_≡_};
+ghost use Rattle.values.specs.Stored.{valueOf, foundIn, endOf};
 ghost use Rattle.resolver.specs.Relations.Members.{PositionalAt, CalledAt};
-ghost use Rattle.resolver.specs.Relations.Answers.{AnswerAt};
+ghost use Rattle.resolver.specs.Relations.Answers.{AnswerAt, AppliedAt};
 use crate::inline;
 use crate::scope::call::number_function;
 use crate::scope::value::resolve_named;
@@ -12,62 +14,53 @@ use records::Next;
 use records::Num;
 use records::read_str;
 use records::read_u16;
-use state::Called;
-use state::Positional;
-use state::Scope;
-use state::Value;
+use state::BACK;
+use state::REFUSED;
 use state::missing_function;
 use state::set_back;
+use values::END;
+use values::held;
+use values::hold;
+use values::hold_missing;
+use values::hold_wrong;
+use values::set_end;
 use walks::skip_expression;
 
-// The positional arguments at `at`, each resolved in turn.
-pub(crate) fn positional<'a>(
+// The positional arguments at `at`, each resolved in turn: the first value is kept.
+pub(crate) fn each<'a>(
     store: &'a [u8],
     args: &'a [u8],
     text: &mut [u8],
     list: &mut [u8],
     work: &mut [u8],
     trail: &mut [usize; 102],
-    st: Scope,
+    st: &mut [usize; 16],
+    value: &mut [usize; 10],
     left: usize,
     at: usize,
-) -> Positional
-    ensures { λ r. ⌜ PositionalAt (env (now (store .entry)) (now (args .entry))) left at (world (now (store .entry)) (now (text .entry)) (now (list .entry)) (now (work .entry)) (now (trail .entry)) st) (world (now (store .entry)) (now (text .exit)) (now (list .exit)) (now (work .exit)) (now (trail .exit)) (r .st)) (r .first) (r .end) ⌝ }
+)
+    ensures { λ _. ⌜ PositionalAt (env (now (store .entry)) (now (args .entry))) left at (world (now (store .entry)) (now (text .entry)) (now (list .entry)) (now (work .entry)) (now (trail .entry)) (progressOf (now (st .entry)))) (world (now (store .entry)) (now (text .exit)) (now (list .exit)) (now (work .exit)) (now (trail .exit)) (progressOf (now (st .exit)))) (valueOf (now (value .exit))) (endOf (now (value .exit))) ⌝ }
 {
-    let Num::At(n, begin_at) = read_u16(store, at) else {
-        return Positional {
-            st: st,
-            first: Value::Wrong,
-            end: at,
-        };
+    let Num::At(n, start) = read_u16(store, at) else {
+        return;
     };
-    let mut s = st;
-    let mut first = Value::Wrong;
-    let mut p = begin_at;
+    hold_wrong(value);
+    let mut first = *value;
+    let mut p = start;
     let mut i = n;
     while 0 < i {
-        let v = inline::resolve(store, args, text, list, work, trail, s, left, p);
-        let s1 = v.st;
-        let value = v.value;
-        s = s1;
+        inline::resolve(store, args, text, list, work, trail, st, value, left, p);
         if i == n {
-            first = value;
+            first = *value;
         }
         let Next::At(q) = skip_expression(store, p, left) else {
-            return Positional {
-                st: s,
-                first: first,
-                end: p,
-            };
+            return;
         };
         p = q;
         i -= 1;
     }
-    Positional {
-        st: s,
-        first: first,
-        end: p,
-    }
+    *value = first;
+    set_end(value, p);
 }
 
 // A call, its Id at `at`: its arguments are freed once its result, or that it is missing, is known.
@@ -78,84 +71,81 @@ pub(crate) fn function<'a>(
     list: &mut [u8],
     work: &mut [u8],
     trail: &mut [usize; 102],
-    st: Scope,
+    st: &mut [usize; 16],
+    value: &mut [usize; 10],
     left: usize,
     at: usize,
-) -> Called
-    ensures { λ r. ⌜ CalledAt (env (now (store .entry)) (now (args .entry))) left at (world (now (store .entry)) (now (text .entry)) (now (list .entry)) (now (work .entry)) (now (trail .entry)) st) (world (now (store .entry)) (now (text .exit)) (now (list .exit)) (now (work .exit)) (now (trail .exit)) (r .st)) (r .found) (r .value) ⌝ }
+)
+    ensures { λ _. ⌜ CalledAt (env (now (store .entry)) (now (args .entry))) left at (world (now (store .entry)) (now (text .entry)) (now (list .entry)) (now (work .entry)) (now (trail .entry)) (progressOf (now (st .entry)))) (world (now (store .entry)) (now (text .exit)) (now (list .exit)) (now (work .exit)) (now (trail .exit)) (progressOf (now (st .exit)))) (foundIn (now (value .exit))) (valueOf (now (value .exit))) ⌝ }
 {
+    let Num::At(_, e) = read_str(store, at) else {
+        return;
+    };
+    let old = st[BACK];
+    each(store, args, text, list, work, trail, st, value, left, e);
+    apply(store, work, st, value, at, old);
+}
+
+// A call, its Id at `at`, whose positional arguments are known, as the value and the end say: the named ones, and the answer. All are freed down to `old`.
+pub(crate) fn apply(
+    store: &[u8],
+    work: &mut [u8],
+    st: &mut [usize; 16],
+    value: &mut [usize; 10],
+    at: usize,
+    old: usize,
+)
+    ensures { λ _. ⌜ AppliedAt (now (store .entry)) at (now (work .entry)) (progressOf (now (st .entry))) (valueOf (now (value .entry))) (endOf (now (value .entry))) old (now (work .exit)) (progressOf (now (st .exit))) (foundIn (now (value .exit))) (valueOf (now (value .exit))) ⌝ }
+{
+    if st[REFUSED] != 0 {
+        return;
+    }
     let Num::At(a, e) = read_str(store, at) else {
-        return Called {
-            st: st,
-            found: false,
-            value: Value::Wrong,
-        };
+        return;
     };
-    let old = st.back;
-    let g = positional(store, args, text, list, work, trail, st, left, e);
-    let s1 = g.st;
-    let first = g.first;
-    if s1.refused != 0 {
-        return Called {
-            st: s1,
-            found: false,
-            value: Value::Wrong,
-        };
-    }
-    let base = s1.back;
-    let Num::At(m, named) = read_u16(store, g.end) else {
-        return Called {
-            st: s1,
-            found: false,
-            value: Value::Wrong,
-        };
+    let base = st[BACK];
+    let Num::At(m, named) = read_u16(store, value[END]) else {
+        return;
     };
-    let s2 = resolve_named(store, work, s1, named, m);
-    if s2.refused != 0 {
-        return Called {
-            st: s2,
-            found: false,
-            value: Value::Wrong,
-        };
+    resolve_named(store, work, st, named, m);
+    if st[REFUSED] != 0 {
+        return;
     }
-    answer(store, &*work, s2, &store[a..e], named, m, base, first, old)
+    answer(store, &*work, st, value, &store[a..e], named, m, base, old);
 }
 
 // A call whose arguments are known, the named ones from `base` down: NUMBER's result, or that the Id is no function's. They are freed down to `old`.
 fn answer(
     store: &[u8],
     work: &[u8],
-    st: Scope,
+    st: &mut [usize; 16],
+    value: &mut [usize; 10],
     id: &[u8],
     named: usize,
     count: usize,
     base: usize,
-    first: Value,
     old: usize,
-) -> Called
-    ensures { λ r. ⌜ AnswerAt (now (store .entry)) (now (work .entry)) st (now (id .entry)) named count base first old (r .st) (r .found) (r .value) ⌝ }
+)
+    ensures { λ _. ⌜ AnswerAt (now (store .entry)) (now (work .entry)) (progressOf (now (st .entry))) (now (id .entry)) named count base (valueOf (now (value .entry))) old (progressOf (now (st .exit))) (foundIn (now (value .exit))) (valueOf (now (value .exit))) ⌝ }
 {
     match find_holder(store, id) {
         Found::Function => {
+            let first = held(&*value);
             let v = number_function(store, work, st, named, count, base, first);
-            let s1 = v.st;
-            let value = v.value;
-            Called {
-                st: set_back(s1, old),
-                found: true,
-                value: value,
-            }
+            set_back(st, old);
+            hold(value, v);
         }
-        Found::Message(_) => Called {
-            st: set_back(st, old),
-            found: false,
-            value: Value::Wrong,
-        },
-        Found::Term(_) => Called {
-            st: set_back(st, old),
-            found: false,
-            value: Value::Wrong,
-        },
-        Found::Nothing => missing_function(st, old),
+        Found::Message(_) => {
+            set_back(st, old);
+            hold_missing(value);
+        }
+        Found::Term(_) => {
+            set_back(st, old);
+            hold_missing(value);
+        }
+        Found::Nothing => {
+            missing_function(st, old);
+            hold_missing(value);
+        }
     }
 }

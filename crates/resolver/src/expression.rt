@@ -1,4 +1,5 @@
 // Expressions, written: an inline expression, or a select.
+ghost use Rattle.state.specs.Progress.{progressOf};
 ghost use Rattle.resolver.specs.Relations.Meets.{world, env};
 ghost use Rattle.resolver.specs.Relations.Members.{ExpressionAt, SelectAt};
 use crate::inline;
@@ -7,7 +8,8 @@ use crate::scope::select::choose;
 use records::Next;
 use records::Num;
 use records::read_byte;
-use state::Scope;
+use state::BACK;
+use state::REFUSED;
 use state::set_back;
 use texts::Plain;
 use walks::skip_expression;
@@ -21,25 +23,27 @@ pub(crate) fn write<'a>(
     list: &mut [u8],
     work: &mut [u8],
     trail: &mut [usize; 102],
-    st: Scope,
+    st: &mut [usize; 16],
+    value: &mut [usize; 10],
     left: usize,
     at: usize,
-) -> Scope
-    ensures { λ r. ⌜ ExpressionAt (env (now (store .entry)) (now (args .entry))) left at (world (now (store .entry)) (now (text .entry)) (now (list .entry)) (now (work .entry)) (now (trail .entry)) st) (world (now (store .entry)) (now (text .exit)) (now (list .exit)) (now (work .exit)) (now (trail .exit)) r) ⌝ }
+)
+    ensures { λ _. ⌜ ExpressionAt (env (now (store .entry)) (now (args .entry))) left at (world (now (store .entry)) (now (text .entry)) (now (list .entry)) (now (work .entry)) (now (trail .entry)) (progressOf (now (st .entry)))) (world (now (store .entry)) (now (text .exit)) (now (list .exit)) (now (work .exit)) (now (trail .exit)) (progressOf (now (st .exit)))) ⌝ }
 {
-    if st.refused != 0 {
-        return st;
+    if st[REFUSED] != 0 {
+        return;
     }
     if left == 0 {
-        return st;
+        return;
     }
     let Num::At(tag, p) = read_byte(store, at) else {
-        return st;
+        return;
     };
     if tag == 8 {
-        return select(store, args, text, list, work, trail, st, left - 1, p);
+        select(store, args, text, list, work, trail, st, value, left - 1, p);
+        return;
     }
-    inline::write(store, args, text, list, work, trail, st, left, at)
+    inline::write(store, args, text, list, work, trail, st, value, left, at);
 }
 
 // A select, past its tag: the selector's text is freed when its variant, or none, is chosen.
@@ -50,28 +54,28 @@ pub(crate) fn select<'a>(
     list: &mut [u8],
     work: &mut [u8],
     trail: &mut [usize; 102],
-    st: Scope,
+    st: &mut [usize; 16],
+    value: &mut [usize; 10],
     left: usize,
     at: usize,
-) -> Scope
-    ensures { λ r. ⌜ SelectAt (env (now (store .entry)) (now (args .entry))) left at (world (now (store .entry)) (now (text .entry)) (now (list .entry)) (now (work .entry)) (now (trail .entry)) st) (world (now (store .entry)) (now (text .exit)) (now (list .exit)) (now (work .exit)) (now (trail .exit)) r) ⌝ }
+)
+    ensures { λ _. ⌜ SelectAt (env (now (store .entry)) (now (args .entry))) left at (world (now (store .entry)) (now (text .entry)) (now (list .entry)) (now (work .entry)) (now (trail .entry)) (progressOf (now (st .entry)))) (world (now (store .entry)) (now (text .exit)) (now (list .exit)) (now (work .exit)) (now (trail .exit)) (progressOf (now (st .exit)))) ⌝ }
 {
-    if st.refused != 0 {
-        return st;
+    if st[REFUSED] != 0 {
+        return;
     }
-    let old = st.back;
-    let v = inline::resolve(store, args, text, list, work, trail, st, left, at);
-    let s1 = v.st;
-    let value = v.value;
-    if s1.refused != 0 {
-        return s1;
+    let old = st[BACK];
+    inline::resolve(store, args, text, list, work, trail, st, value, left, at);
+    if st[REFUSED] != 0 {
+        return;
     }
-    let s2 = set_back(s1, old);
+    set_back(st, old);
     let Next::At(q) = skip_expression(store, at, left) else {
-        return s2;
+        return;
     };
-    let Next::At(to) = choose(store, args, &*work, value, q) else {
-        return list_plain(list, s2, Plain::MissingDefault);
+    let Next::At(to) = choose(store, args, &*work, &*value, q) else {
+        list_plain(list, st, Plain::MissingDefault);
+        return;
     };
-    pattern::write(store, args, text, list, work, trail, s2, left, to)
+    pattern::write(store, args, text, list, work, trail, st, value, left, to);
 }

@@ -8,11 +8,21 @@ use entries::message::find_part;
 use images::check_store;
 use records::Next;
 use rules::is_id;
+use state::ERRORS;
+use state::HIGH;
+use state::LIST_AT;
+use state::REFUSED;
 use state::Scope;
+use state::TEXT_AT;
+use state::UNFOUND;
+use state::enter;
+use state::start;
 use texts::put_header;
 ghost use mathlib.Core.Path.{_≡_};
+ghost use Prim.Native.Nat.{_%_};
 ghost use Rattle.resolution.specs.Format.{format, isIdOrNone};
 ghost use Rattle.resolver.specs.Formats.{gave};
+ghost use Rattle.state.specs.Progress.{progressOf, scopeOf};
 ghost use Rattle.resolver.specs.Relations.Runs.{PatternFound, RunAt, FinishAt};
 ghost use Rattle.records.specs.Optional.{optionOf};
 ghost use Rattle.resolver.specs.Relations.Meets.{env};
@@ -82,31 +92,56 @@ fn run<'a>(
     text: &mut [u8],
     list: &mut [u8],
     work: &mut [u8],
+    st: &mut [usize; 16],
     q: usize,
 ) -> Scope
-    ensures { λ r. ⌜ RunAt (env (now (store .entry)) (now (args .entry))) q (now (text .entry)) (now (list .entry)) (now (work .entry)) (now (text .exit)) (now (list .exit)) (now (work .exit)) r ⌝ }
+    ensures { λ r. ⌜ RunAt (env (now (store .entry)) (now (args .entry))) q (now (text .entry)) (now (list .entry)) (now (work .entry)) (now (text .exit)) (now (list .exit)) (now (work .exit)) (progressOf (now (st .exit))) × (r ≡ scopeOf (progressOf (now (st .exit)))) ⌝ }
 {
     let mut trail = [0usize; 102];
-    resolve(store, args, text, list, work, &mut trail, q)
+    let mut value = [0usize; 10];
+    start(st, work.len());
+    enter(&mut trail, st, q);
+    resolve(store, args, text, list, work, &mut trail, st, &mut value, q)
+}
+
+// A refusal's number.
+fn refusal(n: usize) -> u8
+    ensures { λ r. ⌜ r ≡ n % 256 ⌝ }
+{
+    (n % 256) as u8
+}
+
+// A count in 64 bits.
+fn count(n: usize) -> u64
+    ensures { λ r. ⌜ r ≡ n ⌝ }
+{
+    n as u64
 }
 
 // What the buffers hold in the end: the workspace is zero; text and list too, where the run was refused, and else the list has its header.
-fn finish(st: Scope, text: &mut [u8], list: &mut [u8], work: &mut [u8]) -> Answer
-    ensures { λ r. ⌜ FinishAt st (now (text .entry)) (now (list .entry)) (now (work .entry)) (now (text .exit)) (now (list .exit)) (now (work .exit)) r ⌝ }
+fn finish(
+    st: &[usize; 16],
+    scope: Scope,
+    text: &mut [u8],
+    list: &mut [u8],
+    work: &mut [u8],
+) -> Answer
+    ensures { λ r. ⌜ (scope ≡ scopeOf (progressOf (now (st .entry))) → FinishAt (progressOf (now (st .entry))) (now (text .entry)) (now (list .entry)) (now (work .entry)) (now (text .exit)) (now (list .exit)) (now (work .exit)) r) ⌝ }
 {
     fill_zero(work);
-    if st.refused != 0 {
+    let refused = st[REFUSED];
+    if refused != 0 {
         fill_zero(text);
         fill_zero(list);
-        return Answer::Cleared(st.refused);
+        return Answer::Cleared(refusal(refused));
     }
-    put_header(list, st.list_at);
+    put_header(list, st[LIST_AT]);
     Answer::Finished(Figures {
-        text: st.text_at,
-        errors: st.errors,
-        begun: st.begun,
-        unfound: st.unfound,
-        work: st.high,
+        text: st[TEXT_AT],
+        errors: st[ERRORS],
+        begun: scope.begun,
+        unfound: count(st[UNFOUND]),
+        work: st[HIGH],
     })
 }
 
@@ -132,8 +167,9 @@ pub fn format<'a>(
             if list.len() < 5 {
                 return Answer::Refused(7);
             }
-            let st = run(store, args, text, list, work, q);
-            finish(st, text, list, work)
+            let mut st = [0usize; 16];
+            let scope = run(store, args, text, list, work, &mut st, q);
+            finish(&st, scope, text, list, work)
         }
     }
 }

@@ -1,14 +1,37 @@
-// The scope is lent down the whole formatting: a few thin functions over those that take it by value and hand it back.
+// The scope is lent down the whole formatting: a few thin functions over one that takes it by value and hands it back. Under that one its numbers stand among
+// those that are lent beside it, so that no frame of a formatting holds a copy.
 // The functions that are lent the scope, or lend it, are proved by hand.
 ghost use mathlib.Core.Path.{_≡_};
-ghost use lib.ListN.{length, set};
-ghost use Rattle.state.specs.Setters.{newS, depthS};
+ghost use Rattle.state.specs.Progress.{progressOf, scopeOf, scopedS};
+ghost use Rattle.state.specs.Setters.{newS};
 ghost use Rattle.resolver.specs.Relations.Meets.{world, env};
 ghost use Rattle.resolver.specs.Relations.Members.{PatternAt};
 use crate::pattern;
 use state::Scope;
-use state::enter;
 use state::new;
+use state::scope_in;
+use state::set_scope;
+
+// `Pattern::write`, by value.
+pub(crate) fn write_by_value<'a>(
+    store: &'a [u8],
+    args: &'a [u8],
+    text: &mut [u8],
+    list: &mut [u8],
+    work: &mut [u8],
+    trail: &mut [usize; 102],
+    st: &mut [usize; 16],
+    value: &mut [usize; 10],
+    scope: Scope,
+    left: usize,
+    at: usize,
+) -> Scope
+    ensures { λ r. ⌜ PatternAt (env (now (store .entry)) (now (args .entry))) left at (world (now (store .entry)) (now (text .entry)) (now (list .entry)) (now (work .entry)) (now (trail .entry)) (scopedS scope (progressOf (now (st .entry))))) (world (now (store .entry)) (now (text .exit)) (now (list .exit)) (now (work .exit)) (now (trail .exit)) (progressOf (now (st .exit)))) × (r ≡ scopeOf (progressOf (now (st .exit)))) ⌝ }
+{
+    set_scope(st, scope);
+    pattern::write(store, args, text, list, work, trail, st, value, left, at);
+    scope_in(&*st)
+}
 
 // `Pattern::write`
 pub(crate) fn write<'a>(
@@ -18,13 +41,27 @@ pub(crate) fn write<'a>(
     list: &mut [u8],
     work: &mut [u8],
     trail: &mut [usize; 102],
+    st: &mut [usize; 16],
+    value: &mut [usize; 10],
     scope: &mut Scope,
     left: usize,
     at: usize,
 )
-    ensures { λ _. ⌜ PatternAt (env (now (store .entry)) (now (args .entry))) left at (world (now (store .entry)) (now (text .entry)) (now (list .entry)) (now (work .entry)) (now (trail .entry)) (now (scope .entry))) (world (now (store .entry)) (now (text .exit)) (now (list .exit)) (now (work .exit)) (now (trail .exit)) (now (scope .exit))) ⌝ }
+    ensures { λ _. ⌜ PatternAt (env (now (store .entry)) (now (args .entry))) left at (world (now (store .entry)) (now (text .entry)) (now (list .entry)) (now (work .entry)) (now (trail .entry)) (scopedS (now (scope .entry)) (progressOf (now (st .entry))))) (world (now (store .entry)) (now (text .exit)) (now (list .exit)) (now (work .exit)) (now (trail .exit)) (progressOf (now (st .exit)))) × (now (scope .exit) ≡ scopeOf (progressOf (now (st .exit)))) ⌝ }
 {
-    *scope = pattern::write(store, args, text, list, work, trail, *scope, left, at);
+    *scope = write_by_value(
+        store,
+        args,
+        text,
+        list,
+        work,
+        trail,
+        st,
+        value,
+        *scope,
+        left,
+        at,
+    );
 }
 
 // `Pattern::resolve`, at a scope of its own: it is made here, lent down the whole formatting of the pattern at q, and handed on as it is then.
@@ -35,12 +72,25 @@ pub(crate) fn resolve<'a>(
     list: &mut [u8],
     work: &mut [u8],
     trail: &mut [usize; 102],
+    st: &mut [usize; 16],
+    value: &mut [usize; 10],
     q: usize,
 ) -> Scope
-    ensures { λ r. ⌜ PatternAt (env (now (store .entry)) (now (args .entry))) 32 q (world (now (store .entry)) (now (text .entry)) (now (list .entry)) (now (work .entry)) (set (now (trail .entry)) 0 q) (depthS 1 (newS (length (now (work .entry)))))) (world (now (store .entry)) (now (text .exit)) (now (list .exit)) (now (work .exit)) (now (trail .exit)) r) ⌝ }
+    ensures { λ r. ⌜ PatternAt (env (now (store .entry)) (now (args .entry))) 32 q (world (now (store .entry)) (now (text .entry)) (now (list .entry)) (now (work .entry)) (now (trail .entry)) (scopedS (scopeOf (newS 0)) (progressOf (now (st .entry))))) (world (now (store .entry)) (now (text .exit)) (now (list .exit)) (now (work .exit)) (now (trail .exit)) (progressOf (now (st .exit)))) × (r ≡ scopeOf (progressOf (now (st .exit)))) ⌝ }
 {
-    let mut scope = new(work.len());
-    enter(trail, &mut scope, q);
-    write(store, args, text, list, work, trail, &mut scope, 32, q);
+    let mut scope = new();
+    write(
+        store,
+        args,
+        text,
+        list,
+        work,
+        trail,
+        st,
+        value,
+        &mut scope,
+        32,
+        q,
+    );
     scope
 }

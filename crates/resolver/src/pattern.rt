@@ -1,5 +1,6 @@
 // Patterns, written: the elements in turn, the placeables begun, and the pattern that a reference leads to.
 // Patterns, expressions and inline expressions write each other. What falls at each call: placeables left, then nesting, then stage.
+ghost use Rattle.state.specs.Progress.{progressOf};
 ghost use Rattle.resolver.specs.Relations.Meets.{world, env};
 ghost use Rattle.resolver.specs.Relations.Members.{PatternAt, ElementAt, TrackAt};
 use crate::expression;
@@ -13,7 +14,10 @@ use records::read_byte;
 use records::read_str;
 use records::read_u16;
 use records::read_u32;
-use state::Scope;
+use state::BEGUN;
+use state::DEPTH;
+use state::DIRTY;
+use state::REFUSED;
 use state::begin;
 use state::may_begin;
 use state::set_depth;
@@ -34,31 +38,42 @@ pub(crate) fn write<'a>(
     list: &mut [u8],
     work: &mut [u8],
     trail: &mut [usize; 102],
-    st: Scope,
+    st: &mut [usize; 16],
+    value: &mut [usize; 10],
     left: usize,
     at: usize,
-) -> Scope
-    ensures { λ r. ⌜ PatternAt (env (now (store .entry)) (now (args .entry))) left at (world (now (store .entry)) (now (text .entry)) (now (list .entry)) (now (work .entry)) (now (trail .entry)) st) (world (now (store .entry)) (now (text .exit)) (now (list .exit)) (now (work .exit)) (now (trail .exit)) r) ⌝ }
+)
+    ensures { λ _. ⌜ PatternAt (env (now (store .entry)) (now (args .entry))) left at (world (now (store .entry)) (now (text .entry)) (now (list .entry)) (now (work .entry)) (now (trail .entry)) (progressOf (now (st .entry)))) (world (now (store .entry)) (now (text .exit)) (now (list .exit)) (now (work .exit)) (now (trail .exit)) (progressOf (now (st .exit)))) ⌝ }
 {
     let Num::At(_, a) = read_u32(store, at) else {
-        return st;
+        return;
     };
     let Num::At(n, start) = read_u16(store, a) else {
-        return st;
+        return;
     };
     let iso = isolates(store, n);
-    let mut s = st;
     let mut p = start;
     let mut i = n;
     while 0 < i {
-        s = element(store, args, text, list, work, trail, s, left, iso, p);
+        element(
+            store,
+            args,
+            text,
+            list,
+            work,
+            trail,
+            st,
+            value,
+            left,
+            iso,
+            p,
+        );
         let Next::At(q) = skip_element(store, p, left) else {
-            return s;
+            return;
         };
         p = q;
         i -= 1;
     }
-    s
 }
 
 // One turn of the loop of `Pattern::write`, with `maybe_track`.
@@ -69,40 +84,43 @@ pub(crate) fn element<'a>(
     list: &mut [u8],
     work: &mut [u8],
     trail: &mut [usize; 102],
-    st: Scope,
+    st: &mut [usize; 16],
+    value: &mut [usize; 10],
     left: usize,
     iso: bool,
     at: usize,
-) -> Scope
-    ensures { λ r. ⌜ ElementAt (env (now (store .entry)) (now (args .entry))) left iso at (world (now (store .entry)) (now (text .entry)) (now (list .entry)) (now (work .entry)) (now (trail .entry)) st) (world (now (store .entry)) (now (text .exit)) (now (list .exit)) (now (work .exit)) (now (trail .exit)) r) ⌝ }
+)
+    ensures { λ _. ⌜ ElementAt (env (now (store .entry)) (now (args .entry))) left iso at (world (now (store .entry)) (now (text .entry)) (now (list .entry)) (now (work .entry)) (now (trail .entry)) (progressOf (now (st .entry)))) (world (now (store .entry)) (now (text .exit)) (now (list .exit)) (now (work .exit)) (now (trail .exit)) (progressOf (now (st .exit)))) ⌝ }
 {
-    if st.refused != 0 {
-        return st;
+    if st[REFUSED] != 0 {
+        return;
     }
-    if st.dirty {
-        return st;
+    if st[DIRTY] == 1 {
+        return;
     }
     let Num::At(tag, p) = read_byte(store, at) else {
-        return st;
+        return;
     };
     if tag == 1 {
         let Num::At(a, e) = read_str(store, p) else {
-            return st;
+            return;
         };
-        return put(text, work, st, &store[a..e]);
+        put(text, work, st, &store[a..e]);
+        return;
     }
-    if !may_begin(st) {
-        if 100 < st.begun {
-            return st;
+    if !may_begin(&*st) {
+        if 100 < st[BEGUN] {
+            return;
         }
-        return list_too_many(list, st);
+        list_too_many(list, st);
+        return;
     }
-    let s1 = begin(st);
+    begin(st);
     let marks = has_marks(store, iso, p);
-    let s2 = put_fsi(text, work, s1, marks);
-    let s3 = expression::write(store, args, text, list, work, trail, s2, left, p);
-    let s4 = put_cut(store, text, work, s3, p);
-    put_pdi(text, work, s4, marks)
+    put_fsi(text, work, st, marks);
+    expression::write(store, args, text, list, work, trail, st, value, left, p);
+    put_cut(store, text, work, st, p);
+    put_pdi(text, work, st, marks);
 }
 
 // `Scope::track`: the pattern at q, for the reference whose tag is at `at`.
@@ -113,25 +131,27 @@ pub(crate) fn track<'a>(
     list: &mut [u8],
     work: &mut [u8],
     trail: &mut [usize; 102],
-    st: Scope,
+    st: &mut [usize; 16],
+    value: &mut [usize; 10],
     at: usize,
     q: usize,
-) -> Scope
-    ensures { λ r. ⌜ TrackAt (env (now (store .entry)) (now (args .entry))) at q (world (now (store .entry)) (now (text .entry)) (now (list .entry)) (now (work .entry)) (now (trail .entry)) st) (world (now (store .entry)) (now (text .exit)) (now (list .exit)) (now (work .exit)) (now (trail .exit)) r) ⌝ }
+)
+    ensures { λ _. ⌜ TrackAt (env (now (store .entry)) (now (args .entry))) at q (world (now (store .entry)) (now (text .entry)) (now (list .entry)) (now (work .entry)) (now (trail .entry)) (progressOf (now (st .entry)))) (world (now (store .entry)) (now (text .exit)) (now (list .exit)) (now (work .exit)) (now (trail .exit)) (progressOf (now (st .exit)))) ⌝ }
 {
-    if st.refused != 0 {
-        return st;
+    if st[REFUSED] != 0 {
+        return;
     }
-    let d = st.depth;
+    let d = st[DEPTH];
     if 102 <= d {
-        return st;
+        return;
     }
     if on_trail(store, &*trail, d, q) {
-        let s1 = list_plain(list, st, Plain::Cyclic);
-        return put_error(store, text, work, s1, at);
+        list_plain(list, st, Plain::Cyclic);
+        put_error(store, text, work, st, at);
+        return;
     }
     trail[d] = q;
-    let s1 = set_depth(st, d + 1);
-    let s2 = write(store, args, text, list, work, trail, s1, 32, q);
-    set_depth(s2, d)
+    set_depth(st, d + 1);
+    write(store, args, text, list, work, trail, st, value, 32, q);
+    set_depth(st, d);
 }

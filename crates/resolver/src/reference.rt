@@ -1,16 +1,19 @@
 // What a message or a term reference leads to, decided on numbers: a pattern, or the error that stands for it.
 ghost use mathlib.Core.Path.{_≡_};
 ghost use Prim.Native.Nat.{_+_};
+ghost use Rattle.state.specs.Progress.{progressOf};
 ghost use Rattle.resolver.specs.Relations.Leaves.{ReferenceIs};
 ghost use Rattle.resolver.specs.Relations.Targets.{TargetAt, holderOf, lackingOf, countIf};
+ghost use Rattle.resolver.specs.Relations.Parts.{TermFlag};
 use crate::scope::reference::read_reference;
 use entries::Found;
 use entries::entry::find_holder;
 use entries::message::find_part;
 use records::Next;
+use records::Num;
+use records::read_byte;
 use state::Reference;
 use state::Referring;
-use state::Scope;
 use state::count_unfound;
 
 // A pattern; a message without a value, by its Id; nothing, and whether the lookup counts as lost; or no reference stands there.
@@ -96,11 +99,20 @@ pub(crate) fn target_of(store: &[u8], at: usize, term: bool) -> Target
 }
 
 // A lookup unfound more, if it was lost.
-pub(crate) fn count_if(st: Scope, lost: bool) -> Scope
-    ensures { λ r. ⌜ r ≡ countIf lost st ⌝ }
+pub(crate) fn count_if(st: &mut [usize; 16], lost: bool)
+    ensures { λ _. ⌜ progressOf (now (st .exit)) ≡ countIf lost (progressOf (now (st .entry))) ⌝ }
 {
     if lost {
-        return count_unfound(st);
+        count_unfound(st);
     }
-    st
+}
+
+// The Flag of a term reference's arguments, its tag at `at`, and the position past it.
+pub(crate) fn term_flag(store: &[u8], at: usize) -> Num
+    ensures { λ r. ⌜ TermFlag (now (store .entry)) at r ⌝ }
+{
+    let Reference::Is(r) = tagged_reference(store, at) else {
+        return Num::Bad;
+    };
+    read_byte(store, r.end)
 }

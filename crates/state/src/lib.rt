@@ -1,65 +1,56 @@
-// The state of a formatting, by value: the Rust's Scope, and where the three buffers stand; the values that it finds; and each single step of it.
+// How far a formatting has come: sixteen numbers that are lent down the whole of it, and each single step of them; and the Rust's Scope, by value.
+
 ghost use mathlib.Core.Path.{_≡_};
 ghost use mathlib.Core.Bool.{true};
 ghost use Prim.Native.Nat.{_+_, _<_};
+ghost use lib.Dec.{eqb};
 ghost use lib.ListN.{set};
-ghost use Rattle.state.specs.Setters.{refuseS, depthS, begunS, mayBegin, beginS, backS, asideS, keptS, localsS, clearS, countedS, missingS, newS};
-use decimals::types::Number;
+ghost use Rattle.state.specs.Progress.{bit, progressOf, scopeOf, scopedS};
+ghost use Rattle.state.specs.Setters.{depthS, begunS, mayBegin, beginS, backS, asideS, keptS, localsS, clearS, countedS, missingS, newS, refuseS, textS, listS, frontS, heldS, unfoundS, upTo, maxUnfound};
 
-// What changes while a message is formatted.
+// Where each number stands: how much text; how long a list, of how many errors; the workspace's front, its back and the highest use; how many patterns are on
+// the trail; the placeables begun; the lookups unfound; 1 while a text is made aside; the dirty mark; a term's arguments, 1 where there are any, where they stand
+// in the store, how many, and where their texts end in the workspace; the refusal, or 0.
+pub const TEXT_AT: usize = 0;
+
+pub const LIST_AT: usize = 1;
+
+pub const ERRORS: usize = 2;
+
+pub const FRONT: usize = 3;
+
+pub const BACK: usize = 4;
+
+pub const HIGH: usize = 5;
+
+pub const DEPTH: usize = 6;
+
+pub const BEGUN: usize = 7;
+
+pub const UNFOUND: usize = 8;
+
+pub const ASIDE: usize = 9;
+
+pub const DIRTY: usize = 10;
+
+pub const LOCAL: usize = 11;
+
+pub const LOCAL_AT: usize = 12;
+
+pub const LOCAL_COUNT: usize = 13;
+
+pub const LOCAL_BASE: usize = 14;
+
+pub const REFUSED: usize = 15;
+
+// The Rust's Scope: the placeables begun, the dirty mark, and a term's arguments.
 pub struct Scope {
-    pub text_at: usize,
-    pub list_at: usize,
-    pub errors: usize,
-    pub front: usize,
-    pub back: usize,
-    pub high: usize,
-    pub depth: usize,
     pub begun: usize,
-    pub unfound: u64,
-    pub aside: bool,
     pub dirty: bool,
     pub local: bool,
     pub local_at: usize,
     pub local_count: usize,
     pub local_base: usize,
-    pub refused: u8,
-}
-
-// A value: the Rust's FluentValue. A text is a part of the store, of the arguments image or of the workspace.
-pub enum Value {
-    Store(usize, usize),
-    Args(usize, usize),
-    Work(usize, usize),
-    Number(Number),
-    Nothing,
-    Wrong,
-}
-
-// A variable's value, or that it is missing.
-pub enum Local {
-    Is(Value),
-    Missing,
-}
-
-// A value, and the state after it was resolved.
-pub struct Resolved {
-    pub st: Scope,
-    pub value: Value,
-}
-
-// A call's result: none where the id is no function's.
-pub struct Called {
-    pub st: Scope,
-    pub found: bool,
-    pub value: Value,
-}
-
-// A call's positional arguments: the first value, and the position past them.
-pub struct Positional {
-    pub st: Scope,
-    pub first: Value,
-    pub end: usize,
 }
 
 // A reference's Id and attribute, and the position past them.
@@ -76,145 +67,218 @@ pub enum Reference {
     Bad,
 }
 
-pub fn refuse(mut st: Scope, why: u8) -> Scope
-    ensures { λ r. ⌜ r ≡ refuseS why st ⌝ }
+// Refused with a number. Here and below the array is lent on as a slice: that tells the proof how long it is, and costs nothing.
+pub fn refuse(st: &mut [usize; 16], why: usize)
+    ensures { λ _. ⌜ progressOf (now (st .exit)) ≡ refuseS why (progressOf (now (st .entry))) ⌝ }
 {
-    st.refused = why;
-    st
+    let s: &mut [usize] = st;
+    s[REFUSED] = why;
 }
 
-pub fn set_depth(mut st: Scope, depth: usize) -> Scope
-    ensures { λ r. ⌜ r ≡ depthS depth st ⌝ }
+// So many patterns on the trail.
+pub fn set_depth(st: &mut [usize; 16], depth: usize)
+    ensures { λ _. ⌜ progressOf (now (st .exit)) ≡ depthS depth (progressOf (now (st .entry))) ⌝ }
 {
-    st.depth = depth;
-    st
+    let s: &mut [usize] = st;
+    s[DEPTH] = depth;
 }
 
-pub fn set_back(mut st: Scope, back: usize) -> Scope
-    ensures { λ r. ⌜ r ≡ backS back st ⌝ }
+// The workspace's back.
+pub fn set_back(st: &mut [usize; 16], back: usize)
+    ensures { λ _. ⌜ progressOf (now (st .exit)) ≡ backS back (progressOf (now (st .entry))) ⌝ }
 {
-    st.back = back;
-    st
+    let s: &mut [usize] = st;
+    s[BACK] = back;
 }
 
-pub fn set_aside(mut st: Scope, on: bool) -> Scope
-    ensures { λ r. ⌜ r ≡ asideS on st ⌝ }
+// From here on a text is made aside.
+pub fn set_aside(st: &mut [usize; 16])
+    ensures { λ _. ⌜ progressOf (now (st .exit)) ≡ asideS true (progressOf (now (st .entry))) ⌝ }
 {
-    st.aside = on;
-    st
+    let s: &mut [usize] = st;
+    s[ASIDE] = 1;
+}
+
+// So much text.
+pub fn set_text(st: &mut [usize; 16], n: usize)
+    ensures { λ _. ⌜ progressOf (now (st .exit)) ≡ textS n (progressOf (now (st .entry))) ⌝ }
+{
+    let s: &mut [usize] = st;
+    s[TEXT_AT] = n;
+}
+
+// So long a list of so many errors.
+pub fn set_list(st: &mut [usize; 16], n: usize, errors: usize)
+    ensures { λ _. ⌜ progressOf (now (st .exit)) ≡ listS n errors (progressOf (now (st .entry))) ⌝ }
+{
+    let s: &mut [usize] = st;
+    s[LIST_AT] = n;
+    s[ERRORS] = errors;
+}
+
+// The workspace's front, and the highest use.
+pub fn set_front(st: &mut [usize; 16], front: usize, high: usize)
+    ensures { λ _. ⌜ progressOf (now (st .exit)) ≡ frontS front high (progressOf (now (st .entry))) ⌝ }
+{
+    let s: &mut [usize] = st;
+    s[FRONT] = front;
+    s[HIGH] = high;
+}
+
+// So much is kept at the workspace's back, and the highest use.
+pub fn set_held(st: &mut [usize; 16], back: usize, high: usize)
+    ensures { λ _. ⌜ progressOf (now (st .exit)) ≡ heldS back high (progressOf (now (st .entry))) ⌝ }
+{
+    let s: &mut [usize] = st;
+    s[BACK] = back;
+    s[HIGH] = high;
 }
 
 // A text of its own is made: its bytes go from the front to the back.
-pub fn set_kept(mut st: Scope, front: usize, back: usize, aside: bool) -> Scope
-    ensures { λ r. ⌜ r ≡ keptS front back aside st ⌝ }
+pub fn set_kept(st: &mut [usize; 16], front: usize, back: usize, aside: usize)
+    ensures { λ _. ⌜ progressOf (now (st .exit)) ≡ keptS front back (eqb aside 1) (progressOf (now (st .entry))) ⌝ }
 {
-    st.front = front;
-    st.back = back;
-    st.aside = aside;
-    st
+    let kept: &mut [usize] = st;
+    kept[FRONT] = front;
+    kept[BACK] = back;
+    kept[ASIDE] = aside;
 }
 
 // A term's named arguments, from here on: where they stand in the store, how many, and where their texts end in the workspace.
-pub fn set_locals(mut st: Scope, at: usize, count: usize, base: usize) -> Scope
-    ensures { λ r. ⌜ r ≡ localsS at count base st ⌝ }
+pub fn set_locals(st: &mut [usize; 16], at: usize, count: usize, base: usize)
+    ensures { λ _. ⌜ progressOf (now (st .exit)) ≡ localsS at count base (progressOf (now (st .entry))) ⌝ }
 {
-    st.local = true;
-    st.local_at = at;
-    st.local_count = count;
-    st.local_base = base;
-    st
+    let s: &mut [usize] = st;
+    s[LOCAL] = 1;
+    s[LOCAL_AT] = at;
+    s[LOCAL_COUNT] = count;
+    s[LOCAL_BASE] = base;
 }
 
 // The Rust clears a term's arguments after it.
-pub fn clear_locals(mut st: Scope) -> Scope
-    ensures { λ r. ⌜ r ≡ clearS st ⌝ }
+pub fn clear_locals(st: &mut [usize; 16])
+    ensures { λ _. ⌜ progressOf (now (st .exit)) ≡ clearS (progressOf (now (st .entry))) ⌝ }
 {
-    st.local = false;
-    st
+    let s: &mut [usize] = st;
+    s[LOCAL] = 0;
+}
+
+// One more of a count, which stops at its greatest value.
+pub fn one_more(n: usize) -> usize
+    ensures { λ r. ⌜ r ≡ upTo maxUnfound n ⌝ }
+{
+    if n < 18446744073709551615 {
+        return n + 1;
+    }
+    n
 }
 
 // A lookup unfound more, as far as the count goes.
-pub fn count_unfound(mut st: Scope) -> Scope
-    ensures { λ r. ⌜ r ≡ countedS st ⌝ }
+pub fn count_unfound(st: &mut [usize; 16])
+    ensures { λ _. ⌜ progressOf (now (st .exit)) ≡ countedS (progressOf (now (st .entry))) ⌝ }
 {
-    if st.unfound < 18446744073709551615 {
-        st.unfound = st.unfound + 1;
-    }
-    st
+    let n = one_more(st[UNFOUND]);
+    let s: &mut [usize] = st;
+    s[UNFOUND] = n;
 }
 
 // A call of an id that has no entry: the lookup is counted, the call's arguments are freed, and no error is counted.
-pub fn missing_function(st: Scope, old: usize) -> Called
-    ensures { λ r. ⌜ r ≡ missingS old st ⌝ }
+pub fn missing_function(st: &mut [usize; 16], old: usize)
+    ensures { λ _. ⌜ progressOf (now (st .exit)) ≡ missingS old (progressOf (now (st .entry))) ⌝ }
 {
-    Called {
-        st: set_back(count_unfound(st), old),
-        found: false,
-        value: Value::Wrong,
-    }
+    count_unfound(st);
+    let s: &mut [usize] = st;
+    s[BACK] = old;
 }
 
 // Fewer than 100 placeables were begun.
-pub fn may_begin(st: Scope) -> bool
-    ensures { λ r. ⌜ r ≡ mayBegin st ⌝ }
+pub fn may_begin(st: &[usize; 16]) -> bool
+    ensures { λ r. ⌜ r ≡ mayBegin (progressOf (now (st .entry))) ⌝ }
 {
-    st.begun < 100
+    st[BEGUN] < 100
 }
 
 // A placeable more is begun, where fewer than 100 were; else nothing changes.
-pub fn begin(mut st: Scope) -> Scope
-    ensures { λ r. ⌜ r ≡ beginS st ⌝ }
+pub fn begin(st: &mut [usize; 16])
+    ensures { λ _. ⌜ progressOf (now (st .exit)) ≡ beginS (progressOf (now (st .entry))) ⌝ }
 {
-    if may_begin(st) {
-        st.begun = st.begun + 1;
+    if may_begin(&*st) {
+        let n = st[BEGUN];
+        let s: &mut [usize] = st;
+        s[BEGUN] = n + 1;
     }
-    st
 }
 
 // The 101st placeable is begun: from here on nothing more is written.
-pub fn begin_last(mut st: Scope) -> Scope
-    ensures { λ r. ⌜ r ≡ begunS 101 true st ⌝ }
+pub fn begin_last(st: &mut [usize; 16])
+    ensures { λ _. ⌜ progressOf (now (st .exit)) ≡ begunS 101 true (progressOf (now (st .entry))) ⌝ }
 {
-    st.begun = 101;
-    st.dirty = true;
-    st
+    let s: &mut [usize] = st;
+    s[BEGUN] = 101;
+    s[DIRTY] = 1;
 }
 
-// `Scope::new`: nothing is written, listed, begun or travelled, and the workspace has `room` bytes.
-pub fn new(room: usize) -> Scope
-    ensures { λ r. ⌜ r ≡ newS room ⌝ }
+// Nothing is written, listed, begun or travelled, and the workspace has `room` bytes.
+pub fn start(st: &mut [usize; 16], room: usize)
+    ensures { λ _. ⌜ progressOf (now (st .exit)) ≡ newS room ⌝ }
+{
+    *st = [0, 5, 0, 0, room, 0, 0, 0, 0, 0, 0, 0, 0, 0, 0, 0];
+}
+
+// `Scope::new`: nothing is begun, and there are no term's arguments.
+pub fn new() -> Scope
+    ensures { λ r. ⌜ r ≡ scopeOf (newS 0) ⌝ }
 {
     Scope {
-        text_at: 0,
-        list_at: 5,
-        errors: 0,
-        front: 0,
-        back: room,
-        high: 0,
-        depth: 0,
         begun: 0,
-        unfound: 0,
-        aside: false,
         dirty: false,
         local: false,
         local_at: 0,
         local_count: 0,
         local_base: 0,
-        refused: 0,
     }
 }
 
-// The first pattern of a trail, and the depth after it.
-pub(crate) fn first_on(trail: &mut [usize; 102], st: Scope, q: usize) -> Scope
-    ensures { λ r. ⌜ (r ≡ depthS 1 st) × (now (trail .exit) ≡ set (now (trail .entry)) 0 q) ⌝ }
+// A yes as 1, a no as 0.
+pub fn flag(on: bool) -> usize
+    ensures { λ r. ⌜ (r ≡ bit on) × (r < 2) ⌝ }
 {
-    trail[0] = q;
-    set_depth(st, 1)
+    if on { 1 } else { 0 }
+}
+
+// The numbers of a scope are put among the others.
+pub fn set_scope(st: &mut [usize; 16], scope: Scope)
+    ensures { λ _. ⌜ progressOf (now (st .exit)) ≡ scopedS scope (progressOf (now (st .entry))) ⌝ }
+{
+    let dirty = flag(scope.dirty);
+    let local = flag(scope.local);
+    let s: &mut [usize] = st;
+    s[BEGUN] = scope.begun;
+    s[DIRTY] = dirty;
+    s[LOCAL] = local;
+    s[LOCAL_AT] = scope.local_at;
+    s[LOCAL_COUNT] = scope.local_count;
+    s[LOCAL_BASE] = scope.local_base;
+}
+
+// The scope that the numbers say.
+pub fn scope_in(st: &[usize; 16]) -> Scope
+    ensures { λ r. ⌜ r ≡ scopeOf (progressOf (now (st .entry))) ⌝ }
+{
+    Scope {
+        begun: st[BEGUN],
+        dirty: st[DIRTY] == 1,
+        local: st[LOCAL] == 1,
+        local_at: st[LOCAL_AT],
+        local_count: st[LOCAL_COUNT],
+        local_base: st[LOCAL_BASE],
+    }
 }
 
 // `Scope::maybe_track`, where no pattern is travelled yet.
-pub fn enter(trail: &mut [usize; 102], scope: &mut Scope, q: usize)
-    ensures { λ _. ⌜ (now (scope .exit) ≡ depthS 1 (now (scope .entry))) × (now (trail .exit) ≡ set (now (trail .entry)) 0 q) ⌝ }
+pub fn enter(trail: &mut [usize; 102], st: &mut [usize; 16], q: usize)
+    ensures { λ _. ⌜ (progressOf (now (st .exit)) ≡ depthS 1 (progressOf (now (st .entry)))) × (now (trail .exit) ≡ set (now (trail .entry)) 0 q) ⌝ }
 {
-    *scope = first_on(trail, *scope, q);
+    trail[0] = q;
+    set_depth(st, 1);
 }

@@ -15,8 +15,8 @@ use Rattle.records.specs.Optional.{optionOf}
 use Rattle.texts.specs.Relations.Report.{plainOf, recorded}
 use Rattle.texts.specs.declared.errors.Plain.{Plain}
 use Rattle.texts.specs.declared.errors.Plain.the-variants as plain
-use Rattle.state.specs.declared.Scope.{Scope}
-use Rattle.state.specs.declared.Value as code-value
+use Rattle.state.specs.Progress.{Progress}
+use Rattle.values.specs.declared.Value as code-value
 use Rattle.state.specs.Setters.{begunS}
 use Rattle.writes.specs.Written.{textAfter, workAfter, listAfter, hasRoom, written, writtenAll, writtenWhere, listed, listedMissing}
 use Rattle.writes.proofs.Laws.{room-is, room-short, work-in, work-out, written-over, written-aside, written-text, listed-over, listed-next, missing-within, missing-outside}
@@ -31,8 +31,8 @@ use Rattle.resolver.proofs.Single.Buffers.{record-kept, record-listed, 
 use Rattle.resolver.proofs.Single.Variables.{missing-silent, missing-listed}
 
 -- A write, on any state: what `written` leaves is what the action does in every live world.
-module _ (b x w : List ℕ) (st : Scope) (i l t : List ℕ) where
-  abbrev After : List ℕ × List ℕ × Scope → Type 0
+module _ (b x w : List ℕ) (st : Progress) (i l t : List ℕ) where
+  abbrev After : List ℕ × List ℕ × Progress → Type 0
   After p = Acts (write b) (world i x l w t st) (world i (p .0) l (p .1) t (p .2))
 
   aside : st .refused ≡ 0 → st .aside ≡ true → (q : Bool) → hasRoom st (length b) (length w) ≡ q → After (written b x w st)
@@ -59,43 +59,43 @@ module _ (b x w : List ℕ) (st : Scope) (i l t : List ℕ) where
       go true e false a = direct (eqb-true _ _ e) a (leb (st .«text_at» + length b) (length x)) refl
       go false e q a = subst After (written-over b x w st (eqb-false _ _ e)) (acts-over (write b) (world i x l w t st) (eqb-false _ _ e))
 
-pub written-acts : (b : List ℕ) {x w x′ w′ : List ℕ} {st r : Scope} → (x′, w′, r) ≡ written b x w st → (i l t : List ℕ) → Acts (write b) (world i x l w t st) (world i x′ l w′ t r)
+pub written-acts : (b : List ℕ) {x w x′ w′ : List ℕ} {st r : Progress} → (x′, w′, r) ≡ written b x w st → (i l t : List ℕ) → Acts (write b) (world i x l w t st) (world i x′ l w′ t r)
 written-acts b {x} {w} {st = st} e i l t = subst (After b x w st i l t) (sym e) (written-after b x w st i l t)
 
 -- the same, of bytes that are some others
-pub written-as : (b c : List ℕ) {x w x′ w′ : List ℕ} {st r : Scope} → (x′, w′, r) ≡ written b x w st → b ≡ c → (i l t : List ℕ) → Acts (write c) (world i x l w t st) (world i x′ l w′ t r)
+pub written-as : (b c : List ℕ) {x w x′ w′ : List ℕ} {st r : Progress} → (x′, w′, r) ≡ written b x w st → b ≡ c → (i l t : List ℕ) → Acts (write c) (world i x l w t st) (world i x′ l w′ t r)
 written-as b c e h i l t = acts-as (ap write (sym h)) (written-acts b e i l t)
 
 -- three writes are one
-pub braced-acts : (a b d : List ℕ) {x w x′ w′ : List ℕ} {st r : Scope} → (x′, w′, r) ≡ writtenAll (a ∷ b ∷ d ∷ []) (x, w, st) → (i l t : List ℕ) → Acts (write (a ++ (b ++ d))) (world i x l w t st) (world i x′ l w′ t r)
+pub braced-acts : (a b d : List ℕ) {x w x′ w′ : List ℕ} {st r : Progress} → (x′, w′, r) ≡ writtenAll (a ∷ b ∷ d ∷ []) (x, w, st) → (i l t : List ℕ) → Acts (write (a ++ (b ++ d))) (world i x l w t st) (world i x′ l w′ t r)
 unfolding writtenAll
 braced-acts a b d e i l t = acts-join a (b ++ d) (written-acts a refl i l t) (acts-join b d (written-acts b refl i l t) (written-acts d e i l t))
 
 -- what is written only where a condition holds
-where-acts : (on : Bool) (b : List ℕ) {x w x′ w′ : List ℕ} {st r : Scope} → (x′, w′, r) ≡ writtenWhere on b x w st → (i l t : List ℕ) → Acts (mark on b) (world i x l w t st) (world i x′ l w′ t r)
+where-acts : (on : Bool) (b : List ℕ) {x w x′ w′ : List ℕ} {st r : Progress} → (x′, w′, r) ≡ writtenWhere on b x w st → (i l t : List ℕ) → Acts (mark on b) (world i x l w t st) (world i x′ l w′ t r)
 unfolding writtenWhere mark
 where-acts true b e i l t = written-acts b e i l t
-where-acts false b {x} {w} {st = st} e i l t = subst (λ (p : List ℕ × List ℕ × Scope). Acts (mark false b) (world i x l w t st) (world i (p .0) l (p .1) t (p .2))) (sym e) (acts-ret tt (world i x l w t st))
+where-acts false b {x} {w} {st = st} e i l t = subst (λ (p : List ℕ × List ℕ × Progress). Acts (mark false b) (world i x l w t st) (world i (p .0) l (p .1) t (p .2))) (sym e) (acts-ret tt (world i x l w t st))
 
-pub fsi-acts : (on : Bool) {x w x′ w′ : List ℕ} {st r : Scope} → (x′, w′, r) ≡ writtenWhere on (0xe2 ∷ 0x81 ∷ 0xa8 ∷ []) x w st → (i l t : List ℕ) → Acts (mark on fsi) (world i x l w t st) (world i x′ l w′ t r)
+pub fsi-acts : (on : Bool) {x w x′ w′ : List ℕ} {st r : Progress} → (x′, w′, r) ≡ writtenWhere on (0xe2 ∷ 0x81 ∷ 0xa8 ∷ []) x w st → (i l t : List ℕ) → Acts (mark on fsi) (world i x l w t st) (world i x′ l w′ t r)
 unfolding fsi
 fsi-acts on e = where-acts on (0xe2 ∷ 0x81 ∷ 0xa8 ∷ []) e
 
-pub pdi-acts : (on : Bool) {x w x′ w′ : List ℕ} {st r : Scope} → (x′, w′, r) ≡ writtenWhere on (0xe2 ∷ 0x81 ∷ 0xa9 ∷ []) x w st → (i l t : List ℕ) → Acts (mark on pdi) (world i x l w t st) (world i x′ l w′ t r)
+pub pdi-acts : (on : Bool) {x w x′ w′ : List ℕ} {st r : Progress} → (x′, w′, r) ≡ writtenWhere on (0xe2 ∷ 0x81 ∷ 0xa9 ∷ []) x w st → (i l t : List ℕ) → Acts (mark on pdi) (world i x l w t st) (world i x′ l w′ t r)
 unfolding pdi
 pdi-acts on e = where-acts on (0xe2 ∷ 0x81 ∷ 0xa9 ∷ []) e
 
 -- the text of a value
-pub value-acts : (i a : List ℕ) {x w x′ w′ : List ℕ} (c : code-value.Value) {st r : Scope} → (x′, w′, r) ≡ written (bytesOf i a w c) x w st
+pub value-acts : (i a : List ℕ) {x w x′ w′ : List ℕ} (c : code-value.Value) {st r : Progress} → (x′, w′, r) ≡ written (bytesOf i a w c) x w st
     → ((l t : List ℕ) → Kept (world i x l w t st) (world i x′ l w′ t r)) × ((v : Value) → Holds i a w (st .back) c v → (l t : List ℕ) → Acts (write (valueText v)) (world i x l w t st) (world i x′ l w′ t r))
 value-acts i a {w = w} c {st} e = ((λ l t. written-acts (bytesOf i a w c) e i l t .kept), λ v h l t. written-as (bytesOf i a w c) (valueText v) e (bytes-held i a w (st .back) h) i l t)
 
 -- An error, on any state: what `listed` leaves is what the action does in every live world, if the error has a record.
-module _ (er : Error) (l : List ℕ) (st : Scope) (i x w t : List ℕ) where
-  abbrev Keeps : List ℕ × Scope → Type 0
+module _ (er : Error) (l : List ℕ) (st : Progress) (i x w t : List ℕ) where
+  abbrev Keeps : List ℕ × Progress → Type 0
   Keeps p = Kept (world i x l w t st) (world i x (p .0) w t (p .1))
 
-  abbrev Lists : List ℕ × Scope → Type 0
+  abbrev Lists : List ℕ × Progress → Type 0
   Lists p = Acts (emit (report er)) (world i x l w t st) (world i x (p .0) w t (p .1))
 
   next : st .refused ≡ 0 → (recorded l (st .«list_at») er .1, listAfter (recorded l (st .«list_at») er .0) st) ≡ listed er l st
@@ -115,7 +115,7 @@ module _ (er : Error) (l : List ℕ) (st : Scope) (i x w t : List ℕ) where
       go true e = subst Lists (next (eqb-true _ _ e)) (record-listed i x l w t st er (eqb-true _ _ e) refl refl h)
       go false e = subst Lists (listed-over er l st (eqb-false _ _ e)) (acts-over (emit (report er)) (world i x l w t st) (eqb-false _ _ e))
 
-module _ (er : Error) {l l′ : List ℕ} {st r : Scope} (e : (l′, r) ≡ listed er l st) where
+module _ (er : Error) {l l′ : List ℕ} {st r : Progress} (e : (l′, r) ≡ listed er l st) where
   pub listed-kept : (i x w t : List ℕ) → Kept (world i x l w t st) (world i x l′ w t r)
   listed-kept i x w t = subst (Keeps er l st i x w t) (sym e) (kept-after er l st i x w t)
 
@@ -123,32 +123,32 @@ module _ (er : Error) {l l′ : List ℕ} {st r : Scope} (e : (l′, r) ≡ list
   listed-acts h i x w t = subst (Lists er l st i x w t) (sym e) (listed-after er l st i x w t h)
 
 -- the errors that the writers list
-pub plain-acts : (k : Plain) {l l′ : List ℕ} {st r : Scope} → (l′, r) ≡ listed (plainOf k) l st → (i x w t : List ℕ) → Acts (emit (report (plainOf k))) (world i x l w t st) (world i x l′ w t r)
+pub plain-acts : (k : Plain) {l l′ : List ℕ} {st r : Progress} → (l′, r) ≡ listed (plainOf k) l st → (i x w t : List ℕ) → Acts (emit (report (plainOf k))) (world i x l w t st) (world i x l′ w t r)
 plain-acts k e = listed-acts (plainOf k) e (plain-short k)
 
-pub no-value-acts : (n : List ℕ) {l l′ : List ℕ} {st r : Scope} → (l′, r) ≡ listed (noValue n) l st
+pub no-value-acts : (n : List ℕ) {l l′ : List ℕ} {st r : Progress} → (l′, r) ≡ listed (noValue n) l st
     → ((i x w t : List ℕ) → Kept (world i x l w t st) (world i x l′ w t r)) × (length n ≤ 255 → (i x w t : List ℕ) → Acts (emit (report (noValue n))) (world i x l w t st) (world i x l′ w t r))
 no-value-acts n e = (listed-kept (noValue n) e, λ h. listed-acts (noValue n) e (no-value-short n h))
 
-pub reference-acts : (k : Referred) (n : List ℕ) (has : Bool) (m : List ℕ) {l l′ : List ℕ} {st r : Scope} → (l′, r) ≡ listed (reference k n (optionOf has m)) l st
+pub reference-acts : (k : Referred) (n : List ℕ) (has : Bool) (m : List ℕ) {l l′ : List ℕ} {st r : Progress} → (l′, r) ≡ listed (reference k n (optionOf has m)) l st
     → ((i x w t : List ℕ) → Kept (world i x l w t st) (world i x l′ w t r)) × (length n ≤ 255 → length m ≤ 255 → (i x w t : List ℕ) → Acts (emit (report (reference k n (optionOf has m)))) (world i x l w t st) (world i x l′ w t r))
 reference-acts k n has m e = (listed-kept (reference k n (optionOf has m)) e, λ h g. listed-acts (reference k n (optionOf has m)) e (reference-short k n has m h g))
 
-pub bare-acts : (k : Referred) (n : List ℕ) {l l′ : List ℕ} {st r : Scope} → (l′, r) ≡ listed (reference k n none) l st
+pub bare-acts : (k : Referred) (n : List ℕ) {l l′ : List ℕ} {st r : Progress} → (l′, r) ≡ listed (reference k n none) l st
     → ((i x w t : List ℕ) → Kept (world i x l w t st) (world i x l′ w t r)) × (length n ≤ 255 → (i x w t : List ℕ) → Acts (emit (report (reference k n none))) (world i x l w t st) (world i x l′ w t r))
 unfolding optionOf
 bare-acts k n e = let f = reference-acts k n false [] e in (f .0, λ h. f .1 h (omega arith))
 
-pub too-many-acts : {l l′ : List ℕ} {st r : Scope} → (l′, r) ≡ listed tooManyPlaceables l (begunS 101 true st) → TooMany l st l′ r
+pub too-many-acts : {l l′ : List ℕ} {st r : Progress} → (l′, r) ≡ listed tooManyPlaceables l (begunS 101 true st) → TooMany l st l′ r
 unfolding plainOf
 too-many-acts e = record { acts = listed-acts tooManyPlaceables e (plain-short plain.TooManyPlaceables) }
 
 -- a missing variable
-pub missing-acts : {n l l′ : List ℕ} {st r : Scope} → (l′, r) ≡ listedMissing n l st → MissingAt l st n l′ r
-missing-acts {n} {l} {st = st} e = subst (λ (p : List ℕ × Scope). MissingAt l st n (p .0) (p .1)) (sym e) (go (st .local) refl)
+pub missing-acts : {n l l′ : List ℕ} {st r : Progress} → (l′, r) ≡ listedMissing n l st → MissingAt l st n l′ r
+missing-acts {n} {l} {st = st} e = subst (λ (p : List ℕ × Progress). MissingAt l st n (p .0) (p .1)) (sym e) (go (st .local) refl)
   where
     go : (q : Bool) → st .local ≡ q → MissingAt l st n (listedMissing n l st .0) (listedMissing n l st .1)
-    go true h = subst (λ (p : List ℕ × Scope). MissingAt l st n (p .0) (p .1)) (missing-within n l st h) (missing-silent h)
+    go true h = subst (λ (p : List ℕ × Progress). MissingAt l st n (p .0) (p .1)) (missing-within n l st h) (missing-silent h)
     go false h =
         let f = bare-acts Referred.variable n {l = l} {st = st} refl in
-        subst (λ (p : List ℕ × Scope). MissingAt l st n (p .0) (p .1)) (missing-outside n l st h refl) (missing-listed h (f .0) (f .1))
+        subst (λ (p : List ℕ × Progress). MissingAt l st n (p .0) (p .1)) (missing-outside n l st h refl) (missing-listed h (f .0) (f .1))

@@ -24,10 +24,10 @@ use Rattle.buffers.specs.declared.Wrote.the-variants as wrote
 use Rattle.buffers.proofs.Place.{length-over, take-over, drop-over}
 use Rattle.texts.proofs.Recording.{room-by-size, recorded-at, recorded-no, plain-length, no-value-length, bare-length, attribute-length}
 use Rattle.resolution.specs.Effect.{report, emit}
-use Rattle.state.specs.declared.Scope.{Scope}
-use Rattle.state.specs.declared.Value as code-value
-use Rattle.state.specs.declared.Value.the-variants as val
-use Rattle.state.proofs.Value.{the-type}
+use Rattle.state.specs.Progress.{Progress}
+use Rattle.values.specs.declared.Value as code-value
+use Rattle.values.specs.declared.Value.the-variants as val
+use Rattle.values.proofs.Value.{the-type}
 use Rattle.arguments.specs.Relations.Given.{between}
 use Rattle.arguments.proofs.Laws.{between-in}
 use Rattle.resolver.specs.Relations.Meets.{world, Kept, Acts, Holds, in-store, in-args, in-work, is-number, is-nothing, is-wrong, textIn, bytesOf}
@@ -42,7 +42,7 @@ wrote-or (wrote.At e) = inl (e, refl)
 wrote-or wrote.Full = inr refl
 
 -- a record on the list, or no room for it
-listed-begun : (a : Wrote) (st : Scope) → listAfter a st .begun ≡ st .begun
+listed-begun : (a : Wrote) (st : Progress) → listAfter a st .begun ≡ st .begun
 unfolding listAfter
 listed-begun (wrote.At e) st = refl
 listed-begun wrote.Full st = refl
@@ -53,9 +53,9 @@ no-room size at n h e =
     (λ (f : 4294967295 < at + n). omega arith)
     (le-or-lt (at + n) 4294967295)
 
-module _ (i x l w t : List ℕ) (st : Scope) (er : Error) {l′ : List ℕ} {a : Wrote} {r : Scope} (z : st .refused ≡ 0) (is : (a, l′) ≡ recorded l (st .«list_at») er) (e : r ≡ listAfter a st) where
+module _ (i x l w t : List ℕ) (st : Progress) (er : Error) {l′ : List ℕ} {a : Wrote} {r : Progress} (z : st .refused ≡ 0) (is : (a, l′) ≡ recorded l (st .«list_at») er) (e : r ≡ listAfter a st) where
   pub record-kept : Kept (world i x l w t st) (world i x l′ w t r)
-  record-kept = let b : r .begun ≡ st .begun = ap (λ (s : Scope). s .begun) e ∙ listed-begun a st in record { begun = omega arith; over = λ f. absurd (f z) }
+  record-kept = let b : r .begun ≡ st .begun = ap (λ (s : Progress). s .begun) e ∙ listed-begun a st in record { begun = omega arith; over = λ f. absurd (f z) }
 
   pub record-listed : length (encError er) ≤ 65537 → Acts (emit (report er)) (world i x l w t st) (world i x l′ w t r)
   record-listed h =
@@ -66,7 +66,7 @@ module _ (i x l w t : List ℕ) (st : Scope) (er : Error) {l′ : List ℕ} {a :
       let front : take (st .«list_at» + length (encError er)) l′ ≡ take (st .«list_at») l ++ encError er = ap (take (st .«list_at» + length (encError er))) (g .3) ∙ take-over l (st .«list_at») (encError er) (let k = g .0 in omega arith) in
       let rest : drop (st .«list_at» + length (encError er)) l′ ≡ drop (st .«list_at» + length (encError er)) l = ap (drop (st .«list_at» + length (encError er))) (g .3) ∙ drop-over l (st .«list_at») (encError er) (let k = g .0 in omega arith) in
       let s : listS (st .«list_at» + length (encError er)) (min (st .errors + 1) maxUnfound) st ≡ r = sym (e ∙ sym (list-at st (q .1) refl) ∙ ap (λ (n : ℕ). listS n (min (st .errors + 1) maxUnfound) st) (g .2)) in
-      subst (λ (v : Scope). Acts (emit (report er)) (world i x l w t st) (world i x l′ w t v)) s (list-in i x l w t st er refl z (error-some er) (g .0) (g .1) refl len front rest))
+      subst (λ (v : Progress). Acts (emit (report er)) (world i x l w t st) (world i x l′ w t v)) s (list-in i x l w t st er refl z (error-some er) (g .0) (g .1) refl len front rest))
       (λ (q : a ≡ wrote.Full).
       let g = recorded-no l (st .«list_at») er is q in
       let full = no-room (length l) (st .«list_at») (length (encError er)) h (g .0) in

@@ -14,15 +14,15 @@ use Rattle.buffers.specs.Relations.Append.{Keeps}
 use Rattle.resolution.specs.Effect.{Bytes, keep-text, State, Out, M, Done, ret, capture}
 use Rattle.resolution.specs.Resolve.{held}
 use Rattle.resolution.specs.Exec.{Machine, Limits, refused, exec, andThen, step}
-use Rattle.state.specs.declared.Scope.{Scope}
-use Rattle.state.specs.declared.Value.the-variants as val
+use Rattle.state.specs.Progress.{Progress}
+use Rattle.values.specs.declared.Value.the-variants as val
 use Rattle.resolver.specs.Relations.Meets.{World, world, Live, LocalsStay, locals-same, locals-cleared, Moved, Ended, ended, stopped, ifAside, Holds, in-work}
 use Rattle.state.specs.Setters.{asideS, keptS}
 use Rattle.resolver.proofs.Single.Laws.{kept-same, runs-ret, ended-then, exec-append, drop-more, append-nil, aside-nil}
 use Rattle.resolver.proofs.Single.Locals.{locals-stay, locals-alike}
 
 -- a text of its own: made aside at the front, moved to the back
-module _ (i x l w t : List ℕ) (st : Scope) (u : World) where
+module _ (i x l w t : List ℕ) (st : Progress) (u : World) where
   abbrev pub w0 : World
   w0 = world i x l w t st
 

@@ -20,9 +20,9 @@ use Rattle.variants.specs.Relations.Sought.{patternPlace}
 use Rattle.variants.specs.Relations.Pick.{Pick, PickAt}
 use Rattle.variants.proofs.Keys.{nothing-chosen, wrong-chosen}
 use Rattle.variants.proofs.Choosing.{chosen-picks, shown-chosen}
-use Rattle.state.specs.declared.Value as code-value
-use Rattle.state.specs.declared.Value.the-variants as val
-use Rattle.state.proofs.Value.{the-type}
+use Rattle.values.specs.declared.Value as code-value
+use Rattle.values.specs.declared.Value.the-variants as val
+use Rattle.values.proofs.Value.{the-type}
 use Rattle.resolver.specs.Relations.Meets.{Holds, in-store, in-args, in-work, is-number, is-nothing, is-wrong, textIn, heldValue}
 
 module _ (i a w : List ℕ) (at : ℕ) (c : code-value.Value) (r : Next) where
@@ -86,3 +86,7 @@ module _ (i a w : List ℕ) (at : ℕ) (c : code-value.Value) (r : Next) where
 
   pub choice-is : ((st : Store) (f : ℕ) → storeOf i ≡ got st f → ByHeld (st .locale)) → Choice
   choice-is h v low st f hc hs = held-picks (st .locale) low v hc (h st f hs)
+
+-- the choice by a value that was told is the choice by where it was told from
+pub choice-held : (i a w : List ℕ) (at : ℕ) (r : Next) {c d : code-value.Value} → c ≡ d → Choice i a w at c r → Choice i a w at d r
+choice-held i a w at r e h v low st f hc hs = h v low st f (subst (λ (y : code-value.Value). Holds i a w low y v) (sym e) hc) hs

@@ -7,7 +7,7 @@ use native.Mathlib.Omega.{arith}
 use native.Mathlib.Nat.{le-trans}
 use lib.ListN.{take, drop}
 use lib.Seq.{drop-drop}
-use Rattle.state.specs.declared.Scope.{Scope}
+use Rattle.state.specs.Progress.{Progress}
 use Rattle.resolution.specs.Effect.{Bytes, Trace, State, Out, M, ret, _>>=_, _>>_, isDirty}
 use Rattle.resolution.specs.Exec.{Machine, Limits, Ran, ran, refused, exec, andThen, step}
 use Rattle.resolver.specs.Relations.Meets.{World, Live, LocalsStay, locals-same, locals-cleared, Outs, Moved, Ended, ended, stopped, Runs, Kept, Acts, trailOf, ifAside, Env}
@@ -53,10 +53,10 @@ front-then : (a b : List ℕ) (x y : Bool) (s t : Bytes) → x ≡ y → a ≡ b
 front-then a b x y s t e h = rw (e, h) (append-assoc b (ifAside y s) (ifAside y t) ∙ ap (λ (l : List ℕ). b ++ l) (aside-append y s t))
 
 -- the term's arguments stay, or are cleared, over two steps
-pub stay-same : (a : Scope) → LocalsStay a a
+pub stay-same : (a : Progress) → LocalsStay a a
 stay-same a = locals-same refl refl refl refl
 
-pub stay-then : {a b c : Scope} → LocalsStay a b → LocalsStay b c → LocalsStay a c
+pub stay-then : {a b c : Progress} → LocalsStay a b → LocalsStay b c → LocalsStay a c
 stay-then h (locals-cleared e) = locals-cleared e
 stay-then (locals-cleared e) (locals-same p q r s) = locals-cleared (p ∙ e)
 stay-then (locals-same p q r s) (locals-same p′ q′ r′ s′) = locals-same (p′ ∙ p) (q′ ∙ q) (r′ ∙ r) (s′ ∙ s)

@@ -27,7 +27,7 @@ use Rattle.decimals.proofs.Shown.{count-there, text-back}
 use Rattle.resolution.specs.Effect.{merged, _>>_, emit}
 use Rattle.resolution.specs.Resolve.{noteIf, noteOne, noteMerges}
 use Rattle.resolution.specs.Exec.{Machine, Limits, ran, refused, exec, andThen, step, allow, allowIf}
-use Rattle.state.specs.declared.Scope.{Scope}
+use Rattle.state.specs.Progress.{Progress}
 use Rattle.resolver.specs.Relations.Meets.{World, world, ended, Runs}
 use Rattle.state.specs.Setters.{refuseS}
 use Rattle.resolver.specs.Relations.Values.{mergedAll}
@@ -166,7 +166,7 @@ note-fine name (numeric n) w h = go (sameBytes name minimumFractionDigitsName) r
     go true e false f = runs-as (note-numeric name n true e) (emit-runs (toCount n) w (ltb-false fractionLimit (toCount n) f))
     go false e t f = runs-as (note-numeric name n false e) (runs-ret tt w)
 
-module _ (i x l w t : List ℕ) (st : Scope) (z : st .refused ≡ 0) where
+module _ (i x l w t : List ℕ) (st : Progress) (z : st .refused ≡ 0) where
   emit-long : (k : ℕ) → fractionLimit < k → Runs (emit (merged k)) (world i x l w t st) (world i x l w t (refuseS 17 st))
   unfolding emit
   emit-long k h = acts-refuse i x l w t st 17 (emit (merged k)) z (λ q. omega arith) (λ L s m lv. merged-out L k m h) refl .runs
@@ -194,7 +194,7 @@ notes-fine (e ∷ es) o w {c} h = go (tooLong (e .0) (e .1)) refl h (λ q. notes
     go true f q g = let y : _≡_ {A = ℕ} 0 1 = cc in absurd (omega arith)
     go false f q g = let r = g q in (runs-then (note-fine (e .0) (e .1) w f) (kept-same w) (λ _. r .0), r .1)
 
-module _ (i x l w t : List ℕ) (st : Scope) (z : st .refused ≡ 0) where
+module _ (i x l w t : List ℕ) (st : Progress) (z : st .refused ≡ 0) where
   pub notes-long : (es : List (List ℕ × Value)) (o : Options) → mergedAll es o ≡ merges.TooLong → Runs (noteMerges es) (world i x l w t st) (world i x l w t (refuseS 17 st))
   unfolding noteMerges mergedAll
   notes-long [] o h = let y : _≡_ {A = ℕ} 0 1 = cc in absurd (omega arith)

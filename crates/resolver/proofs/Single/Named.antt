@@ -26,10 +26,10 @@ use Rattle.records.specs.Names.{lastNamed}
 use Rattle.literals.specs.Relations.Shown.{literalOf}
 use Rattle.arguments.specs.Relations.Given.{between}
 use Rattle.arguments.proofs.Laws.{between-in}
-use Rattle.state.specs.declared.Value as code-value
-use Rattle.state.specs.declared.Value.the-variants as val
-use Rattle.state.specs.declared.Local as code-local
-use Rattle.state.specs.declared.Local.the-variants as loc
+use Rattle.values.specs.declared.Value as code-value
+use Rattle.values.specs.declared.Value.the-variants as val
+use Rattle.values.specs.declared.Local as code-local
+use Rattle.values.specs.declared.Local.the-variants as loc
 use Rattle.resolver.specs.declared.scope.value.NamedSpan.{NamedSpan}
 use Rattle.resolver.specs.declared.scope.value.NamedRead as code-named
 use Rattle.resolver.specs.declared.scope.value.NamedRead.the-variants as named

@@ -16,7 +16,7 @@ use Rattle.arguments.specs.Relations.Given.{between, betweenIf}
 use Rattle.arguments.proofs.Laws.{between-in}
 use Rattle.resolution.specs.Effect.{Bytes, write}
 use Rattle.resolution.specs.Resolve.{dotted, braced, errorText}
-use Rattle.state.specs.declared.Scope.{Scope}
+use Rattle.state.specs.Progress.{Progress}
 use Rattle.state.specs.declared.Referring.{Referring}
 use Rattle.state.specs.declared.Reference as code-reference
 use Rattle.state.specs.declared.Reference.the-variants as ref
@@ -165,5 +165,5 @@ unfolding piecesText
 pieces-written w i p eh en ej ea x y = acts-as (ap write (rw (eh, en, ej, ea))) (acts-join _ _ x y)
 
 -- the pieces written are the error
-pub error-written : {s : List ℕ} {at : ℕ} {x w x′ w′ : List ℕ} {st r : Scope} {p : Pieces} → PiecesAt s at p → ((l t : List ℕ) → Acts (write (piecesText errorWords s p)) (world s x l w t st) (world s x′ l w′ t r)) → ErrorAt s at x w st x′ w′ r
+pub error-written : {s : List ℕ} {at : ℕ} {x w x′ w′ : List ℕ} {st r : Progress} {p : Pieces} → PiecesAt s at p → ((l t : List ℕ) → Acts (write (piecesText errorWords s p)) (world s x l w t st) (world s x′ l w′ t r)) → ErrorAt s at x w st x′ w′ r
 error-written h a = record { kept = λ l t. a l t .kept; runs = λ l t d y f q. runs-as (ap write (h .reads d y f q)) (a l t .runs) }

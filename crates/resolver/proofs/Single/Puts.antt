@@ -9,7 +9,7 @@ use lib.Seq.{paste, take-paste, drop-paste, length-paste, take-length, length-ta
 use lib.Dec.{leb}
 use mathlib.Core.Logic.{⊎-elim, _⊎_, inl, inr}
 use borrow.Author.Tests.{le-leb, lt-leb, ltb-true, ltb-false, leb-true, leb-false}
-use Rattle.state.specs.declared.Scope.{Scope}
+use Rattle.state.specs.Progress.{Progress}
 use Rattle.records.specs.Bytes.{part, toBe}
 use Rattle.records.specs.Errors.{Error, encRecord, encError, encErrors}
 use Rattle.records.specs.Encode.{encAll, encWhole}
@@ -31,16 +31,16 @@ le-or-lt a b = go (leb a b) refl
 pub acts-over : {A : Type 0} (m : M A) (w : World) → (w .st .refused ≡ 0 → ⊥) → Acts m w w
 acts-over m w h = record { kept = kept-same w; runs = λ L s k l. absurd (h (l .go)) }
 
-module _ (i x l w t : List ℕ) (st : Scope) (n : ℕ) where
+module _ (i x l w t : List ℕ) (st : Progress) (n : ℕ) where
   -- where every live machine refuses with n
-  pub acts-refuse : {A : Type 0} (m : M A) {r : Scope} → st .refused ≡ 0 → (n ≡ 0 → ⊥)
+  pub acts-refuse : {A : Type 0} (m : M A) {r : Progress} → st .refused ≡ 0 → (n ≡ 0 → ⊥)
       → ((L : Limits) (s : State) (k : Machine) → Live L (world i x l w t st) s k → exec L (m s .trace) k ≡ refused n)
       → r ≡ refuseS n st → Acts m (world i x l w t st) (world i x l w t r)
   acts-refuse m {r} z nz h e =
-      let b : r .begun ≡ st .begun = ap (λ (q : Scope). q .begun) e in
+      let b : r .begun ≡ st .begun = ap (λ (q : Progress). q .begun) e in
       record {
         kept = record { begun = omega arith; over = λ f. absurd (f z) };
-        runs = λ L s k lv. stopped n (h L s k lv) nz (ap (λ (q : Scope). q .refused) e);
+        runs = λ L s k lv. stopped n (h L s k lv) nz (ap (λ (q : Progress). q .refused) e);
       }
 
 nest-none : {L : Limits} {w : World} {s : State} {k : Machine} → Live L w s k → w .st .aside ≡ false → k .nest ≡ 0
@@ -167,13 +167,13 @@ listed-length {w = w} {k = k} e l =
     let d : length (part (w .list) 5 (w .st .«list_at» - 5)) ≡ w .st .«list_at» - 5 = length-take-le (w .st .«list_at» - 5) (drop 5 (w .list)) (let o = length-drop 5 (w .list) in omega arith) in
     omega arith
 
-module _ (i x l w t : List ℕ) (st : Scope) (b : Bytes) where
-  pub put-text-full : {r : Scope} → st .refused ≡ 0 → st .aside ≡ false → length x < st .«text_at» + length b → r ≡ refuseS 15 st → Acts (write b) (world i x l w t st) (world i x l w t r)
+module _ (i x l w t : List ℕ) (st : Progress) (b : Bytes) where
+  pub put-text-full : {r : Progress} → st .refused ≡ 0 → st .aside ≡ false → length x < st .«text_at» + length b → r ≡ refuseS 15 st → Acts (write b) (world i x l w t st) (world i x l w t r)
   unfolding write
   put-text-full z a h e = acts-refuse i x l w t st 15 (write b) z (λ q. omega arith)
       (λ L s k lv. put-text-out L b k (nest-none lv a) (let p = lv .text-len in let q = written-length lv in omega arith)) e
 
-  pub put-work-full : {r : Scope} → st .refused ≡ 0 → st .aside ≡ true → ((st .front ≤ st .back) → st .back ≤ length w → st .back < st .front + length b) → r ≡ refuseS 16 st → Acts (write b) (world i x l w t st) (world i x l w t r)
+  pub put-work-full : {r : Progress} → st .refused ≡ 0 → st .aside ≡ true → ((st .front ≤ st .back) → st .back ≤ length w → st .back < st .front + length b) → r ≡ refuseS 16 st → Acts (write b) (world i x l w t st) (world i x l w t r)
   unfolding write
   put-work-full z a h e = acts-refuse i x l w t st 16 (write b) z (λ q. omega arith)
       (λ L s k lv. put-work-out L b k (nest-some lv a) (let p = lv .work-len in let q = lv .uses in let i = lv .front-in in let j = lv .back-in in let o = h i j in omega arith)) e
@@ -313,8 +313,8 @@ errors-few [] = omega arith
 errors-few (x ∷ es) = let a = errors-few es in let b = error-some x in let c = length-append (encError x) (encAll encError es) in omega arith
 
 -- an error's record
-module _ (i x l w t : List ℕ) (st : Scope) (er : Error) where
-  pub list-full : {r : Scope} → st .refused ≡ 0 → (5 ≤ st .«list_at» → st .«list_at» ≤ length l → min (length l) 4294967295 < st .«list_at» + length (encError er)) → r ≡ refuseS 7 st
+module _ (i x l w t : List ℕ) (st : Progress) (er : Error) where
+  pub list-full : {r : Progress} → st .refused ≡ 0 → (5 ≤ st .«list_at» → st .«list_at» ≤ length l → min (length l) 4294967295 < st .«list_at» + length (encError er)) → r ≡ refuseS 7 st
       → Acts (emit (report er)) (world i x l w t st) (world i x l w t r)
   unfolding emit exec step allow allowIf andThen listLimit
   list-full z h e = acts-refuse i x l w t st 7 (emit (report er)) z (λ q. omega arith)
@@ -385,7 +385,7 @@ module _ (i x l w t : List ℕ) (st : Scope) (er : Error) where
   }
 
 -- a message that is not there, counted as far as the count goes
-module _ (i x l w t : List ℕ) (st : Scope) where
+module _ (i x l w t : List ℕ) (st : Progress) where
   pub count-one : {n : ℕ} → (st .unfound ≤ maxUnfound → n ≡ min (st .unfound + 1) maxUnfound) → Acts (emit unfound) (world i x l w t st) (world i x l w t (unfoundS n st))
   unfolding emit exec step andThen
   count-one {n} e = record {
@@ -433,6 +433,6 @@ module _ (i x l w t : List ℕ) (st : Scope) where
   }
 
 -- so much does the count of the state
-pub counts : {st r : Scope} → r ≡ countedS st → (i x l w t : List ℕ) → Acts (emit unfound) (world i x l w t st) (world i x l w t r)
+pub counts : {st r : Progress} → r ≡ countedS st → (i x l w t : List ℕ) → Acts (emit unfound) (world i x l w t st) (world i x l w t r)
 unfolding countedS upTo
-counts {st} e i x l w t = subst (λ (q : Scope). Acts (emit unfound) (world i x l w t st) (world i x l w t q)) (sym e) (count-one i x l w t st (λ _. refl))
+counts {st} e i x l w t = subst (λ (q : Progress). Acts (emit unfound) (world i x l w t st) (world i x l w t q)) (sym e) (count-one i x l w t st (λ _. refl))

@@ -20,7 +20,7 @@ use Rattle.records.proofs.Views.{both, never, id-elim, id-str, optional-elim, t
 use Rattle.records.specs.Optional.{optionOf}
 use Rattle.resolution.specs.Effect.{Bytes, report, emit, write, _>>_}
 use Rattle.resolution.specs.Resolve.{dotted, braced, errorText, writeRefError}
-use Rattle.state.specs.declared.Scope.{Scope}
+use Rattle.state.specs.Progress.{Progress}
 use Rattle.state.specs.declared.Referring.{Referring}
 use Rattle.state.specs.declared.Reference as code-reference
 use Rattle.state.specs.declared.Reference.the-variants as ref
@@ -122,7 +122,7 @@ module _ (s : List ℕ) (at : ℕ) {c : code-reference.Reference} where
     reference-known (unread er y) e n p a f hn ho = let o : _≡_ {A = ℕ} 0 1 = cc in absurd (omega arith)
 
 -- an error's record, then its text
-module _ (i : List ℕ) (at : ℕ) (kind : Referred) (x l w : List ℕ) (st : Scope) where
+module _ (i : List ℕ) (at : ℕ) (kind : Referred) (x l w : List ℕ) (st : Progress) where
   pub ref-none : byteAt i at ≡ bad → RefErrorAt i at kind x l w st x l w st
   ref-none h = record {
     kept = λ t. kept-same _;
@@ -169,7 +169,7 @@ module _ (i : List ℕ) (at : ℕ) (kind : Referred) (x l w : List ℕ) (st : Sc
     }
 
     -- the code read a name, and its attribute if it has one
-    module _ (name : Bytes) (has : Bool) (attribute : Bytes) {x′ l′ w′ : List ℕ} {s₁ r : Scope}
+    module _ (name : Bytes) (has : Bool) (attribute : Bytes) {x′ l′ w′ : List ℕ} {s₁ r : Progress}
         (known : (n : Bytes) (q : ℕ) (a : Option Bytes) (f : ℕ) → idAt i p ≡ got n q → optionalAt idAt i q ≡ got a f → (n ≡ name) × (length name ≤ 255) × (a ≡ optionOf has attribute) × (length attribute ≤ 255))
         (listing : (t : List ℕ) → Kept (world i x l w t st) (world i x l′ w t s₁))
         (lists : length name ≤ 255 → length attribute ≤ 255 → (t : List ℕ) → Acts (emit (report (reference kind name (optionOf has attribute)))) (world i x l w t st) (world i x l′ w t s₁))

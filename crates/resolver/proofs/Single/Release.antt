@@ -12,7 +12,7 @@ use Rattle.records.specs.Decode.{many, namedAt}
 use Rattle.records.proofs.Views.{both}
 use Rattle.resolution.specs.Effect.{free, Locals, State, Out, M, _>>=_, release}
 use Rattle.resolution.specs.Exec.{Machine, Limits, refused, exec, andThen, step}
-use Rattle.state.specs.declared.Scope.{Scope}
+use Rattle.state.specs.Progress.{Progress}
 use Rattle.resolver.specs.Relations.Meets.{World, world, Live, Ended, ended, stopped, Runs, Kept, LocalsAt, no-locals, some-locals, LocalsStay, locals-same, locals-cleared, namedTexts}
 use Rattle.state.specs.Setters.{backS}
 use Rattle.resolver.proofs.Single.Laws.{exec-append, drop-more, kept-same, ended-then}
@@ -84,8 +84,8 @@ module _ (w u : World) where
   ended-release m L s k lw (stopped n e z r) = stopped n (exec-append L (m s .trace) (free (m s .kept) ∷ []) k ∙ rw e) z r
 
   -- the same, where the code gives the state by an equation
-  pub release-back : {A : Type 0} (m : M A) {r : Scope} → r ≡ backS (w .st .back) (u .st) → Runs m w u → Runs (release m) w (world (u .store) (u .text) (u .list) (u .work) (u .trail) r)
-  release-back m er h L s k lw = subst (λ (q : Scope). Ended L w (world (u .store) (u .text) (u .list) (u .work) (u .trail) q) (release m s) k) (sym er) (ended-release m L s k lw (h L s k lw))
+  pub release-back : {A : Type 0} (m : M A) {r : Progress} → r ≡ backS (w .st .back) (u .st) → Runs m w u → Runs (release m) w (world (u .store) (u .text) (u .list) (u .work) (u .trail) r)
+  release-back m er h L s k lw = subst (λ (q : Progress). Ended L w (world (u .store) (u .text) (u .list) (u .work) (u .trail) q) (release m s) k) (sym er) (ended-release m L s k lw (h L s k lw))
 
   -- refused before it was freed
   pub stopped-release : {A : Type 0} (m : M A) (L : Limits) (s : State) (k : Machine) → (u .st .refused ≡ 0 → ⊥) → Ended L w u (m s) k → Ended L w u (release m s) k

@@ -23,9 +23,9 @@ use Rattle.records.specs.Tree.{Named}
 use Rattle.records.specs.Decode.{many, namedAt}
 use Rattle.resolution.specs.Effect.{M, Done, ret, _>>_}
 use Rattle.resolution.specs.Resolve.{noteMerges, mergesOf}
-use Rattle.state.specs.declared.Scope.{Scope}
-use Rattle.state.specs.declared.Value as code-value
-use Rattle.state.specs.declared.Value.the-variants as val
+use Rattle.state.specs.Progress.{Progress}
+use Rattle.values.specs.declared.Value as code-value
+use Rattle.values.specs.declared.Value.the-variants as val
 use Rattle.resolver.specs.Relations.Meets.{World, world, namedTexts, NamedIn, Runs, is-number, is-wrong}
 use Rattle.resolver.specs.Relations.Leaves.{FirstIs, first-none, first-number, first-other, NumberAt}
 use Rattle.state.specs.Setters.{refuseS}
@@ -122,7 +122,7 @@ is-first {m = m} e (first-other v l _ _ h) k = absurd (h m e)
 merges-as : {w v : World} (vs : List Value) (ns : List (List ℕ × Value)) {m : M Done} → mergesOf vs ns ≡ m → Runs (m >> ret (some (numberFunction vs ns))) w v → Runs (mergesOf vs ns >> ret (some (numberFunction vs ns))) w v
 merges-as vs ns e h = runs-as (ap (λ (y : M Done). y >> ret (some (numberFunction vs ns))) e) h
 
-module _ (i w : List ℕ) (st : Scope) (at count base : ℕ) {first : code-value.Value} where
+module _ (i w : List ℕ) (st : Progress) (at count base : ℕ) {first : code-value.Value} where
   pub number-over : {c : code-value.Value} → (st .refused ≡ 0 → ⊥) → NumberAt i w st at count base first st c
   number-over h = record { kept = λ x l t. kept-same _; runs = λ ns f vs low _ _ _ x l t. runs-over _ _ h; holds = λ ns f vs low _ _ _ args back z. absurd (h z) }
 
@@ -134,9 +134,9 @@ module _ (i w : List ℕ) (st : Scope) (at count base : ℕ) {first : code-value
   }
 
   module _ {m : code-number.Number} (e : first ≡ val.Number m) where
-    pub number-long : {r : Scope} → st .refused ≡ 0 → ((x : Options) (ns : Named) (f low : ℕ) → m .options ≡ shownOptions x → many [] _∷_ count namedAt i at ≡ got ns f → NamedIn w low base ns → merges.TooLong ≡ mergedAll (namedTexts ns) x)
+    pub number-long : {r : Progress} → st .refused ≡ 0 → ((x : Options) (ns : Named) (f low : ℕ) → m .options ≡ shownOptions x → many [] _∷_ count namedAt i at ≡ got ns f → NamedIn w low base ns → merges.TooLong ≡ mergedAll (namedTexts ns) x)
         → r ≡ refuseS 17 st → NumberAt i w st at count base first r val.Wrong
-    number-long {r} z h er = subst (λ (y : Scope). NumberAt i w st at count base first y val.Wrong) (sym er) (record {
+    number-long {r} z h er = subst (λ (y : Progress). NumberAt i w st at count base first y val.Wrong) (sym er) (record {
       kept = λ x l t. record { begun = omega arith; over = λ n. absurd (n z) };
       runs = λ ns f vs low all fi ni x l t. is-first e fi (λ n k ev em _.
           merges-as vs (namedTexts ns) (ap (λ (y : List Value). mergesOf y (namedTexts ns)) ev ∙ first-merges n k (namedTexts ns) .0)

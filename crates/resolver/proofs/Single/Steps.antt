@@ -10,7 +10,7 @@ use Rattle.records.specs.Decode.{expression, inline}
 use Rattle.records.proofs.Views.{both, never, select-elim, expression-elim}
 use Rattle.resolution.specs.Effect.{M, write}
 use Rattle.resolution.specs.Resolve.{braced, errorOf, cutShort, mark}
-use Rattle.state.specs.declared.Scope.{Scope}
+use Rattle.state.specs.Progress.{Progress}
 use Rattle.resolver.specs.Relations.Meets.{World, world, Runs, Acts}
 use Rattle.resolver.specs.Relations.Leaves.{ErrorAt, CutAt}
 use Rattle.resolver.proofs.Single.Laws.{kept-same, runs-ret, runs-dirty}
@@ -28,7 +28,7 @@ pub runs-over : {A : Type 0} (m : M A) (w : World) → (w .st .refused ≡ 0 →
 runs-over m w h = acts-over m w h .runs
 
 -- an expression that was cut short
-module _ (s : List ℕ) (at : ℕ) (x w : List ℕ) (st : Scope) where
+module _ (s : List ℕ) (at : ℕ) (x w : List ℕ) (st : Progress) where
   pub cut-over : (st .refused ≡ 0 → ⊥) → CutAt s at x w st x w st
   cut-over h = record { kept = λ l t. kept-same _; runs = λ l t d i f q. runs-over _ _ h }
 
@@ -39,7 +39,7 @@ module _ (s : List ℕ) (at : ℕ) (x w : List ℕ) (st : Scope) where
   pub cut-none : byteAt s at ≡ bad → CutAt s at x w st x w st
   cut-none h = record { kept = λ l t. kept-same _; runs = λ l t d i f q. expression-elim s at d q (λ p hb z k. never h hb) (λ tag p i′ hb nt z ew hi. never h hb) }
 
-  module _ (tag p : ℕ) (h : byteAt s at ≡ got tag p) (dirt : st .dirty ≡ true) {x′ w′ : List ℕ} {r : Scope} where
+  module _ (tag p : ℕ) (h : byteAt s at ≡ got tag p) (dirt : st .dirty ≡ true) {x′ w′ : List ℕ} {r : Progress} where
     pub cut-select : tag ≡ 8 → ErrorAt s p x w st x′ w′ r → CutAt s at x w st x′ w′ r
     unfolding cutShort mark errorOf
     cut-select t8 e = record {

@@ -25,9 +25,9 @@ use Rattle.records.proofs.Views.{many-cons, many-nil}
 use Rattle.resolution.specs.Effect.{Bytes, put, open-text, keep-text, State, Out, M, ret, _>>=_, write, capture}
 use Rattle.resolution.specs.Resolve.{held, stringIf, stringValue, literalValue, namedValues}
 use Rattle.resolution.specs.Exec.{Machine, Limits, ran, refused, exec, andThen, step, allow, allowIf, putAt, putWork}
-use Rattle.state.specs.declared.Scope.{Scope}
-use Rattle.state.specs.declared.Value as code-value
-use Rattle.state.specs.declared.Value.the-variants as val
+use Rattle.state.specs.Progress.{Progress}
+use Rattle.values.specs.declared.Value as code-value
+use Rattle.values.specs.declared.Value.the-variants as val
 use Rattle.resolver.specs.declared.scope.value.NamedSpan.{NamedSpan}
 use Rattle.resolver.specs.declared.scope.value.NamedRead as code-named
 use Rattle.resolver.specs.declared.scope.value.NamedRead.the-variants as named
@@ -103,7 +103,7 @@ unfolding TextIn
 text-of w base t h x = sym (ap (λ (n : ℕ). part w (base - n) n) (takes-marked t h)) ∙ x h
 
 -- a string literal: what the code does in each case
-module _ (i : List ℕ) (a e : ℕ) (w : List ℕ) (st : Scope) where
+module _ (i : List ℕ) (a e : ℕ) (w : List ℕ) (st : Progress) where
   pub string-over : {c : code-value.Value} → (st .refused ≡ 0 → ⊥) → StringAt i a e w st w st c
   string-over h = record { kept = λ x l t. kept-same _; runs = λ _ _ x l t. runs-over _ _ h; size = refl; holds = λ _ _ args x l t L s k lv. absurd (h (lv .go)); text = λ _ _ x l t L s k lv. absurd (h (lv .go)) }
 
@@ -117,10 +117,10 @@ module _ (i : List ℕ) (a e : ℕ) (w : List ℕ) (st : Scope) where
   }
 
   module _ (h : hasBackslash (part i a (e - a)) ≡ true) (z : st .refused ≡ 0) where
-    pub string-full : {c : code-value.Value} {r : Scope} → (st .front ≤ st .back → st .back ≤ length w → st .back < st .front + length (unescape (part i a (e - a)))) → r ≡ refuseS 16 st → StringAt i a e w st w r c
+    pub string-full : {c : code-value.Value} {r : Progress} → (st .front ≤ st .back → st .back ≤ length w → st .back < st .front + length (unescape (part i a (e - a)))) → r ≡ refuseS 16 st → StringAt i a e w st w r c
     string-full {r = r} f g =
-        let b : r .begun ≡ st .begun = ap (λ (q : Scope). q .begun) g in
-        let o : r .refused ≡ 16 = ap (λ (q : Scope). q .refused) g in
+        let b : r .begun ≡ st .begun = ap (λ (q : Progress). q .begun) g in
+        let o : r .refused ≡ 16 = ap (λ (q : Progress). q .refused) g in
         record {
           kept = λ x l t. record { begun = omega arith; over = λ n. absurd (n z) };
           runs = λ p q x l t. runs-as (string-marked _ h) (λ L s k lv.
@@ -132,7 +132,7 @@ module _ (i : List ℕ) (a e : ℕ) (w : List ℕ) (st : Scope) where
           text = λ p q x l t L s k lv y. absurd (omega arith);
         }
 
-    module _ {n hi : ℕ} {w′ : List ℕ} {r : Scope} (en : n ≡ length (unescape (part i a (e - a)))) (f : st .front + n ≤ st .back) (g : st .back ≤ length w) (ew : w′ ≡ over w (st .back - n) (unescape (part i a (e - a))))
+    module _ {n hi : ℕ} {w′ : List ℕ} {r : Progress} (en : n ≡ length (unescape (part i a (e - a)))) (f : st .front + n ≤ st .back) (g : st .back ≤ length w) (ew : w′ ≡ over w (st .back - n) (unescape (part i a (e - a))))
         (eh : hi ≡ max (st .high) (st .front + (length w′ - (st .back - n)))) (er : r ≡ heldS (st .back - n) hi st) where
       len : length w′ ≡ length w
       len = ap length ew ∙ length-over w (st .back - n) (unescape (part i a (e - a))) (omega arith)
@@ -196,7 +196,7 @@ module _ (i : List ℕ) (a e : ℕ) (w : List ℕ) (st : Scope) where
       }
 
       pub string-kept : StringAt i a e w st w′ r (val.Work (st .back - n) (st .back))
-      string-kept = subst (λ (q : Scope). StringAt i a e w st w′ q (val.Work (st .back - n) (st .back))) (sym er) (record {
+      string-kept = subst (λ (q : Progress). StringAt i a e w st w′ q (val.Work (st .back - n) (st .back))) (sym er) (record {
         kept = λ x l t. record { begun = omega arith; over = λ _. refl };
         runs = λ p q x l t. runs-as (string-marked _ h) (λ L s k lv.
             subst (λ (y : Out Value). Ended L (world i x l w t st) (world i x l w′ t (heldS (st .back - n) hi st)) y k) (sym (held-out _ s))
@@ -219,7 +219,7 @@ marked-part i {t} a e h m = ⊎-elim
     none : t ≡ [] → t ≡ part i a (e - a)
     none z = let c : _≡_ {A = ℕ} 0 1 = (let y : false ≡ true = sym (ap hasBackslash z) ∙ m in cc) in absurd (omega arith)
 
-module _ (i : Bytes) {t : Bytes} (a e : ℕ) {w : List ℕ} {st : Scope} (et : t ≡ between i a e) where
+module _ (i : Bytes) {t : Bytes} (a e : ℕ) {w : List ℕ} {st : Progress} (et : t ≡ between i a e) where
   pub string-stored : hasBackslash t ≡ false → StringAt i a e w st w st (val.Store a e)
   string-stored h = record {
     kept = λ x l y. kept-same _;
@@ -233,12 +233,12 @@ module _ (i : Bytes) {t : Bytes} (a e : ℕ) {w : List ℕ} {st : Scope} (et : t
       at p q = string-here i a e w st (subst (λ (m : Bytes). hasBackslash m ≡ false) (et ∙ between-in i a e p q) h)
 
   module _ (h : hasBackslash t ≡ true) (z : st .refused ≡ 0) where
-    pub string-refused : {c : code-value.Value} {r : Scope} → (st .front ≤ st .back → st .back ≤ length w → st .back < st .front + length (unescape t)) → r ≡ refuseS 16 st → StringAt i a e w st w r c
+    pub string-refused : {c : code-value.Value} {r : Progress} → (st .front ≤ st .back → st .back ≤ length w → st .back < st .front + length (unescape t)) → r ≡ refuseS 16 st → StringAt i a e w st w r c
     string-refused f g =
         let q = marked-part i a e et h in
         string-full i a e w st (subst (λ (m : Bytes). hasBackslash m ≡ true) q h) z (subst (λ (m : Bytes). st .front ≤ st .back → st .back ≤ length w → st .back < st .front + length (unescape m)) q f) g
 
-    pub string-held : {n hi : ℕ} {w′ : List ℕ} {r : Scope} → n ≡ length (unescape t) → st .front + n ≤ st .back → st .back ≤ length w → w′ ≡ over w (st .back - n) (unescape t)
+    pub string-held : {n hi : ℕ} {w′ : List ℕ} {r : Progress} → n ≡ length (unescape t) → st .front + n ≤ st .back → st .back ≤ length w → w′ ≡ over w (st .back - n) (unescape t)
         → hi ≡ max (st .high) (st .front + (length w′ - (st .back - n))) → r ≡ heldS (st .back - n) hi st → StringAt i a e w st w′ r (val.Work (st .back - n) (st .back))
     string-held {n} {w′ = w′} en f g ew eh er =
         let q = marked-part i a e et h in
@@ -291,7 +291,7 @@ string-keeps t s = go (hasBackslash t) refl
     go false h = ap (λ (m : M Value). m s .kept) (string-plain t h) ∙ ret-keeps (textual t) s ∙ sym (takes-plain t h)
 
 -- a string literal and the named arguments after it
-module _ (i w w₁ w′ x l t : List ℕ) (st s₁ v : Scope) (b name : Bytes) (bs : Named) (L : Limits) (s : State) (k : Machine) (lv : Live L (world i x l w t st) s k)
+module _ (i w w₁ w′ x l t : List ℕ) (st s₁ v : Progress) (b name : Bytes) (bs : Named) (L : Limits) (s : State) (k : Machine) (lv : Live L (world i x l w t st) s k)
     (text : s₁ .refused ≡ 0 → TextIn w₁ (st .back) (Literal.string b)) (kp : Kept (world i x l w₁ t s₁) (world i x l w′ t v)) (fine : v .refused ≡ 0)
     (runs : Runs (namedValues bs) (world i x l w₁ t s₁) (world i x l w′ t v)) (more : (s′ : State) (k′ : Machine) → Live L (world i x l w₁ t s₁) s′ k′ → NamedIn w′ (v .back) (s₁ .back) bs) where
   then-in : (k′ : Machine) → Live L (world i x l w₁ t s₁) (stringValue b s .state) k′ → Moved (world i x l w t st) (world i x l w₁ t s₁) (stringValue b s)
@@ -330,7 +330,7 @@ unfolding TextIn
 digits-text w base x t e = subst (TextIn w base) (sym e) tt
 
 -- named arguments, one after the other
-module _ (i : List ℕ) (at n : ℕ) (w : List ℕ) (st : Scope) where
+module _ (i : List ℕ) (at n : ℕ) (w : List ℕ) (st : Progress) where
   pub named-end : n ≤ 0 → NamedAt i at n w st w st
   unfolding namedValues
   named-end z = record {
@@ -347,7 +347,7 @@ module _ (i : List ℕ) (at n : ℕ) (w : List ℕ) (st : Scope) where
       named = λ ns f all. named-never i at read n z all h;
     }
 
-    module _ {sp : NamedSpan} (h : r ≡ named.Is sp) {w′ : List ℕ} {v : Scope} where
+    module _ {sp : NamedSpan} (h : r ≡ named.Is sp) {w′ : List ℕ} {v : Progress} where
       digits-go : NamedAt i (sp .end) (n - 1) w st w′ v → (a : List ℕ × Literal) (bs : Named) (f : ℕ) (x l t : List ℕ) → (sp .tag ≡ 1 → ⊥) → LiteralIs i (sp .tag) (sp .start) (sp .end) (a .1) → many [] _∷_ (n - 1) namedAt i (sp .end) ≡ got bs f → Runs (namedValues (a ∷ bs)) (world i x l w t st) (world i x l w′ t v)
       digits-go rest a bs f x l t nt (is-string e _) more = absurd (nt e)
       digits-go rest a bs f x l t nt (is-digits e _ ea) more = cons-runs a bs (digits-runs (a .1) _ _ ea) (rest .kept x l t) (rest .runs bs f more x l t)
@@ -368,7 +368,7 @@ module _ (i : List ℕ) (at n : ℕ) (w : List ℕ) (st : Scope) where
         named = λ ns f all x l t L s k lv y. named-first i at read n z all h (λ a bs _ lit more e. subst (NamedIn w′ (v .back) (st .back)) (sym e) (digits-in rest a bs f nt lit more x l t L s k lv y));
       }
 
-      module _ {w₁ : List ℕ} {s₁ : Scope} {c : code-value.Value} (is : sp .tag ≡ 1) (str : StringAt i (sp .start) (sp .end) w st w₁ s₁ c) (rest : NamedAt i (sp .end) (n - 1) w₁ s₁ w′ v) where
+      module _ {w₁ : List ℕ} {s₁ : Progress} {c : code-value.Value} (is : sp .tag ≡ 1) (str : StringAt i (sp .start) (sp .end) w st w₁ s₁ c) (rest : NamedAt i (sp .end) (n - 1) w₁ s₁ w′ v) where
         ins : (sp .from ≤ sp .to) × (sp .to ≤ length i) × (sp .start ≤ sp .end) × (sp .end ≤ length i)
         ins = read .inside sp h
 
@@ -392,12 +392,12 @@ module _ (i : List ℕ) (at n : ℕ) (w : List ℕ) (st : Scope) where
         }
 
 -- the same, where the code's state after the literal is another name for it
-pub named-string-as : (i : List ℕ) (at n : ℕ) (w : List ℕ) (st : Scope) {r : code-named.NamedRead} → 0 < n → NamedReads i at r → {sp : NamedSpan} → r ≡ named.Is sp → {w₁ w₂ w′ : List ℕ} {s₁ s₂ v : Scope} {c : code-value.Value}
+pub named-string-as : (i : List ℕ) (at n : ℕ) (w : List ℕ) (st : Progress) {r : code-named.NamedRead} → 0 < n → NamedReads i at r → {sp : NamedSpan} → r ≡ named.Is sp → {w₁ w₂ w′ : List ℕ} {s₁ s₂ v : Progress} {c : code-value.Value}
     → sp .tag ≡ 1 → StringAt i (sp .start) (sp .end) w st w₁ s₁ c → w₂ ≡ w₁ → s₂ ≡ s₁ → NamedAt i (sp .end) (n - 1) w₂ s₂ w′ v → NamedAt i at n w st w′ v
 named-string-as i at n w st z read {sp} h {w₁} {w₂} {w′} {s₁} {s₂} {v} is str ew es rest =
-    named-string i at n w st z read h is str (subst (λ (y : Scope). NamedAt i (sp .end) (n - 1) w₁ y w′ v) es (subst (λ (y : List ℕ). NamedAt i (sp .end) (n - 1) y s₂ w′ v) ew rest))
+    named-string i at n w st z read h is str (subst (λ (y : Progress). NamedAt i (sp .end) (n - 1) w₁ y w′ v) es (subst (λ (y : List ℕ). NamedAt i (sp .end) (n - 1) y s₂ w′ v) ew rest))
 
-pub named-digits-as : (i : List ℕ) (at n : ℕ) (w : List ℕ) (st : Scope) {r : code-named.NamedRead} → 0 < n → NamedReads i at r → {sp : NamedSpan} → r ≡ named.Is sp → {w₂ w′ : List ℕ} {s₂ v : Scope}
+pub named-digits-as : (i : List ℕ) (at n : ℕ) (w : List ℕ) (st : Progress) {r : code-named.NamedRead} → 0 < n → NamedReads i at r → {sp : NamedSpan} → r ≡ named.Is sp → {w₂ w′ : List ℕ} {s₂ v : Progress}
     → (sp .tag ≡ 1 → ⊥) → w₂ ≡ w → s₂ ≡ st → NamedAt i (sp .end) (n - 1) w₂ s₂ w′ v → NamedAt i at n w st w′ v
 named-digits-as i at n w st z read {sp} h {w₂} {w′} {s₂} {v} nt ew es rest =
-    named-digits i at n w st z read h nt (subst (λ (y : Scope). NamedAt i (sp .end) (n - 1) w y w′ v) es (subst (λ (y : List ℕ). NamedAt i (sp .end) (n - 1) y s₂ w′ v) ew rest))
+    named-digits i at n w st z read h nt (subst (λ (y : Progress). NamedAt i (sp .end) (n - 1) w y w′ v) es (subst (λ (y : List ℕ). NamedAt i (sp .end) (n - 1) y s₂ w′ v) ew rest))

@@ -30,11 +30,11 @@ use Rattle.resolution.specs.Effect.{Bytes, report, Locals, State, Out, M, ret, 
 use Rattle.resolution.specs.Resolve.{foundOr, variableIn, getVariable, writeVariable, orWrong, braced}
 use Rattle.resolution.specs.Format.{valueOf, valuesOf}
 use Rattle.resolution.specs.Exec.{Machine, Limits}
-use Rattle.state.specs.declared.Scope.{Scope}
-use Rattle.state.specs.declared.Value as code-value
-use Rattle.state.specs.declared.Value.the-variants as val
-use Rattle.state.specs.declared.Local as code-local
-use Rattle.state.specs.declared.Local.the-variants as loc
+use Rattle.state.specs.Progress.{Progress}
+use Rattle.values.specs.declared.Value as code-value
+use Rattle.values.specs.declared.Value.the-variants as val
+use Rattle.values.specs.declared.Local as code-local
+use Rattle.values.specs.declared.Local.the-variants as loc
 use Rattle.resolver.specs.Relations.Meets.{World, world, Live, namedTexts, NamedIn, LocalsAt, no-locals, some-locals, Ended, Runs, Kept, Acts, Holds, in-store, in-args, in-work, is-number, is-nothing, is-wrong, env, Setup}
 use Rattle.resolver.specs.Relations.Leaves.{LocalIs, is-there, is-missing, variableOf, MissingAt, VariableAt, VariableValueAt}
 use Rattle.resolver.specs.Relations.Values.{valueOfSome, Ranged}
@@ -153,12 +153,12 @@ module _ (args : List (Bytes × Value)) (name : Bytes) {B : Type 0} (f : Option 
   unfolding _>>=_
   value-found {o} s e = ap (λ (q : Out (Option Value)). f (q .value) (q .state) .value) (get-found args name s (s .locals) o refl e)
 
-  module _ (i x l w t : List ℕ) (st : Scope) {l′ : List ℕ} {r : Scope} (ms : MissingAt l st name l′ r) {v : World} (kp : Kept (world i x l′ w t r) v) (small : length name ≤ 255) (h : Runs (f none) (world i x l′ w t r) v) (L : Limits) (s : State) (k : Machine)
+  module _ (i x l w t : List ℕ) (st : Progress) {l′ : List ℕ} {r : Progress} (ms : MissingAt l st name l′ r) {v : World} (kp : Kept (world i x l′ w t r) v) (small : length name ≤ 255) (h : Runs (f none) (world i x l′ w t r) v) (L : Limits) (s : State) (k : Machine)
       (lv : Live L (world i x l w t st) s k) where
     missing-inside : (ns : List (Bytes × Value)) → s .locals ≡ some ns → st .local ≡ true → lastNamed name ns ≡ none → Ended L (world i x l w t st) v ((getVariable args name >>= f) s) k
     missing-inside ns e b n =
         let q = ms .inside b in
-        let o : world i x l w t st ≡ world i x l′ w t r = ap (λ (y : List ℕ). world i x y w t st) (sym (q .1)) ∙ ap (λ (y : Scope). world i x l′ w t y) (sym (q .0)) in
+        let o : world i x l w t st ≡ world i x l′ w t r = ap (λ (y : List ℕ). world i x y w t st) (sym (q .1)) ∙ ap (λ (y : Progress). world i x l′ w t y) (sym (q .0)) in
         then-as s _ (get-inside args name s ns e n) kp (subst (λ (y : World). Ended {A = Option Value} L (world i x l w t st) y (record { trace = []; text = []; kept = 0; state = s; value = none }) k) o (ended-none L (world i x l w t st) s k none lv)) (λ k′ l″. h L s k′ l″)
 
     missing-outside : s .locals ≡ none → st .local ≡ false → lastNamed name args ≡ none → Ended L (world i x l w t st) v ((getVariable args name >>= f) s) k
@@ -216,10 +216,10 @@ variable-given name i a g {given} {w = w} {l = l} {r = r} ha lc h wi e k =
     (k (w .st .back) wi (subst Ranged (sym e) (last-ranged name a ha)))
 
 -- a missing variable
-pub missing-silent : {l : List ℕ} {st : Scope} {name : Bytes} → st .local ≡ true → MissingAt l st name l st
+pub missing-silent : {l : List ℕ} {st : Progress} {name : Bytes} → st .local ≡ true → MissingAt l st name l st
 missing-silent h = record { kept = λ i x w t. kept-same _; inside = λ _. (refl, refl); outside = λ b. let z : _≡_ {A = ℕ} 0 1 = cc in absurd (omega arith) }
 
-pub missing-listed : {l l′ : List ℕ} {st r : Scope} {name : Bytes} → st .local ≡ false → ((i x w t : List ℕ) → Kept (world i x l w t st) (world i x l′ w t r))
+pub missing-listed : {l l′ : List ℕ} {st r : Progress} {name : Bytes} → st .local ≡ false → ((i x w t : List ℕ) → Kept (world i x l w t st) (world i x l′ w t r))
     → (length name ≤ 255 → (i x w t : List ℕ) → Acts (emit (report (reference Referred.variable name none))) (world i x l w t st) (world i x l′ w t r)) → MissingAt l st name l′ r
 missing-listed h k a = record { kept = k; inside = λ b. (let z : _≡_ {A = ℕ} 0 1 = cc in absurd (omega arith)); outside = λ _. a }
 
@@ -228,7 +228,7 @@ pub part-small : (s : List ℕ) (a n : ℕ) → n ≤ 255 → length (part s a n
 part-small s a n h = let q = length-take n (drop a s) in omega arith
 
 -- a variable written
-module _ (s args : List ℕ) (a b : ℕ) (x l w t : List ℕ) (st : Scope) where
+module _ (s args : List ℕ) (a b : ℕ) (x l w t : List ℕ) (st : Progress) where
   module _ {r : code-local.Local} (fd : (u : Setup (env s args)) (L : Limits) (q : State) (k : Machine) → Live L (world s x l w t st) q k → LocalIs s args w (st .back) r (variableOf (valuesOf (u .given)) (part s a (b - a)) (q .locals))) where
     found-there : {C : Type 0} {c : code-value.Value} → r ≡ loc.Is c → {o : Option Value} → LocalIs s args w (st .back) r o → ((v : Value) → o ≡ some v → Holds s args w (st .back) c v → C) → C
     found-there {c = c} e (is-there c′ v p q h) k = let y : c′ ≡ c = same (sym p ∙ e) in k v q (subst (λ (z : code-value.Value). Holds s args w (st .back) z v) y h)
@@ -256,7 +256,7 @@ module _ (s args : List ℕ) (a b : ℕ) (x l w t : List ℕ) (st : Scope) where
       holds = λ u p q n z L m k lv _. found-there e (fd u L m k lv) (λ y ey hy. subst (λ (o : Value). Holds s args w (st .back) c o) (sym (value-found (valuesOf (u .given)) (part s a (b - a)) (λ o. orWrong o) m ey)) hy);
     }
 
-    module _ {l′ : List ℕ} {s₁ : Scope} (e : r ≡ loc.Missing) (ms : MissingAt l st (part s a (b - a)) l′ s₁) where
+    module _ {l′ : List ℕ} {s₁ : Progress} (e : r ≡ loc.Missing) (ms : MissingAt l st (part s a (b - a)) l′ s₁) where
       write-missing-part : {v : World} → Acts (write (123 ∷ 36 ∷ part s a (b - a) ++ (125 ∷ []))) (world s x l′ w t s₁) v → VariableAt (env s args) a b (world s x l w t st) v
       unfolding writeVariable braced
       write-missing-part h = record {
@@ -283,7 +283,7 @@ module _ (s args : List ℕ) (a b : ℕ) (x l w t : List ℕ) (st : Scope) where
     pub resolve-found : {c : code-value.Value} → r ≡ loc.Is c → VariableValueAt (env s args) a b (world s x l w t st) (world s x l w t st) c
     resolve-found e = record { kept = kept-same _; runs = λ u p q. resolve-found-part (fd-at p q) e .runs u p q; holds = λ u p q. resolve-found-part (fd-at p q) e .holds u p q }
 
-    module _ {l′ : List ℕ} {s₁ : Scope} (e : r ≡ loc.Missing) (ms : MissingAt l st n l′ s₁) where
+    module _ {l′ : List ℕ} {s₁ : Progress} (e : r ≡ loc.Missing) (ms : MissingAt l st n l′ s₁) where
       ms-at : a ≤ b → b ≤ length s → MissingAt l st (part s a (b - a)) l′ s₁
       ms-at p q = subst (λ (m : Bytes). MissingAt l st m l′ s₁) (en ∙ between-in s a b p q) ms
 

@@ -13,9 +13,9 @@ use Rattle.records.specs.Bytes.{part}
 use Rattle.records.specs.Errors.{Referred, reference}
 use Rattle.resolution.specs.Effect.{Bytes, report, _>>_, emit, write}
 use Rattle.resolution.specs.Resolve.{braced, writeRefError, writeResult}
-use Rattle.state.specs.declared.Value as code-value
-use Rattle.state.specs.declared.Value.the-variants as val
-use Rattle.resolver.specs.Relations.Meets.{World, env, Kept, Acts, Holds, in-store, in-args, in-work, is-number, is-nothing, is-wrong}
+use Rattle.values.specs.declared.Value as code-value
+use Rattle.values.specs.declared.Value.the-variants as val
+use Rattle.resolver.specs.Relations.Meets.{World, Env, env, Kept, Acts, Holds, in-store, in-args, in-work, is-number, is-nothing, is-wrong}
 use Rattle.resolver.specs.Relations.Leaves.{ResultIs, has-result, no-function, ResultAt}
 use Rattle.resolver.proofs.Single.Laws.{kept-then, acts-then}
 use Rattle.resolver.proofs.Single.Steps.{runs-as}
@@ -95,3 +95,7 @@ module _ (s args : List ℕ) (a b : ℕ) {found : Bool} {c : code-value.Value} w
     result-none {w} {u} {v} f kp h g = result-in (kept-then kp (g .kept)) (λ p q.
         let e = en ∙ between-in s a b p q in
         none-part f kp (subst (λ (m : Bytes). length m ≤ 255 → Acts (emit (report (reference Referred.function m none))) w u) e h) (subst (λ (m : Bytes). Acts (write (123 ∷ m ++ (40 ∷ 41 ∷ 125 ∷ []))) u v) e g))
+
+-- what holds of a value that was told holds of where it was told from
+pub result-held : {e : Env} {a b : ℕ} {found : Bool} {c d : code-value.Value} {w v : World} → c ≡ d → ResultAt e a b found c w v → ResultAt e a b found d w v
+result-held {e} {a} {b} {found} {w = w} {v = v} h r = subst (λ (y : code-value.Value). ResultAt e a b found y w v) h r

@@ -15,17 +15,17 @@ use Rattle.records.specs.Tree.{Literal, Named, Expression, Inline, and, Argumen
 use Rattle.records.specs.Decode.{many, idAt, optionalAt, namedAt, expression, inline}
 use Rattle.records.specs.Errors.{Referred, reference, tooManyPlaceables}
 use Rattle.records.specs.Optional.{optionOf}
-use Rattle.state.specs.declared.Scope.{Scope}
-use Rattle.state.specs.declared.Value as code-value
-use Rattle.state.specs.declared.Value.the-variants as val
-use Rattle.state.specs.declared.Local as code-local
+use Rattle.state.specs.Progress.{Progress}
+use Rattle.values.specs.declared.Value as code-value
+use Rattle.values.specs.declared.Value.the-variants as val
+use Rattle.values.specs.declared.Local as code-local
 use Rattle.state.specs.declared.Reference as code-reference
 use Rattle.state.specs.declared.Reference.the-variants as ref
-use Rattle.state.specs.declared.Local.the-variants as loc
+use Rattle.values.specs.declared.Local.the-variants as loc
 use Rattle.state.specs.declared.Referring.{Referring}
 use Rattle.resolver.specs.declared.scope.error.Pieces.{Pieces}
 use Rattle.arguments.specs.Relations.Given.{between}
-use Rattle.state.specs.Setters.{begunS}
+use Rattle.state.specs.Setters.{begunS, localsS}
 use Rattle.decimals.specs.declared.types.Number as code-number
 use Rattle.resolution.specs.Effect.{Bytes, Locals, State, ret, _>>=_, _>>_, emit, write, report}
 use Rattle.resolution.specs.Resolve.{dotted, braced, errorText, errorOf, cutShort, stringValue, namedValues, mergesOf, writeRefError, getVariable, writeVariable, orWrong, writeResult}
@@ -68,17 +68,17 @@ pub record PiecesAt (i : List ℕ) (at : ℕ) (p : Pieces) : Type 0 where
   pub reads : (d : ℕ) (y : Inline) (f : ℕ) → inline d i at ≡ got y f → braced (errorText y) ≡ piecesText errorWords i p
 
 -- what stands in the place of an inline expression that has an error
-pub record ErrorAt (i : List ℕ) (at : ℕ) (x w : List ℕ) (st : Scope) (x′ w′ : List ℕ) (r : Scope) : Type 0 where
+pub record ErrorAt (i : List ℕ) (at : ℕ) (x w : List ℕ) (st : Progress) (x′ w′ : List ℕ) (r : Progress) : Type 0 where
   pub kept : (l t : List ℕ) → Kept (world i x l w t st) (world i x′ l w′ t r)
   pub runs : (l t : List ℕ) (d : ℕ) (y : Inline) (f : ℕ) → inline d i at ≡ got y f → Runs (write (braced (errorText y))) (world i x l w t st) (world i x′ l w′ t r)
 
 -- where an expression was cut short, its error
-pub record CutAt (i : List ℕ) (at : ℕ) (x w : List ℕ) (st : Scope) (x′ w′ : List ℕ) (r : Scope) : Type 0 where
+pub record CutAt (i : List ℕ) (at : ℕ) (x w : List ℕ) (st : Progress) (x′ w′ : List ℕ) (r : Progress) : Type 0 where
   pub kept : (l t : List ℕ) → Kept (world i x l w t st) (world i x′ l w′ t r)
   pub runs : (l t : List ℕ) (d : ℕ) (y : Expression) (f : ℕ) → expression d i at ≡ got y f → Runs (cutShort (braced (errorOf y))) (world i x l w t st) (world i x′ l w′ t r)
 
 -- the 101st placeable
-pub record TooMany (l : List ℕ) (st : Scope) (l′ : List ℕ) (r : Scope) : Type 0 where
+pub record TooMany (l : List ℕ) (st : Progress) (l′ : List ℕ) (r : Progress) : Type 0 where
   pub acts : (i x w t : List ℕ) → Acts (emit (report tooManyPlaceables)) (world i x l w t (begunS 101 true st)) (world i x l′ w t r)
 
 -- what NUMBER sees of the first positional value: a number, or something else
@@ -93,7 +93,7 @@ pub data ResultIs (i a w : List ℕ) (low : ℕ) (found : Bool) (c : code-value.
   no-function : found ≡ false → c ≡ val.Wrong → o ≡ none → ResultIs i a w low found c o
 
 -- a string literal's value
-pub record StringAt (i : List ℕ) (a e : ℕ) (w : List ℕ) (st : Scope) (w′ : List ℕ) (r : Scope) (c : code-value.Value) : Type 0 where
+pub record StringAt (i : List ℕ) (a e : ℕ) (w : List ℕ) (st : Progress) (w′ : List ℕ) (r : Progress) (c : code-value.Value) : Type 0 where
   pub kept : (x l t : List ℕ) → Kept (world i x l w t st) (world i x l w′ t r)
   pub runs : a ≤ e → e ≤ length i → (x l t : List ℕ) → Runs (stringValue (part i a (e - a))) (world i x l w t st) (world i x l w′ t r)
   pub size : length w′ ≡ length w
@@ -103,14 +103,20 @@ pub record StringAt (i : List ℕ) (a e : ℕ) (w : List ℕ) (st : Scope) (w′
       → TextIn w′ (st .back) (Literal.string (part i a (e - a)))
 
 -- named arguments, in stored order
-pub record NamedAt (i : List ℕ) (at count : ℕ) (w : List ℕ) (st : Scope) (w′ : List ℕ) (r : Scope) : Type 0 where
+pub record NamedAt (i : List ℕ) (at count : ℕ) (w : List ℕ) (st : Progress) (w′ : List ℕ) (r : Progress) : Type 0 where
   pub kept : (x l t : List ℕ) → Kept (world i x l w t st) (world i x l w′ t r)
   pub runs : (ns : Named) (f : ℕ) → many [] _∷_ count namedAt i at ≡ got ns f → (x l t : List ℕ) → Runs (namedValues ns) (world i x l w t st) (world i x l w′ t r)
   pub named : (ns : Named) (f : ℕ) → many [] _∷_ count namedAt i at ≡ got ns f → (x l t : List ℕ) (L : Limits) (s : State) (k : Machine) → Live L (world i x l w t st) s k
       → r .refused ≡ 0 → NamedIn w′ (r .back) (st .back) ns
 
+-- the same, and they are a term's from here on
+pub record NamedSet (i : List ℕ) (at count : ℕ) (w : List ℕ) (st : Progress) (w′ : List ℕ) (r : Progress) : Type 0 where
+  pub between : Progress
+  pub named : NamedAt i at count w st w′ between
+  pub sets : r ≡ localsS at count (st .back) between
+
 -- a call of NUMBER: its named options merged, or refused with 17
-pub record NumberAt (i : List ℕ) (w : List ℕ) (st : Scope) (at count base : ℕ) (first : code-value.Value) (r : Scope) (c : code-value.Value) : Type 0 where
+pub record NumberAt (i : List ℕ) (w : List ℕ) (st : Progress) (at count base : ℕ) (first : code-value.Value) (r : Progress) (c : code-value.Value) : Type 0 where
   pub kept : (x l t : List ℕ) → Kept (world i x l w t st) (world i x l w t r)
   pub runs : (ns : Named) (f : ℕ) (vs : List Value) (low : ℕ) → many [] _∷_ count namedAt i at ≡ got ns f → FirstIs first vs → NamedIn w low base ns → (x l t : List ℕ)
       → Runs (mergesOf vs (namedTexts ns) >> ret (some (numberFunction vs (namedTexts ns)))) (world i x l w t st) (world i x l w t r)
@@ -118,7 +124,7 @@ pub record NumberAt (i : List ℕ) (w : List ℕ) (st : Scope) (at count base : 
       → st .refused ≡ 0 → r .refused ≡ 0 → Holds i args w back c (numberFunction vs (namedTexts ns))
 
 -- a missing variable: nothing inside a term, outside it is listed
-pub record MissingAt (l : List ℕ) (st : Scope) (name : Bytes) (l′ : List ℕ) (r : Scope) : Type 0 where
+pub record MissingAt (l : List ℕ) (st : Progress) (name : Bytes) (l′ : List ℕ) (r : Progress) : Type 0 where
   pub kept : (i x w t : List ℕ) → Kept (world i x l w t st) (world i x l′ w t r)
   pub inside : st .local ≡ true → (r ≡ st) × (l′ ≡ l)
   pub outside : st .local ≡ false → length name ≤ 255 → (i x w t : List ℕ) → Acts (emit (report (reference Referred.variable name none))) (world i x l w t st) (world i x l′ w t r)
@@ -143,7 +149,7 @@ pub record ResultAt (e : Env) (a b : ℕ) (found : Bool) (c : code-value.Value) 
       → Runs (writeResult (part (e .store) a (b - a)) o) w v
 
 -- `write_ref_error` of the message or term reference at `at`
-pub record RefErrorAt (i : List ℕ) (at : ℕ) (kind : Referred) (x l w : List ℕ) (st : Scope) (x′ l′ w′ : List ℕ) (r : Scope) : Type 0 where
+pub record RefErrorAt (i : List ℕ) (at : ℕ) (kind : Referred) (x l w : List ℕ) (st : Progress) (x′ l′ w′ : List ℕ) (r : Progress) : Type 0 where
   pub kept : (t : List ℕ) → Kept (world i x l w t st) (world i x′ l′ w′ t r)
   pub message : kind ≡ Referred.message → (t : List ℕ) (d : ℕ) (n : Bytes) (a : Option Bytes) (f : ℕ) → inline d i at ≡ got (Inline.message n a) f
       → Runs (writeRefError (reference Referred.message n a) (dotted n a)) (world i x l w t st) (world i x′ l′ w′ t r)

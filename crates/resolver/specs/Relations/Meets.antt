@@ -20,9 +20,9 @@ use Rattle.records.specs.Errors.{encError}
 use Rattle.records.specs.Encode.{encAll}
 use Rattle.entries.specs.Lookup.{Find, findIn}
 unfoldable pub use Rattle.trail.specs.Relations.Trail.{prefixed, patternBytes, trailOf}
-use Rattle.state.specs.declared.Scope.{Scope}
-use Rattle.state.specs.declared.Value as code-value
-use Rattle.state.specs.declared.Value.the-variants as val
+use Rattle.state.specs.Progress.{Progress}
+use Rattle.values.specs.declared.Value as code-value
+use Rattle.values.specs.declared.Value.the-variants as val
 use Rattle.arguments.specs.Relations.Given.{between}
 use Rattle.state.specs.Setters.{maxUnfound}
 use Rattle.resolution.specs.Effect.{Bytes, Locals, State, Out, M, Done}
@@ -37,9 +37,9 @@ pub record World : Type 0 where
   pub list : List ℕ
   pub work : List ℕ
   pub trail : List ℕ
-  pub st : Scope
+  pub st : Progress
 
-abbrev pub world : List ℕ → List ℕ → List ℕ → List ℕ → List ℕ → Scope → World
+abbrev pub world : List ℕ → List ℕ → List ℕ → List ℕ → List ℕ → Progress → World
 world i t l w r s = record { store = i; text = t; list = l; work = w; trail = r; st = s }
 
 -- the bytes that a literal takes at the workspace's back: those of its text, where it has a backslash
@@ -109,7 +109,7 @@ ifAside true t = t
 ifAside false t = []
 
 -- what becomes of the term's arguments in the state: they stay, or are cleared
-pub data LocalsStay (a b : Scope) : Type 0 where
+pub data LocalsStay (a b : Progress) : Type 0 where
   locals-same : b .local ≡ a .local → b .«local_at» ≡ a .«local_at» → b .«local_count» ≡ a .«local_count» → b .«local_base» ≡ a .«local_base» → LocalsStay a b
   locals-cleared : b .local ≡ false → LocalsStay a b
 

@@ -1,17 +1,18 @@
 -- What each of the writers that call each other ensures: it runs the definition of what stands at its position.
 use mathlib.Core.Path.{_≡_}
 use mathlib.Core.List.{List, [], _∷_}
-use mathlib.Core.Bool.{Bool}
+use mathlib.Core.Bool.{Bool, true}
 use mathlib.Core.Option.{Option}
 use Prim.Native.Nat.{ℕ, suc, _+_, _≤_}
 use Rattle.numbers.specs.Value.{Value}
 use Rattle.records.specs.Got.{got}
-use Rattle.records.specs.Bytes.{numberAt}
+use Rattle.records.specs.Bytes.{byteAt, numberAt}
 use Rattle.records.specs.Tree.{Named, Pattern, Elements, Element, Expression, Inline, Inlines, no-inline, and, Arguments, or}
 use Rattle.records.specs.Decode.{idAt, elementAt, elementsAt, patternAt, entryPatternAt, inlinesAt, argumentsAt, selectAt, expression, inline}
 use Rattle.records.specs.Errors.{reference}
 use Rattle.entries.specs.Lookup.{Find}
-use Rattle.state.specs.declared.Value as code-value
+use Rattle.heads.specs.Tags.{textTag}
+use Rattle.values.specs.declared.Value as code-value
 use Rattle.resolution.specs.Effect.{Bytes, State, M, Done, ret, _>>=_, capture, release}
 use Rattle.resolution.specs.Resolve.{Setting, Trail, errorText, held, track, lookUp, asTerm, termFound, writeMessage, writeTerm, callFunction, writePattern, writeElements, writeElement, writeExpression, writeInline, resolveInline, termArguments, getArguments}
 use Rattle.resolution.specs.Exec.{Machine, Limits, refused}
@@ -105,6 +106,10 @@ pub record PositionalAt (e : Env) (left at : ℕ) (w v : World) (first : code-va
       → (n : ℕ) (t : Trail) → Here e w 0 n t → (L : Limits) (s : State) (m : Machine) → Live L w s m → v .st .refused ≡ 0
       → FirstIs first (positionalValues (settingOf e u) (findOf e u) (crossOf e u n) t xs s .value)
 
+-- the same, where the first value is not kept
+abbrev pub PassedAt : Env → ℕ → ℕ → World → World → ℕ → Type 0
+PassedAt e left at w v end = (first : code-value.Value) × PositionalAt e left at w v first end
+
 -- a call, its Id at `at`, whose arguments nest at most `left` deep
 pub record CalledAt (e : Env) (left at : ℕ) (w v : World) (found : Bool) (c : code-value.Value) : Type 0 where
   pub kept : Kept w v
@@ -124,3 +129,7 @@ pub record TextValueAt (e : Env) (left at : ℕ) (w v : World) (x : code-value.V
   pub holds : (u : Setup e) (y : Inline) (f : ℕ) → inline left (e .store) at ≡ got y f
       → (n : ℕ) (t : Trail) → Here e w 0 n t → (L : Limits) (s : State) (k : Machine) → Live L w s k → v .st .refused ≡ 0
       → Holds (e .store) (e .args) (v .work) (v .st .back) x (held (capture (writeInline (settingOf e u) (findOf e u) (crossOf e u n) t y)) s .value)
+
+-- the same, where its tag is known, and that it is one of these
+abbrev pub TextAt : Env → ℕ → ℕ → ℕ → ℕ → World → World → code-value.Value → Type 0
+TextAt e left at tag p w v x = byteAt (e .store) at ≡ got tag p → textTag tag ≡ true → TextValueAt e left at w v x

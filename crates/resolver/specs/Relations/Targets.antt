@@ -10,7 +10,7 @@ use Rattle.records.specs.Errors.{noValue}
 use Rattle.texts.specs.Relations.Report.{referredOf}
 use Rattle.texts.specs.declared.errors.Referred.the-variants as referred
 use Rattle.resolution.specs.Effect.{report, emit}
-use Rattle.state.specs.declared.Scope.{Scope}
+use Rattle.state.specs.Progress.{Progress}
 use Rattle.state.specs.Setters.{countedS}
 use Rattle.resolver.specs.Relations.Meets.{World, world, Kept, Acts, env}
 use Rattle.resolver.specs.Relations.Leaves.{ErrorAt, RefErrorAt}
@@ -24,7 +24,7 @@ use Rattle.resolver.specs.declared.reference.Target as code-target
 use Rattle.resolver.specs.declared.reference.Target.the-variants as target
 
 -- a lookup unfound more, if it was lost
-unfoldable pub countIf : Bool → Scope → Scope
+unfoldable pub countIf : Bool → Progress → Progress
 countIf true s = countedS s
 countIf false s = s
 
@@ -36,12 +36,12 @@ inOrder a b c d = leb a b && (leb b c && leb c d)
 pub data MessageTarget (s : List ℕ) (at : ℕ) (r : code-target.Target) : Type 0 where
   message-goes : (q : ℕ) → r ≡ target.At q → ((image : List ℕ) (w v : World) → TrackAt (env s image) at q w v → MessageAt (env s image) at w v) → MessageTarget s at r
   message-lacks : (from to : ℕ) → r ≡ target.NoValue from to → from ≤ to → to ≤ length s
-      → ((image x l w l1 x′ w′ t : List ℕ) (st s1 s′ : Scope)
+      → ((image x l w l1 x′ w′ t : List ℕ) (st s1 s′ : Progress)
       → ((i x w t : List ℕ) → Kept (world i x l w t st) (world i x l1 w t s1))
       × (length (part s from (to - from)) ≤ 255 → (i x w t : List ℕ) → Acts (emit (report (noValue (part s from (to - from))))) (world i x l w t st) (world i x l1 w t s1))
       → ErrorAt s at x w s1 x′ w′ s′ → MessageAt (env s image) at (world s x l w t st) (world s x′ l1 w′ t s′)) → MessageTarget s at r
   message-misses : (lost : Bool) → r ≡ target.Missing lost
-      → ((image x l w x′ l′ w′ t : List ℕ) (st s′ : Scope) → RefErrorAt s at (referredOf referred.Message) x l w (countIf lost st) x′ l′ w′ s′
+      → ((image x l w x′ l′ w′ t : List ℕ) (st s′ : Progress) → RefErrorAt s at (referredOf referred.Message) x l w (countIf lost st) x′ l′ w′ s′
       → MessageAt (env s image) at (world s x l w t st) (world s x′ l′ w′ t s′)) → MessageTarget s at r
   message-bad : r ≡ target.Bad → ((image : List ℕ) (w : World) → MessageAt (env s image) at w w) → MessageTarget s at r
 
@@ -49,7 +49,7 @@ pub data MessageTarget (s : List ℕ) (at : ℕ) (r : code-target.Target) : Type
 pub data TermTarget (s : List ℕ) (at : ℕ) (r : code-target.Target) : Type 0 where
   term-goes : (q : ℕ) → r ≡ target.At q → ((image : List ℕ) (w v : World) → TrackAt (env s image) at q w v → FoundTermAt (env s image) at w v) → TermTarget s at r
   term-misses : (lost : Bool) → r ≡ target.Missing lost
-      → ((image x l w x′ l′ w′ t : List ℕ) (st s′ : Scope) → RefErrorAt s at (referredOf referred.Term) x l w (countIf lost st) x′ l′ w′ s′
+      → ((image x l w x′ l′ w′ t : List ℕ) (st s′ : Progress) → RefErrorAt s at (referredOf referred.Term) x l w (countIf lost st) x′ l′ w′ s′
       → FoundTermAt (env s image) at (world s x l w t st) (world s x′ l′ w′ t s′)) → TermTarget s at r
   term-bad : r ≡ target.Bad → ((image : List ℕ) (w : World) → FoundTermAt (env s image) at w w) → TermTarget s at r
 

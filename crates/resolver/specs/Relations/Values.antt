@@ -20,8 +20,8 @@ use Rattle.records.specs.Images.{Argument}
 use Rattle.resolution.specs.Format.{valueOf}
 use Rattle.literals.specs.declared.literal.Literal as code-literal
 use Rattle.literals.specs.declared.literal.Literal.the-variants as literals
-use Rattle.state.specs.declared.Value as code-value
-use Rattle.state.specs.declared.Value.the-variants as val
+use Rattle.values.specs.declared.Value as code-value
+use Rattle.values.specs.declared.Value.the-variants as val
 use Rattle.resolver.specs.declared.scope.value.NamedSpan.{NamedSpan}
 use Rattle.resolver.specs.declared.scope.value.NamedRead as code-named
 use Rattle.resolver.specs.declared.scope.value.NamedRead.the-variants as named

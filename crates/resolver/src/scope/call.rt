@@ -8,6 +8,7 @@ ghost use lib.ListN.{length};
 ghost use Rattle.decimals.specs.Decimal as numbers-options;
 ghost use Rattle.decimals.specs.Relations.Shown.{shownOptions};
 ghost use Rattle.records.specs.Got.{got};
+ghost use Rattle.state.specs.Progress.{progressOf};
 ghost use Rattle.records.specs.Tree.{Named};
 ghost use Rattle.records.specs.Decode.{many, namedAt};
 ghost use Rattle.resolver.specs.Relations.Meets.{NamedIn, namedTexts};
@@ -24,12 +25,11 @@ use literals::literal::read_literal;
 use numbers::merge::Merged;
 use numbers::merge::merge_number;
 use numbers::merge::merge_text;
-use state::Resolved;
-use state::Scope;
-use state::Value;
+use state::REFUSED;
 use state::refuse;
 use unescape::has_backslash;
 use unescape::unescaped_len;
+use values::Value;
 
 // Merges one option, whose text, if it is in the workspace, ends at `base`.
 pub(crate) fn merge_one(
@@ -102,42 +102,33 @@ pub(crate) fn merge_named(
 pub(crate) fn number_function(
     s: &[u8],
     work: &[u8],
-    st: Scope,
+    st: &mut [usize; 16],
     at: usize,
     count: usize,
     base: usize,
     first: Value,
-) -> Resolved
-    ensures { λ r. ⌜ NumberAt (now (s .entry)) (now (work .entry)) st at count base first (r .st) (r .value) ⌝ }
+) -> Value
+    ensures { λ r. ⌜ NumberAt (now (s .entry)) (now (work .entry)) (progressOf (now (st .entry))) at count base first (progressOf (now (st .exit))) r ⌝ }
 {
-    if st.refused != 0 {
-        return Resolved {
-            st: st,
-            value: Value::Wrong,
-        };
+    if st[REFUSED] != 0 {
+        return Value::Wrong;
     }
     match first {
         Value::Number(n) => {
             let o = n.options;
             match merge_named(s, work, at, count, base, o) {
-                Merged::Is(merged) => Resolved {
-                    st: st,
-                    value: Value::Number(Number {
-                        negative: n.negative,
-                        digits: n.digits,
-                        scale: n.scale,
-                        options: merged,
-                    }),
-                },
-                Merged::TooLong => Resolved {
-                    st: refuse(st, 17),
-                    value: Value::Wrong,
-                },
+                Merged::Is(merged) => Value::Number(Number {
+                    negative: n.negative,
+                    digits: n.digits,
+                    scale: n.scale,
+                    options: merged,
+                }),
+                Merged::TooLong => {
+                    refuse(st, 17);
+                    Value::Wrong
+                }
             }
         }
-        _ => Resolved {
-            st: st,
-            value: Value::Wrong,
-        },
+        _ => Value::Wrong,
     }
 }

@@ -3,6 +3,7 @@ ghost use mathlib.Core.Path.{_≡_};
 ghost use mathlib.Core.List.{List};
 ghost use Prim.Native.Nat.{ℕ};
 ghost use Rattle.resolution.specs.Effect.{write};
+ghost use Rattle.state.specs.Progress.{progressOf};
 ghost use Rattle.resolver.specs.Relations.Meets.{world, Acts, textIn, bytesOf};
 ghost use Rattle.resolver.specs.Relations.Leaves.{ErrorAt, CutAt, piecesText};
 ghost use Rattle.writes.specs.Written.{written};
@@ -11,8 +12,9 @@ use crate::scope::error::error_pieces;
 use arguments::text_of;
 use records::Num;
 use records::read_byte;
-use state::Scope;
-use state::Value;
+use state::DIRTY;
+use state::REFUSED;
+use values::Value;
 use writes::put::put;
 use writes::put::put_braced;
 use writes::put::put_number;
@@ -24,10 +26,10 @@ pub(crate) fn put_value<'a>(
     args: &'a [u8],
     text: &mut [u8],
     work: &mut [u8],
-    st: Scope,
+    st: &mut [usize; 16],
     value: Value,
-) -> Scope
-    ensures { λ r. ⌜ (now (text .exit), now (work .exit), r) ≡ written (bytesOf (now (store .entry)) (now (args .entry)) (now (work .entry)) value) (now (text .entry)) (now (work .entry)) st ⌝ }
+)
+    ensures { λ _. ⌜ (now (text .exit), now (work .exit), progressOf (now (st .exit))) ≡ written (bytesOf (now (store .entry)) (now (args .entry)) (now (work .entry)) value) (now (text .entry)) (now (work .entry)) (progressOf (now (st .entry))) ⌝ }
 {
     match value {
         Value::Work(a, e) => put_work(text, work, st, a, e),
@@ -54,17 +56,17 @@ fn put_pieces(
     words: &[u8],
     text: &mut [u8],
     work: &mut [u8],
-    st: Scope,
+    st: &mut [usize; 16],
     p: Pieces,
-) -> Scope
-    ensures { λ r. ⌜ ((i l t : List ℕ) → Acts (write (piecesText (now (words .entry)) (now (store .entry)) p)) (world i (now (text .entry)) l (now (work .entry)) t st) (world i (now (text .exit)) l (now (work .exit)) t r)) ⌝ }
+)
+    ensures { λ _. ⌜ ((i l t : List ℕ) → Acts (write (piecesText (now (words .entry)) (now (store .entry)) p)) (world i (now (text .entry)) l (now (work .entry)) t (progressOf (now (st .entry)))) (world i (now (text .exit)) l (now (work .exit)) t (progressOf (now (st .exit))))) ⌝ }
 {
     let head = text_of(words, p.head, p.head_end);
     let id = text_of(store, p.from, p.to);
     let joint = text_of(words, p.joint, p.joint_end);
     let attribute = text_of(store, p.start, p.end);
-    let s1 = put_braced(text, work, st, head, id, joint);
-    put_braced(text, work, s1, attribute, b"}", b"")
+    put_braced(text, work, st, head, id, joint);
+    put_braced(text, work, st, attribute, b"}", b"");
 }
 
 // `write_error` in braces: what stands in the place of an inline expression that has an error.
@@ -72,30 +74,36 @@ pub(crate) fn put_error(
     store: &[u8],
     text: &mut [u8],
     work: &mut [u8],
-    st: Scope,
+    st: &mut [usize; 16],
     at: usize,
-) -> Scope
-    ensures { λ r. ⌜ ErrorAt (now (store .entry)) at (now (text .entry)) (now (work .entry)) st (now (text .exit)) (now (work .exit)) r ⌝ }
+)
+    ensures { λ _. ⌜ ErrorAt (now (store .entry)) at (now (text .entry)) (now (work .entry)) (progressOf (now (st .entry))) (now (text .exit)) (now (work .exit)) (progressOf (now (st .exit))) ⌝ }
 {
     let p = error_pieces(store, at);
-    put_pieces(store, b"{???{-{$.()", text, work, st, p)
+    put_pieces(store, b"{???{-{$.()", text, work, st, p);
 }
 
 // The end of `maybe_track`: where the expression was cut short, its error.
-pub(crate) fn put_cut(store: &[u8], text: &mut [u8], work: &mut [u8], st: Scope, at: usize) -> Scope
-    ensures { λ r. ⌜ CutAt (now (store .entry)) at (now (text .entry)) (now (work .entry)) st (now (text .exit)) (now (work .exit)) r ⌝ }
+pub(crate) fn put_cut(
+    store: &[u8],
+    text: &mut [u8],
+    work: &mut [u8],
+    st: &mut [usize; 16],
+    at: usize,
+)
+    ensures { λ _. ⌜ CutAt (now (store .entry)) at (now (text .entry)) (now (work .entry)) (progressOf (now (st .entry))) (now (text .exit)) (now (work .exit)) (progressOf (now (st .exit))) ⌝ }
 {
-    if st.refused != 0 {
-        return st;
+    if st[REFUSED] != 0 {
+        return;
     }
-    if st.dirty {
+    if st[DIRTY] == 1 {
         let Num::At(tag, p) = read_byte(store, at) else {
-            return st;
+            return;
         };
         if tag == 8 {
-            return put_error(store, text, work, st, p);
+            put_error(store, text, work, st, p);
+            return;
         }
-        return put_error(store, text, work, st, at);
+        put_error(store, text, work, st, at);
     }
-    st
 }

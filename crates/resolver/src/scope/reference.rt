@@ -5,6 +5,7 @@ ghost use mathlib.Core.Bool.{true, false};
 ghost use mathlib.Core.Option.{Option, some, none};
 ghost use Prim.Native.Nat.{ℕ, _+_, _-_, _≤_, _<_};
 ghost use lib.ListN.{length};
+ghost use Rattle.state.specs.Progress.{progressOf};
 ghost use Rattle.texts.specs.Relations.Report.{referredOf};
 ghost use Rattle.resolver.specs.Relations.Leaves.{ReferenceIs, RefErrorAt};
 use crate::scope::put::put_error;
@@ -13,7 +14,6 @@ use records::Num;
 use records::read_byte;
 use state::Reference;
 use state::Referring;
-use state::Scope;
 use texts::Referred;
 use writes::list::list_reference;
 
@@ -58,22 +58,22 @@ pub(crate) fn ref_error(
     text: &mut [u8],
     list: &mut [u8],
     work: &mut [u8],
-    st: Scope,
+    st: &mut [usize; 16],
     kind: Referred,
     at: usize,
-) -> Scope
-    ensures { λ r. ⌜ RefErrorAt (now (store .entry)) at (referredOf kind) (now (text .entry)) (now (list .entry)) (now (work .entry)) st (now (text .exit)) (now (list .exit)) (now (work .exit)) r ⌝ }
+)
+    ensures { λ _. ⌜ RefErrorAt (now (store .entry)) at (referredOf kind) (now (text .entry)) (now (list .entry)) (now (work .entry)) (progressOf (now (st .entry))) (now (text .exit)) (now (list .exit)) (now (work .exit)) (progressOf (now (st .exit))) ⌝ }
 {
     let Num::At(_, p) = read_byte(store, at) else {
-        return st;
+        return;
     };
     let Reference::Is(r) = read_reference(store, p) else {
-        return st;
+        return;
     };
     let from = r.from;
     let to = r.to;
     let start = r.start;
     let end = r.end;
-    let s1 = list_reference(list, st, kind, &store[from..to], r.has, &store[start..end]);
-    put_error(store, text, work, s1, at)
+    list_reference(list, st, kind, &store[from..to], r.has, &store[start..end]);
+    put_error(store, text, work, st, at);
 }

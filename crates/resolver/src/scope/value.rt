@@ -14,9 +14,10 @@ ghost use Rattle.records.specs.Names.{lastNamed};
 ghost use Rattle.resolution.specs.Exec.{Limits, Machine};
 ghost use Rattle.resolution.specs.Format.{valuesOf};
 ghost use Rattle.resolver.specs.Relations.Meets.{world, env, Setup, Live, NamedIn, namedTexts};
-ghost use Rattle.resolver.specs.Relations.Leaves.{LocalIs, variableOf, StringAt, NamedAt};
+ghost use Rattle.resolver.specs.Relations.Leaves.{LocalIs, variableOf, StringAt, NamedAt, NamedSet};
 ghost use Rattle.arguments.specs.Relations.Given.{Within, meant, between};
 ghost use Rattle.resolver.specs.Relations.Values.{literalValued, TakenAt, LiteralAt, NamedReads, Ranged, valueOfSome};
+ghost use Rattle.state.specs.Progress.{progressOf};
 ghost use Rattle.state.specs.Setters.{heldS};
 use arguments::Given;
 use arguments::find_argument;
@@ -28,14 +29,22 @@ use literals::literal::Literal;
 use literals::literal::read_literal;
 use reader::read_marked;
 use records::Num;
-use state::Local;
-use state::Resolved;
-use state::Scope;
-use state::Value;
+use state::BACK;
+use state::FRONT;
+use state::HIGH;
+use state::LOCAL;
+use state::LOCAL_AT;
+use state::LOCAL_BASE;
+use state::LOCAL_COUNT;
+use state::REFUSED;
 use state::refuse;
+use state::set_held;
+use state::set_locals;
 use unescape::has_backslash;
 use unescape::unescape_into;
 use unescape::unescaped_len;
+use values::Local;
+use values::Value;
 use writes::put::has_room;
 
 // A named argument, by positions in the store: its name, and its literal's tag and bytes.
@@ -89,71 +98,80 @@ pub(crate) fn literal_number(s: &[u8], a: usize, e: usize) -> Value
 }
 
 // A string literal's value: a part of the store, or, where it has a backslash, a text in the workspace.
-pub(crate) fn literal_string(s: &[u8], work: &mut [u8], st: Scope, a: usize, e: usize) -> Resolved
-    ensures { λ r. ⌜ StringAt (now (s .entry)) a e (now (work .entry)) st (now (work .exit)) (r .st) (r .value) ⌝ }
+pub(crate) fn literal_string(
+    s: &[u8],
+    work: &mut [u8],
+    st: &mut [usize; 16],
+    a: usize,
+    e: usize,
+) -> Value
+    ensures { λ r. ⌜ StringAt (now (s .entry)) a e (now (work .entry)) (progressOf (now (st .entry))) (now (work .exit)) (progressOf (now (st .exit))) r ⌝ }
 {
-    if st.refused != 0 {
-        return Resolved {
-            st: st,
-            value: Value::Wrong,
-        };
+    if st[REFUSED] != 0 {
+        return Value::Wrong;
     }
     let src = text_of(s, a, e);
     if !has_backslash(src) {
-        return Resolved {
-            st: st,
-            value: Value::Store(a, e),
-        };
+        return Value::Store(a, e);
     }
     let n = unescaped_len(src);
-    if !has_room(st, n, work.len()) {
-        return Resolved {
-            st: refuse(st, 16),
-            value: Value::Wrong,
-        };
+    if !has_room(&*st, n, work.len()) {
+        refuse(st, 16);
+        return Value::Wrong;
     }
-    let back = st.back;
+    let back = st[BACK];
     unescape_into(src, work, back - n);
-    let s1 = kept(st, n, work.len());
-    Resolved {
-        st: s1,
-        value: Value::Work(back - n, back),
-    }
+    keep(st, n, work.len());
+    Value::Work(back - n, back)
 }
 
 // n bytes more are kept at the workspace's back, of `len` in all.
-fn kept(mut st: Scope, n: usize, len: usize) -> Scope
-    requires { ⌜ (st .front + n ≤ st .back) × (st .back ≤ len) ⌝ }
-    ensures { λ r. ⌜ r ≡ heldS (st .back - n) (max (st .high) (st .front + (len - (st .back - n)))) st ⌝ }
+fn keep(st: &mut [usize; 16], n: usize, len: usize)
+    requires { ⌜ (progressOf (now st) .front + n ≤ progressOf (now st) .back) × (progressOf (now st) .back ≤ len) ⌝ }
+    ensures { λ _. ⌜ progressOf (now (st .exit)) ≡ heldS ((progressOf (now (st .entry))) .back - n) (max ((progressOf (now (st .entry))) .high) ((progressOf (now (st .entry))) .front + (len - ((progressOf (now (st .entry))) .back - n)))) (progressOf (now (st .entry))) ⌝ }
 {
-    st.back = st.back - n;
-    let used = st.front + (len - st.back);
-    if st.high < used {
-        st.high = used;
+    let back = st[BACK] - n;
+    let used = st[FRONT] + (len - back);
+    let high = st[HIGH];
+    if high < used {
+        set_held(st, back, used);
+        return;
     }
-    st
+    set_held(st, back, high);
 }
 
 // Named arguments, in stored order: the texts of those with a backslash go to the workspace's back.
-pub(crate) fn resolve_named(s: &[u8], work: &mut [u8], st: Scope, at: usize, count: usize) -> Scope
-    ensures { λ r. ⌜ NamedAt (now (s .entry)) at count (now (work .entry)) st (now (work .exit)) r ⌝ }
+pub(crate) fn resolve_named(
+    s: &[u8],
+    work: &mut [u8],
+    st: &mut [usize; 16],
+    at: usize,
+    count: usize,
+)
+    ensures { λ _. ⌜ NamedAt (now (s .entry)) at count (now (work .entry)) (progressOf (now (st .entry))) (now (work .exit)) (progressOf (now (st .exit))) ⌝ }
 {
-    let mut now_st = st;
     let mut p = at;
     let mut i = count;
     while 0 < i {
         let NamedRead::Is(n) = read_named(s, p) else {
-            return now_st;
+            return;
         };
         let e = n.end;
         if n.tag == 1 {
-            let v = literal_string(s, work, now_st, n.start, e);
-            now_st = v.st;
+            literal_string(s, work, st, n.start, e);
         }
         p = e;
         i -= 1;
     }
-    now_st
+}
+
+// A term's named arguments are resolved, and are the local ones from here on.
+pub(crate) fn set_named(s: &[u8], work: &mut [u8], st: &mut [usize; 16], at: usize, count: usize)
+    ensures { λ _. ⌜ NamedSet (now (s .entry)) at count (now (work .entry)) (progressOf (now (st .entry))) (now (work .exit)) (progressOf (now (st .exit))) ⌝ }
+{
+    let base = st[BACK];
+    resolve_named(s, work, st, at, count);
+    set_locals(st, at, count, base);
 }
 
 // The bytes that a literal's text takes at the workspace's back.
@@ -245,11 +263,11 @@ pub(crate) fn argument_value(found: Given) -> Local
 }
 
 // A variable: a term's argument where there are any, else the formatting's. A missing one is no Is.
-pub(crate) fn find_variable(s: &[u8], args: &[u8], st: Scope, name: &[u8]) -> Local
-    ensures { λ r. ⌜ ((u : Setup (env (now (s .entry)) (now (args .entry)))) (x l w t : List ℕ) (L : Limits) (q : State) (k : Machine) → Live L (world (now (s .entry)) x l w t st) q k → LocalIs (now (s .entry)) (now (args .entry)) w (st .back) r (variableOf (valuesOf (u .given)) (now (name .entry)) (q .locals))) ⌝ }
+pub(crate) fn find_variable(s: &[u8], args: &[u8], st: &[usize; 16], name: &[u8]) -> Local
+    ensures { λ r. ⌜ ((u : Setup (env (now (s .entry)) (now (args .entry)))) (x l w t : List ℕ) (L : Limits) (q : State) (k : Machine) → Live L (world (now (s .entry)) x l w t (progressOf (now (st .entry)))) q k → LocalIs (now (s .entry)) (now (args .entry)) w ((progressOf (now (st .entry))) .back) r (variableOf (valuesOf (u .given)) (now (name .entry)) (q .locals))) ⌝ }
 {
-    if st.local {
-        return find_local(s, st.local_at, st.local_count, st.local_base, name);
+    if st[LOCAL] == 1 {
+        return find_local(s, st[LOCAL_AT], st[LOCAL_COUNT], st[LOCAL_BASE], name);
     }
     argument_value(find_argument(args, name))
 }

@@ -5,18 +5,19 @@ ghost use mathlib.Core.Bool.{true, false};
 ghost use mathlib.Core.Option.{Option, some, none};
 ghost use Prim.Native.Nat.{ℕ, _+_, _-_, _≤_};
 ghost use lib.ListN.{length};
-ghost use Rattle.state.specs.declared.Value.the-variants as val;
+ghost use Rattle.state.specs.Progress.{progressOf};
+ghost use Rattle.values.specs.Stored.{valueOf, foundIn};
 ghost use Rattle.resolver.specs.Relations.Meets.{world, env};
 ghost use Rattle.resolver.specs.Relations.Leaves.{VariableAt, VariableValueAt, ResultAt};
 use crate::scope::put::put_value;
 use crate::scope::value::find_variable;
 use arguments::text_of;
-use state::Called;
-use state::Local;
-use state::Resolved;
-use state::Scope;
-use state::Value;
 use texts::Referred;
+use values::Local;
+use values::Value;
+use values::held;
+use values::is_found;
+use values::is_wrong;
 use writes::list::list_reference;
 use writes::list::list_variable;
 use writes::put::put_braced;
@@ -28,18 +29,19 @@ pub(crate) fn write_variable<'a>(
     text: &mut [u8],
     list: &mut [u8],
     work: &mut [u8],
-    st: Scope,
+    st: &mut [usize; 16],
     a: usize,
     e: usize,
-) -> Scope
-    ensures { λ r. ⌜ ((t : List ℕ) → VariableAt (env (now (store .entry)) (now (args .entry))) a e (world (now (store .entry)) (now (text .entry)) (now (list .entry)) (now (work .entry)) t st) (world (now (store .entry)) (now (text .exit)) (now (list .exit)) (now (work .exit)) t r)) ⌝ }
+)
+    ensures { λ _. ⌜ ((t : List ℕ) → VariableAt (env (now (store .entry)) (now (args .entry))) a e (world (now (store .entry)) (now (text .entry)) (now (list .entry)) (now (work .entry)) t (progressOf (now (st .entry)))) (world (now (store .entry)) (now (text .exit)) (now (list .exit)) (now (work .exit)) t (progressOf (now (st .exit))))) ⌝ }
 {
     let name = text_of(store, a, e);
-    let Local::Is(v) = find_variable(store, args, st, name) else {
-        let s1 = list_variable(list, st, name);
-        return put_braced(text, work, s1, b"{$", name, b"}");
+    let Local::Is(v) = find_variable(store, args, &*st, name) else {
+        list_variable(list, st, name);
+        put_braced(text, work, st, b"{$", name, b"}");
+        return;
     };
-    put_value(store, args, text, work, st, v)
+    put_value(store, args, text, work, st, v);
 }
 
 // A variable's value, or Error.
@@ -47,30 +49,18 @@ pub(crate) fn resolve_variable(
     store: &[u8],
     args: &[u8],
     list: &mut [u8],
-    st: Scope,
+    st: &mut [usize; 16],
     a: usize,
     e: usize,
-) -> Resolved
-    ensures { λ r. ⌜ ((x w t : List ℕ) → VariableValueAt (env (now (store .entry)) (now (args .entry))) a e (world (now (store .entry)) x (now (list .entry)) w t st) (world (now (store .entry)) x (now (list .exit)) w t (r .st)) (r .value)) ⌝ }
+) -> Value
+    ensures { λ r. ⌜ ((x w t : List ℕ) → VariableValueAt (env (now (store .entry)) (now (args .entry))) a e (world (now (store .entry)) x (now (list .entry)) w t (progressOf (now (st .entry)))) (world (now (store .entry)) x (now (list .exit)) w t (progressOf (now (st .exit)))) r) ⌝ }
 {
     let name = text_of(store, a, e);
-    let Local::Is(v) = find_variable(store, args, st, name) else {
-        let s1 = list_variable(list, st, name);
-        return Resolved {
-            st: s1,
-            value: Value::Wrong,
-        };
+    let Local::Is(v) = find_variable(store, args, &*st, name) else {
+        list_variable(list, st, name);
+        return Value::Wrong;
     };
-    Resolved { st: st, value: v }
-}
-
-fn is_wrong(value: Value) -> bool
-    ensures { λ r. ⌜ (r ≡ true → value ≡ val.Wrong) × (r ≡ false → value ≡ val.Wrong → ⊥) ⌝ }
-{
-    match value {
-        Value::Wrong => true,
-        _ => false,
-    }
+    v
 }
 
 // A function's result as text.
@@ -80,21 +70,23 @@ pub(crate) fn write_result<'a>(
     text: &mut [u8],
     list: &mut [u8],
     work: &mut [u8],
-    c: Called,
+    st: &mut [usize; 16],
+    value: &[usize; 10],
     a: usize,
     e: usize,
-) -> Scope
-    ensures { λ r. ⌜ ((t : List ℕ) → ResultAt (env (now (store .entry)) (now (args .entry))) a e (c .found) (c .value) (world (now (store .entry)) (now (text .entry)) (now (list .entry)) (now (work .entry)) t (c .st)) (world (now (store .entry)) (now (text .exit)) (now (list .exit)) (now (work .exit)) t r)) ⌝ }
+)
+    ensures { λ _. ⌜ ((t : List ℕ) → ResultAt (env (now (store .entry)) (now (args .entry))) a e (foundIn (now (value .entry))) (valueOf (now (value .entry))) (world (now (store .entry)) (now (text .entry)) (now (list .entry)) (now (work .entry)) t (progressOf (now (st .entry)))) (world (now (store .entry)) (now (text .exit)) (now (list .exit)) (now (work .exit)) t (progressOf (now (st .exit))))) ⌝ }
 {
-    let st = c.st;
-    let value = c.value;
     let name = text_of(store, a, e);
-    if c.found {
-        if is_wrong(value) {
-            return put_braced(text, work, st, name, b"()", b"");
+    if is_found(value) {
+        let v = held(value);
+        if is_wrong(v) {
+            put_braced(text, work, st, name, b"()", b"");
+            return;
         }
-        return put_value(store, args, text, work, st, value);
+        put_value(store, args, text, work, st, v);
+        return;
     }
-    let s1 = list_reference(list, st, Referred::Function, name, false, b"");
-    put_braced(text, work, s1, b"{", name, b"()}")
+    list_reference(list, st, Referred::Function, name, false, b"");
+    put_braced(text, work, st, b"{", name, b"()}");
 }

@@ -1,18 +1,23 @@
--- `state::count_unfound` meets its contract: a lookup unfound is counted, as far as the count goes.
+-- `state::count_unfound` meets its contract: one lookup more is counted.
 use Rattle.state.proofs.Laws.{counted}
+use Rattle.state.proofs.Listed.{sixteen}
+use Rattle.state.specs.Progress.{progressOf}
 use borrow.Author.Needs.{needs}
-use native.Mathlib.Omega.{arith}
+use denote.Ref.{now}
 use Rattle.state.proofs.count_unfound.Statement.{statement}
 use Rattle.state.proofs.count_unfound.Tie as tie
 
-add-st : tie.Need-add-st
-add-st c = search needs
+element-copy-out-one-more : tie.Need-element-copy-out-one-more
+element-copy-out-one-more c = search needs
+
+one-more-requires : tie.Need-one-more-requires
+one-more-requires c κs = search needs
+
+slice-write-s : tie.Need-slice-write-s
+slice-write-s c = search needs
 
 returns : tie.Need-returns
-returns c = counted (c .before .before .before .args .st) (omega (arith, c .before .if1 .taken))
-
-returns-2 : tie.Need-returns-2
-returns-2 c = counted (c .before .before .args .st) (omega (arith, c .if1 .left))
+returns c = rw (sixteen (now (c .before .before .before .args .st)) (c .s .given .0 .1)) (counted (progressOf (now (c .before .before .before .args .st))) (c .before .one-more .ensures))
 
 pub count-unfound-spec : {M : Type 1} → statement M
-count-unfound-spec = tie.close (tie.spec add-st returns returns-2)
+count-unfound-spec = tie.close (tie.spec element-copy-out-one-more one-more-requires slice-write-s returns)

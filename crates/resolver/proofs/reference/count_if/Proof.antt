@@ -9,7 +9,7 @@ count-unfound-requires c κs = search needs
 
 returns : tie.Need-returns
 unfolding countIf
-returns c = rw (c .before .if1 .taken) (c .count-unfound .ensures)
+returns c = rw (c .before .before .if1 .taken) (c .count-unfound .ensures)
 
 returns-2 : tie.Need-returns-2
 unfolding countIf

@@ -1,6 +1,6 @@
 -- `writes::list::list_too_many` meets its contract: the error is listed in the state that it leaves.
 use Rattle.records.specs.Errors.{tooManyPlaceables}
-use Rattle.state.specs.declared.Scope.{Scope}
+use Rattle.state.specs.Progress.{Progress}
 use Rattle.texts.specs.Relations.Report.{plainOf}
 use Rattle.writes.specs.Written.{listed}
 use borrow.Author.Needs.{needs}
@@ -20,7 +20,7 @@ same-length c = search needs
 
 returns : tie.Need-returns
 unfolding plainOf
-returns c = c .before .before .list-plain .ensures ∙ ap (λ (s : Scope). listed tooManyPlaceables (now (c .before .before .before .before .before .before .args .list)) s) (c .before .before .before .begin-last .ensures)
+returns c = c .before .before .list-plain .ensures ∙ ap (λ (s : Progress). listed tooManyPlaceables (now (c .before .before .before .before .before .before .before .before .args .list)) s) (c .before .before .before .before .before .begin-last .ensures)
 
 pub list-too-many-spec : {M : Type 1} → statement M
 list-too-many-spec = tie.close (tie.spec begin-last-requires list-plain-requires same-length returns)

@@ -20,7 +20,7 @@ same-length-2 : tie.Need-same-length-2
 same-length-2 c = search needs
 
 returns : tie.Need-returns
-returns c = written-three _ _ _ _ _ _ (c .before .before .before .before .before .before .before .before .before .before .before .before .before .before .before .before .before .before .put .ensures) (c .before .before .before .before .before .before .before .before .before .before .before .put2 .ensures) (c .before .before .before .before .put3 .ensures)
+returns c = written-three _ _ _ _ _ _ (c .before .before .before .before .before .before .before .before .before .before .before .before .before .before .before .before .before .before .before .before .put .ensures) (c .before .before .before .before .before .before .before .before .before .before .before .before .put2 .ensures) (c .before .before .before .before .put3 .ensures)
 
 pub put-braced-spec : {M : Type 1} → statement M
 put-braced-spec = tie.close (tie.spec put-requires put-requires-2 put-requires-3 same-length same-length-2 returns)

@@ -17,7 +17,7 @@ same-length-2 : tie.Need-same-length-2
 same-length-2 c = search needs
 
 returns : tie.Need-returns
-returns c = where-on _ _ _ _ (c .before .before .before .before .before .before .before .before .if1 .taken) (c .before .before .before .before .put .ensures)
+returns c = where-on _ _ _ _ (c .before .before .before .before .before .before .before .before .before .if1 .taken) (c .before .before .before .before .put .ensures)
 
 returns-2 : tie.Need-returns-2
 returns-2 c = where-off _ _ _ _ (c .if1 .left)

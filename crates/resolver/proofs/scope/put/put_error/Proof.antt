@@ -20,7 +20,7 @@ same-length-2 : tie.Need-same-length-2
 same-length-2 c = search needs
 
 returns : tie.Need-returns
-returns c = error-written (c .before .before .before .before .before .before .before .before .error-pieces .ensures) (λ l t. c .before .before .before .before .put-pieces .ensures _ l t)
+returns c = error-written (c .before .before .before .before .before .before .before .before .before .error-pieces .ensures) (λ l t. c .before .before .before .before .put-pieces .ensures _ l t)
 
 pub put-error-spec : {M : Type 1} → statement M
 put-error-spec = tie.close (tie.spec error-pieces-requires slice-aggregate-put-pieces put-pieces-requires same-length same-length-2 returns)

@@ -36,7 +36,7 @@ same-length-2 : tie.Need-same-length-2
 same-length-2 c = search needs
 
 returns : tie.Need-returns
-returns c = λ i l t. pieces-written _ _ _ (c .before .before .before .before .before .before .before .before .before .before .before .before .before .before .before .before .before .before .before .text-of .ensures) (c .before .before .before .before .before .before .before .before .before .before .before .before .before .before .before .before .before .before .text-of2 .ensures) (c .before .before .before .before .before .before .before .before .before .before .before .before .before .before .before .before .before .text-of3 .ensures) (c .before .before .before .before .before .before .before .before .before .before .before .before .before .before .before .before .text-of4 .ensures) (braced-acts _ _ _ (c .before .before .before .before .before .before .before .before .before .before .before .before .before .put-braced .ensures) i l t) (braced-acts _ _ _ (c .before .before .before .before .put-braced2 .ensures) i l t)
+returns c = λ i l t. pieces-written _ _ _ (c .before .before .before .before .before .before .before .before .before .before .before .before .before .before .before .before .before .before .before .before .before .text-of .ensures) (c .before .before .before .before .before .before .before .before .before .before .before .before .before .before .before .before .before .before .before .before .text-of2 .ensures) (c .before .before .before .before .before .before .before .before .before .before .before .before .before .before .before .before .before .before .before .text-of3 .ensures) (c .before .before .before .before .before .before .before .before .before .before .before .before .before .before .before .before .before .before .text-of4 .ensures) (braced-acts _ _ _ (c .before .before .before .before .before .before .before .before .before .before .before .before .before .before .put-braced .ensures) i l t) (braced-acts _ _ _ (c .before .before .before .before .put-braced2 .ensures) i l t)
 
 pub put-pieces-spec : {M : Type 1} → statement M
 put-pieces-spec = tie.close (tie.spec text-of-requires text-of-requires-2 text-of-requires-3 text-of-requires-4 put-braced-requires slice-aggregate-put-braced slice-aggregate-put-braced-2 put-braced-requires-2 same-length same-length-2 returns)

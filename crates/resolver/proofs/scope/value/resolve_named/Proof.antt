@@ -2,7 +2,7 @@
 use Prim.Native.Nat.{ℕ}
 use Rattle.resolver.proofs.Single.Values.{named-digits-as, named-end, named-string-as, named-unread}
 use Rattle.resolver.specs.Relations.Leaves.{NamedAt}
-use Rattle.state.specs.declared.Scope.{Scope}
+use Rattle.state.specs.Progress.{Progress, progressOf}
 use borrow.Author.Needs.{needs}
 use lib.ListN.{length}
 use mathlib.Core.List.{List}
@@ -13,10 +13,10 @@ use Rattle.resolver.proofs.scope.value.resolve_named.Statement.{stateme
 use Rattle.resolver.proofs.scope.value.resolve_named.Tie as tie
 
 abbrev Inv-loop : tie.InvT-loop
-Inv-loop s work₀ at count now-st₀ p₀ i₀ work now-st p i = (length work ≡ length work₀) × ((w : List ℕ) (r : Scope) → NamedAt s p i work now-st w r → NamedAt s p₀ i₀ work₀ now-st₀ w r)
+Inv-loop s work₀ st₀ at count p₀ i₀ work st p i = (length work ≡ length work₀) × ((w : List ℕ) (r : Progress) → NamedAt s p i work (progressOf st) w r → NamedAt s p₀ i₀ work₀ (progressOf st₀) w r)
 
 abbrev μ-loop : tie.MeasureT-loop
-μ-loop s work₀ at count now-st₀ p₀ i₀ work now-st p i = i
+μ-loop s work₀ st₀ at count p₀ i₀ work st p i = i
 
 loop-holds : tie.Need-loop-holds Inv-loop μ-loop
 loop-holds c = (refl, λ w r h. h)
@@ -46,7 +46,7 @@ loop-less : tie.Need-loop-less Inv-loop μ-loop
 loop-less c = omega arith
 
 loop-again : tie.Need-loop-again Inv-loop μ-loop
-loop-again c = (⊎-elim (λ y. ap length (y .6) ∙ y .2 .ensures .size ∙ c .before .before .before .before .before .before .before .loop .inv .0) (λ y. ap length (y .1) ∙ c .before .before .before .before .before .before .before .loop .inv .0) (c .if1 .came), λ w r h. c .before .before .before .before .before .before .before .loop .inv .1 w r (⊎-elim (λ y. named-string-as _ _ _ _ _ (c .before .before .before .before .before .before .loop-test .taken) (c .before .before .before .before .before .read-named .ensures) (c .before .before .before .n .given .1) (y .0 .taken) (y .2 .ensures) (y .6) (y .7) h) (λ y. named-digits-as _ _ _ _ _ (c .before .before .before .before .before .before .loop-test .taken) (c .before .before .before .before .before .read-named .ensures) (c .before .before .before .n .given .1) (y .0 .left) (y .1) (y .2) h) (c .if1 .came)))
+loop-again c = (⊎-elim (λ y. ap length (y .6) ∙ y .3 .ensures .size ∙ c .before .before .before .before .before .before .before .loop .inv .0) (λ y. ap length (y .1) ∙ c .before .before .before .before .before .before .before .loop .inv .0) (c .if1 .came), λ w r h. c .before .before .before .before .before .before .before .loop .inv .1 w r (⊎-elim (λ y. named-string-as _ _ _ _ _ (c .before .before .before .before .before .before .loop-test .taken) (c .before .before .before .before .before .read-named .ensures) (c .before .before .before .n .given .1) (y .0 .taken) (y .3 .ensures) (y .6) (ap progressOf (y .7)) h) (λ y. named-digits-as _ _ _ _ _ (c .before .before .before .before .before .before .loop-test .taken) (c .before .before .before .before .before .read-named .ensures) (c .before .before .before .n .given .1) (y .0 .left) (y .1) (ap progressOf (y .2)) h) (c .if1 .came)))
 
 same-length-2 : tie.Need-same-length-2 Inv-loop μ-loop
 same-length-2 c = c .before .loop .inv .0
