@@ -16,10 +16,10 @@
  *    and writable where the pointer is not const; for a length of 0 the
  *    pointer may be any that is not null;
  *  - a slice or number that is written overlaps no other one of the call;
- *  - there is stack enough: about 0.7 MiB for weszlagyo_add_resource; for
- *    weszlagyo_format some kilobytes with ordinary messages, and up to 14 MiB
- *    with the deepest that are allowed (100 references inside each other, each
- *    nested to depth 32). Give it 16 MiB where resources are not trusted.
+ *  - there is stack enough: 64 KiB for the additions; for weszlagyo_format
+ *    some kilobytes with ordinary messages, and 2.5 MiB with the deepest that
+ *    are allowed (100 references inside each other, each nested to depth 32).
+ *    rust/tests/stack measures both.
  */
 #ifndef WESZLAGYO_H
 #define WESZLAGYO_H

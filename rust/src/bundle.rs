@@ -53,7 +53,7 @@ impl FluentBundle {
             locale: Locale::En,
         };
         match bundle.probe("", None) {
-            Refusal::MALFORMED_STORE => Err(Refusal::MALFORMED_STORE),
+            refusal @ (Refusal::MALFORMED_STORE | Refusal::NO_STACK) => Err(refusal),
             _ => {
                 let number = bundle.store[ISOLATING_AT - 1];
                 bundle.locale = Locale::from_number(number).ok_or(Refusal::MALFORMED_STORE)?;
@@ -165,9 +165,10 @@ impl FluentBundle {
 
     /// Whether there is a message of that id.
     pub fn has_message(&self, id: &str) -> bool {
-        !matches!(
+        // with or without a value
+        matches!(
             self.probe(id, None),
-            Refusal::NO_MESSAGE | Refusal::NO_ID | Refusal::MALFORMED_STORE
+            Refusal::SHORT_LIST | Refusal::NO_PATTERN
         )
     }
 

@@ -4,11 +4,11 @@
 use crate::operations::Refusal;
 
 /// Bytes that are being written; a length or count that its field can't hold
-/// is remembered.
+/// is remembered, and so is what can't be written at all.
 #[derive(Clone, Debug, Default)]
 pub struct Writer {
     bytes: Vec<u8>,
-    too_long: bool,
+    refused: bool,
 }
 
 impl Writer {
@@ -35,7 +35,7 @@ impl Writer {
     /// A count or a length of 16 bits.
     pub fn u16(&mut self, n: usize) {
         let fits = u16::try_from(n);
-        self.too_long |= fits.is_err();
+        self.refused |= fits.is_err();
         self.raw(&fits.unwrap_or_default().to_be_bytes());
     }
 
@@ -57,13 +57,18 @@ impl Writer {
     /// of it.
     pub fn close(&mut self, at: usize, counted: usize) {
         let length = u32::try_from(self.bytes.len() - at - 4 + counted);
-        self.too_long |= length.is_err();
+        self.refused |= length.is_err();
         self.bytes[at..at + 4].copy_from_slice(&length.unwrap_or_default().to_be_bytes());
+    }
+
+    /// In the place of something that can't be written.
+    pub(crate) fn refuse(&mut self) {
+        self.refused = true;
     }
 
     /// The bytes, or the refusal if something did not fit its field.
     pub fn finish(self, refusal: Refusal) -> Result<Vec<u8>, Refusal> {
-        match self.too_long {
+        match self.refused {
             true => Err(refusal),
             false => Ok(self.bytes),
         }

@@ -1,7 +1,8 @@
 //! The linked functions, and for each a safe one. `include/weszlagyo.h` says
 //! what each does; a slice goes over as its pointer and its length. No
 //! function keeps a pointer, and none asks for more than that what is lent to
-//! it is there and does not overlap, which slices are.
+//! it is there and does not overlap, which slices are. The stack that they need
+//! is `stack`'s part.
 
 mod linked {
     extern "C" {

@@ -6,7 +6,7 @@
 //! written definition says, for any bytes at all; this crate calls those
 //! functions and does the rest: it builds resources and arguments, lends
 //! buffers and lengthens them when an operation says that one is too short,
-//! and reads the lists of errors.
+//! gives each call the [`stack`] that it needs, and reads the lists of errors.
 //!
 //! ```
 //! use weszlagyo::syntax::{select, text, variable, Pattern};
@@ -53,7 +53,7 @@ mod locale;
 pub mod operations;
 mod refusals;
 mod resource;
-mod stack;
+pub mod stack;
 pub mod syntax;
 mod value;
 

@@ -1,8 +1,13 @@
 //! The proved operations themselves, on lent slices, as document 01 has them:
 //! what each refuses, in which order, and every byte that it leaves. The rest
 //! of this crate stands on these five functions.
+//!
+//! They run on any stack: where little is left of a thread's, on one of their
+//! own (see [`stack`](crate::stack)). If that can't be had they refuse with
+//! [`Refusal::NO_STACK`], before all else, which changes nothing.
 
 use crate::ffi;
+use crate::stack::{with_room, ADDITION, FORMAT};
 
 pub use crate::errors::read_list;
 pub use crate::refusals::Refusal;
@@ -42,6 +47,7 @@ pub struct Figures {
 /// A new bundle at the front of a slice: 0 en, 1 da, 2 ru, 3 cy; 1 isolates.
 /// Refusals: 1, 2, 3. A refusal changes nothing.
 pub fn new(slice: &mut [u8], locale: u8, isolating: u8) -> Result<(), Refusal> {
+    // it uses no more stack than any small function
     Refusal::of(ffi::new(slice, locale, isolating))
 }
 
@@ -50,20 +56,22 @@ pub fn new(slice: &mut [u8], locale: u8, isolating: u8) -> Result<(), Refusal> {
 /// changes nothing.
 pub fn add_resource(slice: &mut [u8], image: &[u8], list: &mut [u8]) -> Result<usize, Refusal> {
     let mut count = 0;
-    Refusal::of(ffi::add_resource(slice, image, list, &mut count))?;
+    with_room(ADDITION, || {
+        ffi::add_resource(slice, image, list, &mut count)
+    })?;
     Ok(count)
 }
 
 /// Adds a resource whose entries take their ids. Refusals: 4, 5, 6. A refusal
 /// changes nothing.
 pub fn add_resource_overriding(slice: &mut [u8], image: &[u8]) -> Result<(), Refusal> {
-    Refusal::of(ffi::add_resource_overriding(slice, image))
+    with_room(ADDITION, || ffi::add_resource_overriding(slice, image))
 }
 
 /// Adds a function, by its code, under an id that has no entry. Refusals: 4,
 /// 8, 9, 10, 6. A refusal changes nothing.
 pub fn add_function(slice: &mut [u8], id: &[u8], code: u8) -> Result<(), Refusal> {
-    Refusal::of(ffi::add_function(slice, id, code))
+    with_room(ADDITION, || ffi::add_function(slice, id, code))
 }
 
 /// Formats a message's value, or an attribute of it, with an arguments image.
@@ -79,17 +87,20 @@ pub fn format(
     work: &mut [u8],
 ) -> Result<Figures, Refusal> {
     let mut numbers = ffi::Numbers::default();
-    let answer = ffi::format(
-        store,
-        id,
-        attribute,
-        arguments,
-        text,
-        list,
-        work,
-        &mut numbers,
-    );
-    Refusal::of(answer)?;
+    // with a list that is too short even for its header, nothing is formatted
+    let needed = if list.len() < 5 { ADDITION } else { FORMAT };
+    with_room(needed, || {
+        ffi::format(
+            store,
+            id,
+            attribute,
+            arguments,
+            text,
+            list,
+            work,
+            &mut numbers,
+        )
+    })?;
     Ok(Figures {
         text: numbers.written,
         errors: numbers.errors,

@@ -4,7 +4,8 @@
 use std::error::Error;
 use std::fmt;
 
-/// Why an operation was refused, by document 01's number.
+/// Why an operation was refused, by document 01's number; 255 is this crate's
+/// own.
 #[derive(Clone, Copy, Debug, PartialEq, Eq, Hash)]
 pub struct Refusal(u8);
 
@@ -50,6 +51,8 @@ refusals! {
     SHORT_TEXT = 15: "the text passes its buffer";
     SHORT_WORKSPACE = 16: "the workspace is too short";
     MANY_DIGITS = 17: "a minimumFractionDigits is above 19";
+    NO_STACK = 255: "there is no memory for a stack",
+        "Little is left of the thread's own, and the system gave none. Nothing was changed.";
 }
 
 impl Refusal {
@@ -82,7 +85,7 @@ mod tests {
     #[test]
     fn all_are_in_order_and_have_words() {
         let numbers: Vec<u8> = Refusal::ALL.iter().map(|r| r.number()).collect();
-        let expected: Vec<u8> = (1..=17).filter(|n| *n != 14).collect();
+        let expected: Vec<u8> = (1..=17).filter(|n| *n != 14).chain([255]).collect();
         assert_eq!(numbers, expected);
         assert_eq!(Refusal(14).meaning(), "there is no such refusal");
         assert_eq!(

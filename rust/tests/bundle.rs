@@ -154,6 +154,9 @@ fn what_a_resource_can_not_be() {
     for refused in [
         one(""),
         one(deep(33)),
+        one(deep(64)),
+        one(deep(65)),
+        one(deep(2000)),
         one(Pattern::new()),
         one(number("1234567890123456")),
         one(Inline::String("\\x".into())),
@@ -333,7 +336,9 @@ fn the_deepest_formatting() {
         builder = builder.message(format!("m{n}"), nested);
     }
     let bundle = bundle(&builder);
-    let done = on_deep_stack(|| bundle.format("m0", None, None)).expect("formatted");
+    let done = bundle.format("m0", None, None).expect("formatted");
+    let deep = on_deep_stack(|| bundle.format("m0", None, None));
+    assert_eq!(deep.as_ref(), Ok(&done));
     assert_eq!(done.figures.begun, 101);
     assert_eq!(done.errors, [ResolverError::TooManyPlaceables.into()]);
 }

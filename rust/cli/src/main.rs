@@ -17,8 +17,7 @@ fn main() -> ExitCode {
         .skip(1)
         .map(OsStringExt::into_vec)
         .collect();
-    // the deepest store that is legal needs more stack than a program has
-    match weszlagyo::on_deep_stack(|| commands::run(&words)) {
+    match commands::run(&words) {
         Ok(()) => ExitCode::SUCCESS,
         Err(failure) => {
             failure.say();

@@ -1,10 +1,19 @@
-//! Patterns and expressions as document 01's bytes.
+//! Patterns and expressions as document 01's bytes. What is nested far too deep
+//! is not written but remembered, so that no tree is too deep for the writing.
 
 use super::{Arguments, Element, Expression, Inline, Key, Literal, Pattern};
 use crate::bytes::Writer;
 
+/// Twice the nesting limit. What is below it goes to the proved check.
+const FAR: usize = 64;
+
 impl Pattern {
     pub(crate) fn write(&self, out: &mut Writer) {
+        self.write_in(out, FAR);
+    }
+
+    /// The pattern, with `left` levels left for its expressions.
+    fn write_in(&self, out: &mut Writer, left: usize) {
         let start = out.open();
         out.u16(self.elements.len());
         for element in &self.elements {
@@ -15,7 +24,7 @@ impl Pattern {
                 }
                 Element::Placeable(expression) => {
                     out.byte(2);
-                    expression.write(out);
+                    expression.write(out, left);
                 }
             }
         }
@@ -24,12 +33,15 @@ impl Pattern {
 }
 
 impl Expression {
-    fn write(&self, out: &mut Writer) {
+    fn write(&self, out: &mut Writer, left: usize) {
         match self {
-            Self::Inline(inline) => inline.write(out),
+            Self::Inline(inline) => inline.write(out, left),
             Self::Select(select) => {
+                let Some(left) = left.checked_sub(1) else {
+                    return out.refuse();
+                };
                 out.byte(8);
-                select.selector.write(out);
+                select.selector.write(out, left);
                 out.u16(select.variants.len());
                 for variant in &select.variants {
                     let (kind, key) = match &variant.key {
@@ -39,7 +51,7 @@ impl Expression {
                     out.byte(kind);
                     out.str(key);
                     out.flag(variant.default);
-                    variant.value.write(out);
+                    variant.value.write_in(out, left);
                 }
             }
         }
@@ -47,7 +59,10 @@ impl Expression {
 }
 
 impl Inline {
-    fn write(&self, out: &mut Writer) {
+    fn write(&self, out: &mut Writer, left: usize) {
+        let Some(left) = left.checked_sub(1) else {
+            return out.refuse();
+        };
         match self {
             Self::String(text) => {
                 out.byte(1);
@@ -60,7 +75,7 @@ impl Inline {
             Self::Function { id, arguments } => {
                 out.byte(3);
                 out.str(id);
-                arguments.write(out);
+                arguments.write(out, left);
             }
             Self::Message { id, attribute } => {
                 out.byte(4);
@@ -77,7 +92,7 @@ impl Inline {
                 write_optional(attribute.as_deref(), out);
                 out.flag(arguments.is_some());
                 if let Some(arguments) = arguments {
-                    arguments.write(out);
+                    arguments.write(out, left);
                 }
             }
             Self::Variable(name) => {
@@ -86,17 +101,17 @@ impl Inline {
             }
             Self::Placeable(expression) => {
                 out.byte(7);
-                expression.write(out);
+                expression.write(out, left);
             }
         }
     }
 }
 
 impl Arguments {
-    fn write(&self, out: &mut Writer) {
+    fn write(&self, out: &mut Writer, left: usize) {
         out.u16(self.positional.len());
         for argument in &self.positional {
-            argument.write(out);
+            argument.write(out, left);
         }
         out.u16(self.named.len());
         for (name, value) in &self.named {
