@@ -1,7 +1,7 @@
 -- Steps of the lookup, on any bytes: the code's answers and what they say, the kind of an entry, what an id has after an item, and after all items.
 use mathlib.Core.Path.{_≡_, refl, ap, sym, _∙_}
-use mathlib.Core.Bool.{Bool}
-use mathlib.Core.List.{List}
+use mathlib.Core.Bool.{Bool, true, false, not, _||_}
+use mathlib.Core.List.{List, []}
 use mathlib.Core.Option.{Option, some, none}
 use Prim.Native.Nat.{ℕ, _-_, _≤_, _<_}
 use native.Mathlib.Omega.{arith}
@@ -17,7 +17,7 @@ use Rattle.records.specs.Relations.Answer.{nextOf, numOf}
 use Rattle.records.specs.Bytes.{byteAt, bytesAt, numberAt}
 use Rattle.records.specs.Images.{isSome}
 use Rattle.decimals.specs.Bytes.{sameBytes}
-use Rattle.records.proofs.Laws.{after-is, after-elim, bytes-inv}
+use Rattle.records.proofs.Laws.{after-is, after-elim, bytes-inv, byte-inv}
 use Rattle.records.proofs.Views.{num-is, num-none, next-is, next-none}
 use Rattle.entries.specs.declared.Found.{Found}
 use Rattle.entries.specs.declared.Found.the-variants as found
@@ -96,18 +96,53 @@ module _ (s : List ℕ) (at : ℕ) (id : List ℕ) {m : Num} (is : m ≡ numOf (
   unfolding itemHead after afterIds
   after-bad h = is-found (rw (num-none is h))
 
-  module _ (b p : ℕ) (h : m ≡ num.At b p) {r : Found} where
-    pub after-last : {l : Found} → b ≡ 2 → l ≡ foundOf (lastNamed id (entriesIn s p)) → r ≡ foundOf (orElse (heldBy l) (heldBy held)) → r ≡ foundOf afterItem
+  module _ (b p : ℕ) (h : m ≡ num.At b p) where
+    pub after-function : {l r : Found} → b ≡ 3 → l ≡ foundOf (firstNamed id (functionIn s p)) → r ≡ foundOf (orElse (heldBy held) (heldBy l)) → r ≡ foundOf afterItem
     unfolding itemHead after afterIds idsBy locatedAfter
-    after-last e w q = rw (num-is is h, eq-eqb b 2 e) (q ∙ ap (λ (o : Option Location). foundOf (orElse o (heldBy held))) (says-held w))
+    after-function e w q = rw (num-is is h, ne-eqb b 2 (λ k. omega arith), eq-eqb b 3 e) (q ∙ ap (λ (o : Option Location). foundOf (orElse (heldBy held) o)) (says-held w))
 
-    pub after-function : {l : Found} → (b ≡ 2 → ⊥) → b ≡ 3 → l ≡ foundOf (firstNamed id (functionIn s p)) → r ≡ foundOf (orElse (heldBy held) (heldBy l)) → r ≡ foundOf afterItem
-    unfolding itemHead after afterIds idsBy locatedAfter
-    after-function n2 e w q = rw (num-is is h, ne-eqb b 2 n2, eq-eqb b 3 e) (q ∙ ap (λ (o : Option Location). foundOf (orElse (heldBy held) o)) (says-held w))
+    -- a resource
+    module _ (n3 : b ≡ 3 → ⊥) {l : List (List ℕ × Location)} (row : entriesIn s p ≡ l) where
+      pub after-last : {f r : Found} → b ≡ 2 → f ≡ foundOf (lastNamed id l) → r ≡ foundOf (orElse (heldBy f) (heldBy held)) → r ≡ foundOf afterItem
+      unfolding itemHead after afterIds idsBy locatedAfter
+      after-last e w q = rw (num-is is h, eq-eqb b 2 e, row) (q ∙ ap (λ (o : Option Location). foundOf (orElse o (heldBy held))) (says-held w))
 
-    pub after-first : (b ≡ 2 → ⊥) → (b ≡ 3 → ⊥) → r ≡ foundOf (orElse (heldBy held) (firstNamed id (entriesIn s p))) → r ≡ foundOf afterItem
-    unfolding itemHead after afterIds idsBy locatedAfter
-    after-first n2 n3 q = rw (num-is is h, ne-eqb b 2 n2, ne-eqb b 3 n3) q
+      pub after-first : {f r : Found} → (b ≡ 2 → ⊥) → f ≡ foundOf (firstNamed id l) → r ≡ foundOf (orElse (heldBy held) (heldBy f)) → r ≡ foundOf afterItem
+      unfolding itemHead after afterIds idsBy locatedAfter
+      after-first n2 w q = rw (num-is is h, ne-eqb b 2 n2, ne-eqb b 3 n3, row) (q ∙ ap (λ (o : Option Location). foundOf (orElse (heldBy held) o)) (says-held w))
+
+    pub after-empty : (b ≡ 3 → ⊥) → entriesIn s p ≡ [] → held ≡ foundOf afterItem
+    unfolding itemHead after afterIds idsBy locatedAfter lastNamed firstNamed orElse
+    after-empty n3 row = is-found (rw (num-is is h, ne-eqb b 3 n3) (go (eqb b 2)))
+      where
+        go : (t : Bool) → locatedAfter (idsBy t false s p) id (heldBy held) ≡ heldBy held
+        go true = rw row refl
+        go false = rw row (or-none (heldBy held))
+
+-- what is held stays, unless an overriding resource is at the position
+module _ (s : List ℕ) (at : ℕ) (id : List ℕ) where
+  only-last : (b c : Bool) (p : ℕ) (x : Location) → b ≡ false → locatedAfter (idsBy b c s p) id (some x) ≡ some x
+  unfolding idsBy locatedAfter orElse
+  only-last true c p x e = cc
+  only-last false true p x e = refl
+  only-last false false p x e = refl
+
+  kept : (x : Location) → eqb (getD s at 0) 2 ≡ false → afterIds (itemHead s at) id (some x) ≡ some x
+  unfolding itemHead after afterIds
+  kept x e = go (byteAt s at) refl
+    where
+      go : (g : Got ℕ) → byteAt s at ≡ g → afterIds (after g (λ m p. got (idsBy (eqb m 2) (eqb m 3) s p) p)) id (some x) ≡ some x
+      go (got m p) h = only-last _ _ p x (ap (λ (k : ℕ). eqb k 2) (byte-inv s at h .1) ∙ e)
+      go bad h = refl
+
+  pub unchanged : (held : Found) {r : Bool} → r ≡ not (isSome (heldBy held)) || eqb (getD s at 0) 2 → r ≡ false → held ≡ foundOf (afterIds (itemHead s at) id (heldBy held))
+  unfolding isSome
+  unchanged held is h = is-found (go (heldBy held) (eqb (getD s at 0) 2) refl (sym is ∙ h))
+    where
+      go : (o : Option Location) (t : Bool) → eqb (getD s at 0) 2 ≡ t → not (isSome o) || t ≡ false → afterIds (itemHead s at) id o ≡ o
+      go none t e w = cc
+      go (some x) true e w = cc
+      go (some x) false e w = kept x e
 
 -- what an id has after the items from a position on
 module _ (s id : List ℕ) where

@@ -1,6 +1,6 @@
 -- Steps of the walkers, on any bytes: what is read behind a head; of a list that goes as far as its records can be read, what stands first and what is left.
 use mathlib.Core.Path.{_≡_, refl, ap, sym, _∙_}
-use mathlib.Core.Bool.{true, false}
+use mathlib.Core.Bool.{Bool, true, false}
 use mathlib.Core.List.{List, [], _∷_}
 use mathlib.Core.Option.{Option, some, none}
 use Prim.Native.Nat.{ℕ, zero, suc, _-_, _≤_, _<_}
@@ -15,6 +15,7 @@ use Rattle.records.specs.Got.{Got, got, bad, Parser, after}
 use Rattle.records.specs.Relations.Answer.{nextOf, numOf}
 use Rattle.records.specs.Bytes.{part, bytesAt, spanAt, strAt}
 use Rattle.decimals.specs.Bytes.{sameBytes}
+use Rattle.decimals.proofs.Same.{same-eq}
 use Rattle.records.proofs.Laws.{after-is, after-elim, next-stop, next-end, span-in}
 use Rattle.records.proofs.Views.{num-is, num-none, next-is, next-none}
 use Rattle.entries.specs.Lookup.{firstNamed}
@@ -90,6 +91,14 @@ module _ {A B : Type 0} (head : Parser A) (whole : Parser B) (s : List ℕ) wher
   list-next (suc n) at {a = a} {i = i} z h w =
       let m : n ≡ suc n - 1 = omega arith in
       rw (h, w) (ap (λ (k : ℕ). a ∷ readable k head whole s i) m)
+
+-- bytes that differ at a place
+pub differ-at : (a b : List ℕ) (i : ℕ) → (getD a i 0 ≡ getD b i 0 → ⊥) → false ≡ sameBytes a b
+differ-at a b i f = go (sameBytes a b) refl
+  where
+    go : (t : Bool) → sameBytes a b ≡ t → false ≡ t
+    go true h = absurd (f (ap (λ (l : List ℕ). getD l i 0) (same-eq a b h)))
+    go false h = refl
 
 -- of things with a name
 module _ {A : Type 0} (i : List ℕ) where

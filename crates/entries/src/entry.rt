@@ -1,4 +1,4 @@
-// What holds an id: in a resource, in an item, in a store.
+// What holds an id: in a function record, after an item, in a store.
 use crate::Found;
 use crate::resource::find_first;
 use crate::resource::find_last;
@@ -11,33 +11,15 @@ use records::Num;
 use records::read_byte;
 use records::read_u16;
 ghost use mathlib.Core.Path.{_≡_};
+ghost use mathlib.Core.Bool.{not, _||_};
 ghost use mathlib.Core.Option.{none};
+ghost use lib.ListN.{getD};
+ghost use lib.Dec.{eqb};
 ghost use Rattle.records.specs.Images.{isSome};
 ghost use Rattle.entries.specs.Lookup.{firstNamed};
-ghost use Rattle.records.specs.Names.{lastNamed};
 ghost use Rattle.records.specs.Optional.{orElse};
-ghost use Rattle.entries.specs.Outline.{readable, entriesIn, functionIn, itemHead, itemOutline, locateFrom, locate};
+ghost use Rattle.entries.specs.Outline.{readable, functionIn, itemHead, itemOutline, locateFrom, locate};
 ghost use Rattle.entries.specs.Relations.Meets.{foundOf, heldBy, afterIds};
-
-// What an id has in the resource at a position, of equal ids the first.
-pub(crate) fn first_in(s: &[u8], at: usize, id: &[u8]) -> Found
-    ensures { λ r. ⌜ r ≡ foundOf (firstNamed (now (id .entry)) (entriesIn (now (s .entry)) at)) ⌝ }
-{
-    let Num::At(count, start) = read_u16_behind(s, at, 5) else {
-        return Found::Nothing;
-    };
-    find_first(s, start, count, id)
-}
-
-// The same, of equal ids the last.
-pub(crate) fn last_in(s: &[u8], at: usize, id: &[u8]) -> Found
-    ensures { λ r. ⌜ r ≡ foundOf (lastNamed (now (id .entry)) (entriesIn (now (s .entry)) at)) ⌝ }
-{
-    let Num::At(count, start) = read_u16_behind(s, at, 5) else {
-        return Found::Nothing;
-    };
-    find_last(s, start, count, id)
-}
 
 // Whether the function record at a position has the id.
 pub(crate) fn function_in(s: &[u8], at: usize, id: &[u8]) -> Found
@@ -50,18 +32,6 @@ pub(crate) fn function_in(s: &[u8], at: usize, id: &[u8]) -> Found
         return Found::Function;
     }
     Found::Nothing
-}
-
-// What an id has after a plain resource: what it had, or else its first entry there.
-fn first_unless(s: &[u8], at: usize, id: &[u8], held: Found) -> Found
-    ensures { λ r. ⌜ r ≡ foundOf (orElse (heldBy held) (firstNamed (now (id .entry)) (entriesIn (now (s .entry)) at))) ⌝ }
-{
-    match held {
-        Found::Message(q) => Found::Message(q),
-        Found::Term(q) => Found::Term(q),
-        Found::Function => Found::Function,
-        Found::Nothing => first_in(s, at, id),
-    }
 }
 
 // Of two holders the first, if it is one.
@@ -83,13 +53,41 @@ fn after_item(s: &[u8], at: usize, id: &[u8], held: Found) -> Found
     let Num::At(mode, p) = read_byte(s, at) else {
         return held;
     };
-    if mode == 2 {
-        return or_else(last_in(s, p, id), held);
-    }
     if mode == 3 {
         return or_else(held, function_in(s, p, id));
     }
-    first_unless(s, p, id, held)
+    let Num::At(count, start) = read_u16_behind(s, p, 5) else {
+        return held;
+    };
+    if mode == 2 {
+        return or_else(find_last(s, start, count, id), held);
+    }
+    or_else(held, find_first(s, start, count, id))
+}
+
+// Is an id held by anything?
+fn is_held(held: Found) -> bool
+    ensures { λ r. ⌜ r ≡ isSome (heldBy held) ⌝ }
+{
+    match held {
+        Found::Message(_) => true,
+        Found::Term(_) => true,
+        Found::Function => true,
+        Found::Nothing => false,
+    }
+}
+
+// Can the item at a position change what an id has? What is held is replaced by an overriding resource only.
+fn can_change(s: &[u8], at: usize, held: Found) -> bool
+    ensures { λ r. ⌜ r ≡ not (isSome (heldBy held)) || eqb (getD (now (s .entry)) at 0) 2 ⌝ }
+{
+    if is_held(held) {
+        if at < s.len() {
+            return s[at] == 2;
+        }
+        return false;
+    }
+    true
 }
 
 // What holds an id in `count` items: one walk over them.
@@ -100,7 +98,9 @@ fn find_in_items(s: &[u8], from: usize, count: usize, id: &[u8]) -> Found
     let mut left = count;
     let mut found = Found::Nothing;
     while 0 < left {
-        found = after_item(s, at, id, found);
+        if can_change(s, at, found) {
+            found = after_item(s, at, id, found);
+        }
         let Next::At(next) = skip_item(s, at) else {
             return found;
         };
@@ -124,10 +124,5 @@ pub fn find_holder(s: &[u8], id: &[u8]) -> Found
 pub fn has_holder(s: &[u8], id: &[u8]) -> bool
     ensures { λ r. ⌜ r ≡ isSome (locate (now (s .entry)) (now (id .entry))) ⌝ }
 {
-    match find_holder(s, id) {
-        Found::Message(_) => true,
-        Found::Term(_) => true,
-        Found::Function => true,
-        Found::Nothing => false,
-    }
+    is_held(find_holder(s, id))
 }

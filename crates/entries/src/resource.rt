@@ -14,6 +14,7 @@ ghost use mathlib.Core.Path.{_≡_};
 ghost use mathlib.Core.Option.{some};
 ghost use lib.ListN.{getD};
 ghost use lib.Dec.{eqb};
+ghost use Rattle.decimals.specs.Bytes.{sameBytes};
 ghost use Rattle.records.specs.Relations.Answer.{nextOf, numOf};
 ghost use Rattle.records.specs.Bytes.{spanAt, numberAt};
 ghost use Rattle.entries.specs.Lookup.{firstNamed};
@@ -117,6 +118,22 @@ fn entry_found(s: &[u8], at: usize) -> Found
     Found::Term(at)
 }
 
+// Is an Id the one that is asked for? Ids of one length often differ only in their last byte, so that is looked at first.
+fn same_id(found: &[u8], id: &[u8]) -> bool
+    ensures { λ r. ⌜ r ≡ sameBytes (now (found .entry)) (now (id .entry)) ⌝ }
+{
+    let n = id.len();
+    if found.len() != n {
+        return false;
+    }
+    if 0 < n {
+        if found[n - 1] != id[n - 1] {
+            return false;
+        }
+    }
+    same_bytes(found, id)
+}
+
 // The first of `count` entries that has the id.
 pub fn find_first(s: &[u8], from: usize, count: usize, id: &[u8]) -> Found
     ensures { λ r. ⌜ r ≡ foundOf (firstNamed (now (id .entry)) (readable count entryHead entryOutline (now (s .entry)) from)) ⌝ }
@@ -127,10 +144,13 @@ pub fn find_first(s: &[u8], from: usize, count: usize, id: &[u8]) -> Found
         let Num::At(a, e) = read_str_behind(s, at, 1) else {
             return Found::Nothing;
         };
-        if same_bytes(&s[a..e], id) {
+        if same_id(&s[a..e], id) {
             return entry_found(s, at);
         }
-        let Next::At(next) = skip_entry(s, at) else {
+        let Next::At(p) = skip_value(s, e) else {
+            return Found::Nothing;
+        };
+        let Next::At(next) = skip_attributes(s, p) else {
             return Found::Nothing;
         };
         at = next;
@@ -160,8 +180,11 @@ pub(crate) fn find_last(s: &[u8], from: usize, count: usize, id: &[u8]) -> Found
         let Num::At(a, e) = read_str_behind(s, at, 1) else {
             return last;
         };
-        last = later(s, same_bytes(&s[a..e], id), at, last);
-        let Next::At(next) = skip_entry(s, at) else {
+        last = later(s, same_id(&s[a..e], id), at, last);
+        let Next::At(p) = skip_value(s, e) else {
+            return last;
+        };
+        let Next::At(next) = skip_attributes(s, p) else {
             return last;
         };
         at = next;

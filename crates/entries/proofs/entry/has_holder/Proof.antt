@@ -1,41 +1,19 @@
 -- `entries::entry::has_holder` meets its contract: by what was found.
-use Rattle.entries.proofs.Held.{is-held}
-use Rattle.entries.specs.Relations.Meets.{heldBy}
+use Rattle.entries.proofs.Held.{says-held}
 use Rattle.records.specs.Images.{isSome}
 use borrow.Author.Needs.{needs}
+use mathlib.Core.Path.{_∙_, ap}
 use Rattle.entries.proofs.entry.has_holder.Statement.{statement}
 use Rattle.entries.proofs.entry.has_holder.Tie as tie
 
 find-holder-requires : tie.Need-find-holder-requires
 find-holder-requires c κs = search needs
 
-enum-told : tie.Need-enum-told
-enum-told c = search needs
-
-enum-told-2 : tie.Need-enum-told-2
-enum-told-2 c = search needs
-
-enum-told-3 : tie.Need-enum-told-3
-enum-told-3 c = search needs
-
-enum-told-4 : tie.Need-enum-told-4
-enum-told-4 c = search needs
+is-held-requires : tie.Need-is-held-requires
+is-held-requires c κs = search needs
 
 returns : tie.Need-returns
-unfolding heldBy isSome
-returns c = is-held _ (c .before .before .find-holder .ensures) (c .enum-told .given .1)
-
-returns-2 : tie.Need-returns-2
-unfolding heldBy isSome
-returns-2 c = is-held _ (c .before .before .find-holder .ensures) (c .enum-told2 .given .1)
-
-returns-3 : tie.Need-returns-3
-unfolding heldBy isSome
-returns-3 c = is-held _ (c .before .before .find-holder .ensures) (c .enum-told3 .given .1)
-
-returns-4 : tie.Need-returns-4
-unfolding heldBy isSome
-returns-4 c = is-held _ (c .before .before .find-holder .ensures) (c .enum-told4 .given .1)
+returns c = c .is-held .ensures ∙ ap isSome (says-held (c .before .find-holder .ensures))
 
 pub has-holder-spec : {M : Type 1} → statement M
-has-holder-spec = tie.close (tie.spec find-holder-requires enum-told enum-told-2 enum-told-3 enum-told-4 returns returns-2 returns-3 returns-4)
+has-holder-spec = tie.close (tie.spec find-holder-requires is-held-requires returns)
