@@ -118,50 +118,54 @@ whole-ahead k {s} {at} {e} {b} {v} h f c =
     let q : e ≡ at + length (encWhole b) = sym (stands-length h) in
     ahead (number-exact 4) k {a = length (encWhole b)} f (bytes-are (ap (λ (j : ℕ). toBe 4 j ++ b) (sym m)) h) (λ p u r. c p r q)
 
-image-fits : {n : ℕ} → n ≤ maxImage → Fits 4 n
+-- what is at most a number that fits, fits
+within-fits : {n m : ℕ} → Fits 4 m → n ≤ m → Fits 4 n
+within-fits f h = omega arith
+
+image-fits : Fits 4 maxImage
 unfolding maxImage
-image-fits h = omega arith
+image-fits = omega arith
 
 store-fits : {n : ℕ} → n ≤ maxStore → Fits 4 n
 unfolding maxStore
 store-fits h = omega arith
 
--- an image: whole length, version, count, and as many
-module _ {A : Type 0} (p : Parser A) where
-  abbrev imageAt : Parser (List A)
+-- an image of at most so many bytes: whole length, version, count, and as many
+module _ {A : Type 0} (most : ℕ) (p : Parser A) where
+  abbrev pub imageAt : Parser (List A)
   imageAt s at =
       after (numberAt 4 s at) (λ n i.
-      test (leb n maxImage)
+      test (leb n most)
       (after (oneAt s i) (λ v q.
       after (numberAt 2 s q) (λ k r.
       after (many [] _∷_ k p s r) (λ l e.
       test (eqb e (at + n)) (got l e))))))
 
 module _ {A : Type 0} (enc : A → List ℕ) where
-  abbrev encImage : List A → List ℕ
+  abbrev pub encImage : List A → List ℕ
   encImage l = encWhole (1 ∷ encCounted enc l)
 
-  abbrev ImageOk : (A → Type 0) → List A → Type 0
-  ImageOk Ok l = Counted Ok l × (length (encImage l) ≤ maxImage)
+  abbrev pub ImageOk : ℕ → (A → Type 0) → List A → Type 0
+  ImageOk most Ok l = Counted Ok l × (length (encImage l) ≤ most)
 
-module _ {A : Type 0} {p : Parser A} {enc : A → List ℕ} {Ok : A → Type 0} (x : Exact p enc Ok) where
-  image-exact : Exact (imageAt p) (encImage enc) (ImageOk enc Ok)
+module _ {A : Type 0} {p : Parser A} {enc : A → List ℕ} {Ok : A → Type 0} {most : ℕ} (fits : Fits 4 most) (x : Exact p enc Ok) where
+  pub image-exact : Exact (imageAt most p) (encImage enc) (ImageOk enc most Ok)
   unfolding encCounted
   image-exact = record {
     sound = λ {s} {at} oct l h.
         took (number-exact 4) oct l h (λ n p okN stN h.
-        test-took (leb n maxImage) h (λ t h.
+        test-took (leb n most) h (λ t h.
         took one-exact oct (stN .within) h (λ v q okV stV h.
         took (number-exact 2) oct (stV .within) h (λ k r okK stK h.
         took (many-exact (list-chain enc Ok) x k) oct (stK .within) h (λ m e okM stM h.
         last-took e (at + n) h (λ w h.
         let c : length m ≡ k = okM .1 in
         let i : (length (encImage enc m) ≡ n) × Stands s at e (encImage enc m) = whole-stands stN (rw c (join stV (join stK stM))) w in
-        let bound : n ≤ maxImage = leb-true n maxImage t in
-        gives h (Read (encImage enc) (ImageOk enc Ok) s at) (((okM .0, subst (Fits 2) (sym c) okK), rw (i .0) bound), i .1)))))));
+        let bound : n ≤ most = leb-true n most t in
+        gives h (Read (encImage enc) (ImageOk enc most Ok) s at) (((okM .0, subst (Fits 2) (sym c) okK), rw (i .0) bound), i .1)))))));
     octets = λ l ok. whole-octets (1 ∷ encCounted enc l) (omega arith, counted-exact x .octets l (ok .0));
-    complete = λ {a = l} ok h. whole-ahead _ h (image-fits (ok .1)) (λ p r q.
-        passes (leb (length (encImage enc l)) maxImage) (le-leb (length (encImage enc l)) maxImage (ok .1))
+    complete = λ {a = l} ok h. whole-ahead _ h (within-fits fits (ok .1)) (λ p r q.
+        passes (leb (length (encImage enc l)) most) (le-leb (length (encImage enc l)) most (ok .1))
         (ahead one-exact _ {a = 1} refl r (λ i u r.
         ahead (number-exact 2) _ (ok .0 .1) r (λ j u r.
         at-last (many-exact (list-chain enc Ok) x (length l)) _ (ok .0 .0, refl) r (ends q refl)))));
@@ -169,7 +173,7 @@ module _ {A : Type 0} {p : Parser A} {enc : A → List ℕ} {Ok : A → Type 0} 
 
 pub resource-exact : Exact resourceAt encResource ValidResource
 unfolding resourceAt encResource ValidResource
-resource-exact = image-exact entry-exact
+resource-exact = image-exact image-fits entry-exact
 
 -- a function record
 function-fits : (i : List ℕ) → Fits 2 (length i) → Fits 4 (length (encFunction i))
@@ -324,7 +328,7 @@ named-argument-exact = with-id argument-exact
 
 pub arguments-exact : Exact argumentsAt encArgumentsImage ValidArgumentsImage
 unfolding argumentsAt encArgumentsImage ValidArgumentsImage
-arguments-exact = image-exact named-argument-exact
+arguments-exact = image-exact image-fits named-argument-exact
 
 -- an image that is all of its slice
 module _ {A : Type 0} {p : Parser A} {enc : A → List ℕ} {Ok : A → Type 0} (x : Exact p enc Ok) where

@@ -1,0 +1,4 @@
+pub mod Image
+pub mod Encode
+pub mod Valid
+pub mod Relations

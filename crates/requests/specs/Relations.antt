@@ -1,0 +1,3 @@
+-- Relations between what the code holds and the definitions: contracts and proofs cite them, no definition rests on them.
+pub mod Outline
+pub mod Shown
