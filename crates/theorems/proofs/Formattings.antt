@@ -98,15 +98,15 @@ module _ (s id : Bytes) (a : Option Bytes) (image : Bytes) (b : Buffers) where
         let q = work-short (settingOf (f .reached .store) (f .reached .arguments)) (findIn (f .reached .store .items)) (f .reached .part) (limitsOf b) (f .machine) (f .runs) (length w) h in
         rw (f .reached .stored) (rw (f .reached .ids) (rw (f .reached .found) (rw (f .reached .has) (rw (f .reached .given) (rw (f .reached .header) (rw q))))))
 
-front-length : (x l : Bytes) → length x ≤ length l → length (atFront x l) ≡ length l
+pub front-length : (x l : Bytes) → length x ≤ length l → length (atFront x l) ≡ length l
 unfolding atFront
 front-length x l h = omega (arith, length-append x (drop (length x) l), length-drop (length x) l)
 
 module _ (b : Buffers) where
-  sized-same : Sized b b
+  pub sized-same : Sized b b
   sized-same = record { text = refl; list = refl; work = refl }
 
-  sized-test : (c : Bool) (n : ℕ) (f : Formatted) → (c ≡ true → Sized b (f .buffers)) → Sized b (orRefuse c n b f .buffers)
+  pub sized-test : (c : Bool) (n : ℕ) (f : Formatted) → (c ≡ true → Sized b (f .buffers)) → Sized b (orRefuse c n b f .buffers)
   unfolding orRefuse refuse
   sized-test true n f h = h refl
   sized-test false n f h = sized-same

@@ -19,20 +19,20 @@ use Rattle.resolution.specs.Exec.{Machine, Ran, ran, refused}
 use Rattle.resolution.specs.Format.{finished, refusedBefore, refusedRunning, Buffers, Formatted, limitsOf, refuse, orRefuse, ended, isIdOrNone, runPattern, formatWith, formatArguments, formatPart, formatEntry, formatStore, format}
 use Rattle.theorems.specs.Finished.{settingOf, Finished, Says}
 
-not-before : (n t e k u w : ℕ) → refusedBefore n ≡ finished t e k u w → ⊥
+pub not-before : (n t e k u w : ℕ) → refusedBefore n ≡ finished t e k u w → ⊥
 not-before n t e k u w h = let z : _≡_ {A = ℕ} 0 1 = cc in omega arith
 
-not-running : (n t e k u w : ℕ) → refusedRunning n ≡ finished t e k u w → ⊥
+pub not-running : (n t e k u w : ℕ) → refusedRunning n ≡ finished t e k u w → ⊥
 not-running n t e k u w h = let z : _≡_ {A = ℕ} 0 1 = cc in omega arith
 
 -- each part of the definition, where the answer is finished
 module _ (b : Buffers) (t e k u w : ℕ) where
-  test-passed : (c : Bool) (n : ℕ) (f : Formatted) → orRefuse c n b f .answer ≡ finished t e k u w → (c ≡ true) × (f .answer ≡ finished t e k u w)
+  pub test-passed : (c : Bool) (n : ℕ) (f : Formatted) → orRefuse c n b f .answer ≡ finished t e k u w → (c ≡ true) × (f .answer ≡ finished t e k u w)
   unfolding orRefuse refuse
   test-passed true n f h = (refl, h)
   test-passed false n f h = absurd (not-before n t e k u w h)
 
-  run-ended : (r : Ran) → ended r b .answer ≡ finished t e k u w → (m : Machine) × (r ≡ ran m)
+  pub run-ended : (r : Ran) → ended r b .answer ≡ finished t e k u w → (m : Machine) × (r ≡ ran m)
   unfolding ended
   run-ended (ran m) h = (m, refl)
   run-ended (refused n) h = absurd (not-running n t e k u w h)

@@ -43,7 +43,7 @@ use Rattle.theorems.proofs.WalkLeaves.{Any, GoodLeaf, Fine, FineNamed, 
 use Rattle.theorems.proofs.Written.{Joins, Good, Goods, goods-closed, goods-look}
 
 -- well-formed texts
-abbrev Utf8 : Bytes → Type 0
+abbrev pub Utf8 : Bytes → Type 0
 Utf8 t = isUtf8 t ≡ true
 
 text-utf8 : (t : Bytes) → isText t ≡ true → Utf8 t
@@ -63,7 +63,7 @@ ascii-utf8 : (t : Bytes) → Ascii t → Utf8 t
 unfolding isUtf8
 ascii-utf8 t h = eq-eqb _ _ (ascii-run t h)
 
-utf8-append : (a b : Bytes) → Utf8 a → Utf8 b → Utf8 (a ++ b)
+pub utf8-append : (a b : Bytes) → Utf8 a → Utf8 b → Utf8 (a ++ b)
 unfolding isUtf8
 utf8-append a b h k = eq-eqb _ _ (run-append utf8Step 0 a b ∙ ap (λ (q : ℕ). run utf8Step q b) (eqb-true _ _ h) ∙ eqb-true _ _ k)
 
@@ -127,7 +127,7 @@ unfolding ValidArgumentsImage
 image-fine l h = values-fine l (h .0 .0)
 
 -- what resolution writes and reports in a valid bundle, given valid arguments
-resolves-good : (v : Store) → ValidStore v → (l : List (Bytes × Argument)) → ValidArgumentsImage l
+pub resolves-good : (v : Store) → ValidStore v → (l : List (Bytes × Argument)) → ValidArgumentsImage l
     → (id : Bytes) (a : Option Bytes) (e : Entry) (p : Pattern) → asMessage (findIn (v .items) id) ≡ some e → partOf a e ≡ some p
     → Good Utf8 Brief Any (resolve (settingOf v l) (findIn (v .items)) maxPatterns p (bytesOf p ∷ []) fresh)
 unfolding fresh
@@ -136,7 +136,7 @@ resolves-good v valid l vl id a e p f k =
     (pattern-good v valid (valuesOf l)) (v .locale) (v .isolating) maxPatterns p (found-valid v valid id a e p (message-held _ e f) k) (bytesOf p ∷ []) fresh tt
 
 -- where TooManyPlaceables is listed, a 101st was begun
-begun-over : (m : Machine) → Placeables m → 0 < tooManyIn (m .errors) → m .begun ≡ 101
+pub begun-over : (m : Machine) → Placeables m → 0 < tooManyIn (m .errors) → m .begun ≡ 101
 begun-over m p h = go (leb (m .begun) 100) refl
   where
     go : (x : Bool) → leb (m .begun) 100 ≡ x → m .begun ≡ 101

@@ -45,7 +45,7 @@ module _ (L : Limits) where
   step-refused (free n) m c h = absurd (not-ran _ c h)
   step-refused (merged n) m c h = subst Running (allow-refused _ _ 17 _ c h) Running.merge
 
-  exec-refused : (t : Trace) (m : Machine) (c : ℕ) → exec L t m ≡ refused c → Running c
+  pub exec-refused : (t : Trace) (m : Machine) (c : ℕ) → exec L t m ≡ refused c → Running c
   unfolding exec andThen
   exec-refused [] m c h = absurd (not-ran m c h)
   exec-refused (e ∷ t) m c h = go (step L e m) refl (λ n. exec-refused t n c) h

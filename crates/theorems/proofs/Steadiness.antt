@@ -34,15 +34,15 @@ use Rattle.theorems.proofs.Within.{within}
 use Rattle.theorems.proofs.Formattings.{sound}
 
 -- a store with more items, behind the others
-abbrev withItems : Store → List Item → Store
+abbrev pub withItems : Store → List Item → Store
 withItems v new = record { locale = v .locale; isolating = v .isolating; items = v .items ++ new }
 
 -- s′ holds v with more items behind, none of them overriding
-record Extended (v : Store) (s′ : Bytes) : Type 0 where
-  new : List Item
-  firsts : AllFirstWins new
-  used : ℕ
-  reads : storeOf s′ ≡ got (withItems v new) used
+pub record Extended (v : Store) (s′ : Bytes) : Type 0 where
+  pub new : List Item
+  pub firsts : AllFirstWins new
+  pub used : ℕ
+  pub reads : storeOf s′ ≡ got (withItems v new) used
 
 none-new : (v : Store) → withItems v [] ≡ v
 none-new v = ap (λ (l : List Item). record { locale = v .locale; isolating = v .isolating; items = l }) (append-nil (v .items))
@@ -50,7 +50,7 @@ none-new v = ap (λ (l : List Item). record { locale = v .locale; isolating = v 
 unchanged : (v : Store) (s : Bytes) (used : ℕ) → storeOf s ≡ got v used → Extended v s
 unchanged v s used h = record { new = []; firsts = tt; used = used; reads = h ∙ ap (λ (x : Store). got x used) (sym (none-new v)) }
 
-same-store : (v w : Store) (i j : ℕ) (s : Bytes) → storeOf s ≡ got v i → storeOf s ≡ got w j → w ≡ v
+pub same-store : (v w : Store) (i j : ℕ) (s : Bytes) → storeOf s ≡ got v i → storeOf s ≡ got w j → w ≡ v
 same-store v w i j s h k = cc
 
 accepted-extends : (v : Store) (used : ℕ) (s s′ : Bytes) (x : Item) → FirstWins x → storeOf s ≡ got v used → Accepted s s′ x → Extended v s′
@@ -101,7 +101,7 @@ one-sized (Addition.function id code) b s oct = go (addFunction s id code .answe
     go (adding.refused k) q = rw (function-refused s id code k q) (refl, oct)
 
 -- the whole list
-all-extend : (xs : List Addition) → AllInBytes xs → (v : Store) (used : ℕ) (s : Bytes) → Octets s → storeOf s ≡ got v used
+pub all-extend : (xs : List Addition) → AllInBytes xs → (v : Store) (used : ℕ) (s : Bytes) → Octets s → storeOf s ≡ got v used
     → Extended v (slicesAfter xs s)
 unfolding slicesAfter
 all-extend [] b v used s oct h = unchanged v s used h
@@ -118,7 +118,7 @@ slices-sized (x ∷ xs) b s oct =
     slices-sized xs (b .1) (sliceAfter x s) (r .1) ∙ r .0
 
 -- what a machine leaves in the front of two buffers
-same-end : (m : Machine) (b b′ : Buffers) → length (encErrors (m .errors)) ≤ 4294967295
+pub same-end : (m : Machine) (b b′ : Buffers) → length (encErrors (m .errors)) ≤ 4294967295
     → Same (length (m .written)) (ended (ran m) b) (ended (ran m) b′)
 unfolding ended atFront
 same-end m b b′ h = record {
@@ -192,7 +192,7 @@ added-to (Addition.function id code) b s oct = record {
 }
 
 -- and each of the list
-each-added : (xs : List Addition) → AllInBytes xs → (s : Bytes) → Octets s → EachAdded s xs
+pub each-added : (xs : List Addition) → AllInBytes xs → (s : Bytes) → Octets s → EachAdded s xs
 each-added [] b s oct = tt
 each-added (x ∷ xs) b s oct = (added-to x (b .0) s oct, each-added xs (b .1) (sliceAfter x s) (one-sized x (b .0) s oct .1))
 

@@ -72,14 +72,14 @@ module _ (L : Limits) where
   step-within (free n) m m′ f h = subst (λ x. Within L x) (same-machine _ m′ h) (record { text = f .text; list = f .list; stated = f .stated; work = f .work; used = omega (arith, f .used) })
   step-within (merged n) m m′ f h = subst (λ x. Within L x) (allowed _ _ _ _ m′ h) f
 
-  exec-within : (t : Trace) (m m′ : Machine) → Within L m → exec L t m ≡ ran m′ → Within L m′
+  pub exec-within : (t : Trace) (m m′ : Machine) → Within L m → exec L t m ≡ ran m′ → Within L m′
   unfolding exec
   exec-within [] m m′ f h = subst (λ x. Within L x) (same-machine m m′ h) f
   exec-within (e ∷ t) m m′ f h =
       let o : Onward L e t m m′ = onward L e t m m′ h in
       exec-within t (o .mid) m′ (step-within e m (o .mid) f (o .first)) (o .rest)
 
-  start-within : Within L start
+  pub start-within : Within L start
   unfolding start encErrors encWhole encAll toBe listHeader
   start-within = record { text = omega arith; list = λ z. z; stated = omega arith; work = omega arith; used = omega arith }
 

@@ -1,0 +1,14 @@
+pub mod Messages
+pub mod Begun
+pub mod Few
+pub mod Requests
+pub mod Effects
+pub mod Above
+pub mod Parts
+pub mod Beside
+pub mod Alone
+pub mod Joining
+pub mod Steadiness
+pub mod Fine
+pub mod Answers
+pub mod Refusals

@@ -1,0 +1,7 @@
+pub mod Sheet
+pub mod Begun
+pub mod ClaimsJoining
+pub mod ClaimsSteadiness
+pub mod ClaimsAnswers
+pub mod ClaimsRefusals
+pub mod Cases
