@@ -16,6 +16,10 @@ use Rattle.resolution.specs.Effect.{Bytes, Effect, Trace, begin, expand, free, 
 use Rattle.resolution.specs.Exec.{Limits, Machine, Ran, allow, allowIf, andThen, exec, putAt, putText, putWork, ran, refused, step}
 use Rattle.resolution.specs.Format as formatting
 use Rattle.resolution.specs.Format.{Buffers, Formatted, ended, format, formatArguments, formatEntry, formatPart, formatStore, formatWith, runPattern}
+use Rattle.theorems.specs.Finished.{Running}
+use Rattle.sheets.specs.Sheet.{formatSheet}
+use Rattle.sheets.specs.ClaimsRefusals.{SheetBefore, SheetRunning, SheetAnswers, cleared}
+use Rattle.sheets.proofs.Refusals.{sheet-answers}
 use Rattle.exports.specs.Zero.{Told, FormatTold}
 
 -- == New bundles and additions
@@ -138,3 +142,30 @@ store-told (got store used) id a image b = or-format-told _ 8 b _ (λ h. omega (
 pub format-told : (s id : Bytes) (a : Option Bytes) (image : Bytes) (b : Buffers) → FormatTold (format s id a image b .answer)
 unfolding format
 format-told s id a image b = store-told (storeOf s) id a image b
+
+-- == Sheets: 4, 18 and 7 before any message, 11, 12, 13 and those of a run behind it
+
+before-told : {n : ℕ} → SheetBefore n → n ≡ 0 → ⊥
+before-told SheetBefore.store h = omega (arith, h)
+before-told SheetBefore.sheet h = omega (arith, h)
+before-told SheetBefore.header h = omega (arith, h)
+
+run-told : {n : ℕ} → Running n → n ≡ 0 → ⊥
+run-told Running.text h = omega (arith, h)
+run-told Running.list h = omega (arith, h)
+run-told Running.work h = omega (arith, h)
+run-told Running.merge h = omega (arith, h)
+
+running-told : {n : ℕ} → SheetRunning n → n ≡ 0 → ⊥
+running-told SheetRunning.message h = omega (arith, h)
+running-told SheetRunning.part h = omega (arith, h)
+running-told SheetRunning.arguments h = omega (arith, h)
+running-told (SheetRunning.run r) h = run-told r h
+
+pub sheet-told : (s image : Bytes) (b : Buffers) → FormatTold (formatSheet s image b .answer)
+sheet-told s image b = go (sheet-answers s image b)
+  where
+    go : SheetAnswers s image b → FormatTold (formatSheet s image b .answer)
+    go (SheetAnswers.success t e k u w h) = rw h tt
+    go (SheetAnswers.before n x h) = rw h (unfold formatting.refuse in before-told x)
+    go (SheetAnswers.running n x f h) = rw h (unfold cleared in running-told x)

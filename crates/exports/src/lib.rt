@@ -7,6 +7,7 @@ ghost use mathlib.Core.Path.{_≡_};
 ghost use Rattle.bundle.specs.Additions.{newBundle, addResource, addResourceOverriding, addFunction};
 ghost use Rattle.records.specs.Optional.{optionOf};
 ghost use Rattle.resolution.specs.Format.{format};
+ghost use Rattle.sheets.specs.Sheet.{formatSheet};
 ghost use Rattle.exports.specs.Numbers.{numberOf, countOf, handed};
 
 // A new bundle at the front of a slice. Refusals: 1, 2, 3.
@@ -101,6 +102,44 @@ pub extern "C" fn weszlagyo_format<'a>(
             *begun = f.begun;
             *unfound = f.unfound;
             *used = f.work;
+            0
+        }
+        Formatted::Refused(n) => n,
+        Formatted::Cleared(n) => n,
+    }
+}
+
+// Formats the messages of a sheet image one after the other into the same text and the same list, and writes the five figures. Refusals: 4, 18 and 7, which
+// change nothing; then, message by message, 11, 12, 13, 15, 7, 16, 17, which clear the three buffers.
+#[no_mangle]
+pub extern "C" fn weszlagyo_format_sheet<'a>(
+    store: &'a [u8],
+    sheet: &'a [u8],
+    text: &mut [u8],
+    list: &mut [u8],
+    work: &mut [u8],
+    written: &mut usize,
+    errors: &mut usize,
+    begun: &mut usize,
+    unfound: &mut u64,
+    used: &mut usize,
+) -> u8
+    ensures { λ r. ⌜ handed (formatSheet (now (store .entry)) (now (sheet .entry))
+        (record { text = now (text .entry); list = now (list .entry); work = now (work .entry) }))
+        (record { written = now (written .entry); errors = now (errors .entry); begun = now (begun .entry); unfound = now (unfound .entry); used = now (used .entry) })
+        ≡ record {
+          number = r;
+          figures = record { written = now (written .exit); errors = now (errors .exit); begun = now (begun .exit); unfound = now (unfound .exit); used = now (used .exit) };
+          buffers = record { text = now (text .exit); list = now (list .exit); work = now (work .exit) };
+        } ⌝ }
+{
+    match sheet_format::format_sheet(store, sheet, text, list, work) {
+        Formatted::Finished(sums) => {
+            *written = sums.text;
+            *errors = sums.errors;
+            *begun = sums.begun;
+            *unfound = sums.unfound;
+            *used = sums.work;
             0
         }
         Formatted::Refused(n) => n,

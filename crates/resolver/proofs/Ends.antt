@@ -15,20 +15,21 @@ use Rattle.records.specs.Images.{Store, Argument, storeOf, argumentsOf}
 use Rattle.records.specs.Errors.{encErrors, listHeader}
 use Rattle.growth.specs.Items.{atFront}
 use Rattle.resolution.specs.Effect.{Bytes}
-use Rattle.resolution.specs.Exec.{Machine, Ran, ran, refused}
+use Rattle.resolution.specs.Exec.{Machine, Ran, ran, refused, start}
 use Rattle.resolution.specs.Format.{Answer, finished, refusedBefore, refusedRunning, Buffers, Formatted, zeros, refuse, orRefuse, ended, formatWith, formatArguments, format, limitsOf, runPattern, valuesOf}
 use Rattle.layout.specs.Exact.{Octets}
 use Rattle.theorems.proofs.Formattings.{few-unfound}
 use Rattle.state.specs.Progress.{Progress}
 use Rattle.resolver.specs.Relations.Meets.{Env, env, Setup, settingOf, findOf}
-use Rattle.state.specs.Setters.{maxUnfound}
+use Rattle.state.specs.Setters.{maxUnfound, newS}
 use Rattle.resolver.specs.declared.format.Answer as code-answer
 use Rattle.resolver.specs.declared.format.Answer.the-variants as ans
 use Rattle.resolver.specs.declared.format.Part as code-part
 use Rattle.resolver.specs.declared.format.Part.the-variants as part-answer
 use Rattle.resolver.specs.Formats.{answerOf, gave}
-use Rattle.resolver.specs.Relations.Runs.{stopped, stoppedOf, PatternFound, refuses, finds, RanAs, ran-as, refused-as, RunAt, FinishAt}
-use Rattle.resolver.proofs.Whole.{buffers}
+use Rattle.resolver.specs.Relations.Runs.{stopped, stoppedOf, PatternFound, refuses, finds, Rests, RanAs, RunOn, closed}
+use Rattle.resolver.proofs.Whole.{buffers, rests-start}
+use Rattle.resolver.proofs.Finish.{closes}
 
 -- the count of lookups unfound is never so high that it stops
 answer-is : (x : Answer) → ((t e b u w : ℕ) → x ≡ finished t e b u w → u ≤ maxUnfound) → stoppedOf x ≡ x
@@ -37,7 +38,7 @@ answer-is (finished t e b u w) h = let m : min u maxUnfound ≡ u = omega (arith
 answer-is (refusedBefore n) h = refl
 answer-is (refusedRunning n) h = refl
 
-stopped-is : (f : Formatted) → ((t e b u w : ℕ) → f .answer ≡ finished t e b u w → u ≤ maxUnfound) → stopped f ≡ f
+pub stopped-is : (f : Formatted) → ((t e b u w : ℕ) → f .answer ≡ finished t e b u w → u ≤ maxUnfound) → stopped f ≡ f
 unfolding stopped
 stopped-is f h = ap (λ (a : Answer). record { answer = a; buffers = f .buffers }) (answer-is (f .answer) h)
 
@@ -76,12 +77,14 @@ module _ (s id : Bytes) (a : Option Bytes) (image x l w : Bytes) {p : code-part.
       format-header small er = found-elim (λ st used pt f hs hp k. refused-is s id a image x l w 7 (k ∙ rw (ha, lt-leb 5 (length l) small)) er)
 
       -- the run
-      pub format-run : {x₁ l₁ w₁ x₂ l₂ w₂ : Bytes} {sc : Progress} {r : code-answer.Answer} → Octets s → 5 ≤ length l → RunAt (env s image) q x l w x₁ l₁ w₁ sc → FinishAt sc x₁ l₁ w₁ x₂ l₂ w₂ r
-          → gave r x₂ l₂ w₂ ≡ format s id a image (buffers x l w)
-      unfolding formatArguments formatWith orRefuse listHeader
-      format-run {r = r} oct big ru fi = found-elim (λ st used pt f hs hp k.
+      pub format-run : {x₁ l₁ w₁ : Bytes} {p sc : Progress} {n : ℕ} {given : Formatted} → Octets s → 5 ≤ length l → p ≡ newS (length w) → RunOn (env s image) q x l w p x₁ l₁ w₁ sc → n ≡ sc .begun
+          → given ≡ closed sc n (buffers x₁ l₁ w₁) → given ≡ format s id a image (buffers x l w)
+      unfolding formatArguments formatWith orRefuse listHeader runPattern
+      format-run {x₁} {l₁} {w₁} {p = p} {sc = sc} {n = n} oct big ep ru en g = found-elim (λ st used pt f hs hp k.
           let u : Setup (env s image) = record { held = st; used = used; held-at = hs; given = args; given-end = end; given-at = ha } in
           let o : Ran = runPattern (settingOf (env s image) u) (findOf (env s image) u) (limitsOf (buffers x l w)) pt in
-          let g = fi .finishes o x l w (ru .runs u pt f hp big) (ru .text-size) (ru .list-size) (ru .work-size) in
+          let begins : Rests x l w p start = subst (λ (y : Progress). Rests x l w y start) (sym ep) (rests-start x l w big) in
+          let ran : RanAs o x l p x₁ l₁ w₁ sc (sc .begun) = ru .runs u pt f hp start (unfold start in refl) begins .0 in
+          let c : closed sc n (buffers x₁ l₁ w₁) ≡ stopped (ended o (buffers x l w)) = closes x l w p x₁ l₁ w₁ sc n (ru .text-size) (ru .list-size) (ru .work-size) o (subst (λ (j : ℕ). RanAs o x l p x₁ l₁ w₁ sc j) (sym en) ran) in
           let d : format s id a image (buffers x l w) ≡ ended o (buffers x l w) = k ∙ rw (ha, le-leb 5 (length l) big) in
-          g ∙ sym (ap stopped d) ∙ stopped-is (format s id a image (buffers x l w)) (λ t e b u v h. omega (arith, few-unfound s id a image (buffers x l w) oct t e b u v h)))
+          g ∙ c ∙ sym (ap stopped d) ∙ stopped-is (format s id a image (buffers x l w)) (λ t e b u v h. omega (arith, few-unfound s id a image (buffers x l w) oct t e b u v h)))

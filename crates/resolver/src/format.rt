@@ -23,7 +23,7 @@ ghost use Prim.Native.Nat.{_%_};
 ghost use Rattle.resolution.specs.Format.{format, isIdOrNone};
 ghost use Rattle.resolver.specs.Formats.{gave};
 ghost use Rattle.state.specs.Progress.{progressOf, scopeOf};
-ghost use Rattle.resolver.specs.Relations.Runs.{PatternFound, RunAt, FinishAt};
+ghost use Rattle.resolver.specs.Relations.Runs.{messageIn, PatternFound, RunOn, closed};
 ghost use Rattle.records.specs.Optional.{optionOf};
 ghost use Rattle.resolver.specs.Relations.Meets.{env};
 
@@ -44,7 +44,7 @@ pub enum Answer {
 }
 
 // Where a pattern stands in the store, or the refusal.
-enum Part {
+pub enum Part {
     At(usize),
     Refused(u8),
 }
@@ -57,6 +57,23 @@ fn is_id_or_none(has: bool, attribute: &[u8]) -> bool
         return is_id(attribute);
     }
     true
+}
+
+// The pattern of a message's value or attribute, or the refusal: 11, 12.
+pub fn find_message(store: &[u8], id: &[u8], has: bool, attribute: &[u8]) -> Part
+    ensures { λ r. ⌜ r ≡ messageIn (now (store .entry)) (now (id .entry)) (optionOf has (now (attribute .entry))) ⌝ }
+{
+    match find_holder(store, id) {
+        Found::Message(entry) => {
+            let Next::At(q) = find_part(store, entry, has, attribute) else {
+                return Part::Refused(12);
+            };
+            Part::At(q)
+        }
+        Found::Term(_) => Part::Refused(11),
+        Found::Function => Part::Refused(11),
+        Found::Nothing => Part::Refused(11),
+    }
 }
 
 // The pattern that is asked for, or the refusal: 4, 8, 11, 12.
@@ -72,21 +89,11 @@ fn find_pattern(store: &[u8], id: &[u8], has: bool, attribute: &[u8]) -> Part
     if !is_id_or_none(has, attribute) {
         return Part::Refused(8);
     }
-    match find_holder(store, id) {
-        Found::Message(entry) => {
-            let Next::At(q) = find_part(store, entry, has, attribute) else {
-                return Part::Refused(12);
-            };
-            Part::At(q)
-        }
-        Found::Term(_) => Part::Refused(11),
-        Found::Function => Part::Refused(11),
-        Found::Nothing => Part::Refused(11),
-    }
+    find_message(store, id, has, attribute)
 }
 
-// The run of the pattern at q.
-fn run<'a>(
+// The run of the pattern at q, from where text, list and counts stand: nothing is begun, nothing is travelled, and there are no term's arguments.
+pub fn run_on<'a>(
     store: &'a [u8],
     args: &'a [u8],
     text: &mut [u8],
@@ -95,11 +102,10 @@ fn run<'a>(
     st: &mut [usize; 16],
     q: usize,
 ) -> Scope
-    ensures { λ r. ⌜ RunAt (env (now (store .entry)) (now (args .entry))) q (now (text .entry)) (now (list .entry)) (now (work .entry)) (now (text .exit)) (now (list .exit)) (now (work .exit)) (progressOf (now (st .exit))) × (r ≡ scopeOf (progressOf (now (st .exit)))) ⌝ }
+    ensures { λ r. ⌜ RunOn (env (now (store .entry)) (now (args .entry))) q (now (text .entry)) (now (list .entry)) (now (work .entry)) (progressOf (now (st .entry))) (now (text .exit)) (now (list .exit)) (now (work .exit)) (progressOf (now (st .exit))) × (r ≡ scopeOf (progressOf (now (st .exit)))) ⌝ }
 {
     let mut trail = [0usize; 102];
     let mut value = [0usize; 10];
-    start(st, work.len());
     enter(&mut trail, st, q);
     resolve(store, args, text, list, work, &mut trail, st, &mut value, q)
 }
@@ -118,15 +124,16 @@ fn count(n: usize) -> u64
     n as u64
 }
 
-// What the buffers hold in the end: the workspace is zero; text and list too, where the run was refused, and else the list has its header.
-fn finish(
+// What the buffers hold in the end: the workspace is zero; text and list too, where the run was refused, and else the list has its header. So many placeables
+// were begun.
+pub fn finish(
     st: &[usize; 16],
-    scope: Scope,
+    begun: usize,
     text: &mut [u8],
     list: &mut [u8],
     work: &mut [u8],
 ) -> Answer
-    ensures { λ r. ⌜ (scope ≡ scopeOf (progressOf (now (st .entry))) → FinishAt (progressOf (now (st .entry))) (now (text .entry)) (now (list .entry)) (now (work .entry)) (now (text .exit)) (now (list .exit)) (now (work .exit)) r) ⌝ }
+    ensures { λ r. ⌜ gave r (now (text .exit)) (now (list .exit)) (now (work .exit)) ≡ closed (progressOf (now (st .entry))) begun (record { text = now (text .entry); list = now (list .entry); work = now (work .entry) }) ⌝ }
 {
     fill_zero(work);
     let refused = st[REFUSED];
@@ -139,7 +146,7 @@ fn finish(
     Answer::Finished(Figures {
         text: st[TEXT_AT],
         errors: st[ERRORS],
-        begun: scope.begun,
+        begun,
         unfound: count(st[UNFOUND]),
         work: st[HIGH],
     })
@@ -168,8 +175,9 @@ pub fn format<'a>(
                 return Answer::Refused(7);
             }
             let mut st = [0usize; 16];
-            let scope = run(store, args, text, list, work, &mut st, q);
-            finish(&st, scope, text, list, work)
+            start(&mut st, work.len());
+            let scope = run_on(store, args, text, list, work, &mut st, q);
+            finish(&st, scope.begun, text, list, work)
         }
     }
 }

@@ -1,8 +1,7 @@
 -- `resolver::format::finish` meets its contract: cleared where the run was refused, and else the header over the records.
-use Rattle.resolver.proofs.Finish.{finish-cleared, finish-ran}
-use Rattle.state.specs.declared.Scope.{Scope}
+use Rattle.resolver.proofs.Finish.{closed-cleared, closed-finished}
 use borrow.Author.Needs.{needs}
-use mathlib.Core.Path.{ap, refl}
+use mathlib.Core.Path.{refl}
 use Rattle.resolver.proofs.format.finish.Statement.{statement}
 use Rattle.resolver.proofs.format.finish.Tie as tie
 
@@ -31,7 +30,7 @@ same-length-3 : tie.Need-same-length-3
 same-length-3 c = search needs
 
 returns : tie.Need-returns
-returns c = λ e. finish-cleared _ _ _ _ (c .before .before .before .before .before .before .before .before .before .if1 .taken) (c .before .before .before .before .before .before .before .fill-zero2 .ensures) (c .before .before .before .fill-zero3 .ensures) (c .before .before .before .before .before .before .before .before .before .before .before .before .before .fill-zero .ensures) (c .refusal .ensures) refl
+returns c = closed-cleared _ _ _ _ _ (c .before .before .before .before .before .before .before .before .before .if1 .taken) (c .before .before .before .before .before .before .before .fill-zero2 .ensures) (c .before .before .before .fill-zero3 .ensures) (c .before .before .before .before .before .before .before .before .before .before .before .before .before .fill-zero .ensures) (c .refusal .ensures)
 
 element-copy-out-put-header : tie.Need-element-copy-out-put-header
 element-copy-out-put-header c = search needs
@@ -61,7 +60,7 @@ same-length-5 : tie.Need-same-length-5
 same-length-5 c = search needs
 
 returns-2 : tie.Need-returns-2
-returns-2 c = λ e. finish-ran _ _ _ _ (c .before .before .before .before .before .before .before .before .before .before .if1 .left) refl (c .before .before .before .before .before .before .before .put-header .ensures) (c .before .before .before .before .before .before .before .before .before .before .before .before .before .before .fill-zero .ensures) (ap (λ (y : Scope). y .begun) e) (c .before .count .ensures) refl
+returns-2 c = closed-finished _ _ _ _ _ (c .before .before .before .before .before .before .before .before .before .before .if1 .left) refl (c .before .before .before .before .before .before .before .put-header .ensures) (c .before .before .before .before .before .before .before .before .before .before .before .before .before .before .fill-zero .ensures) (c .before .count .ensures)
 
 pub finish-spec : {M : Type 1} → statement M
 finish-spec = tie.close (tie.spec fill-zero-requires element-copy-out-refused fill-zero-requires-2 fill-zero-requires-3 refusal-requires same-length same-length-2 same-length-3 returns element-copy-out-put-header put-header-requires element-copy-out-t12 element-copy-out-t28 element-copy-out-count count-requires element-copy-out-t35 same-length-4 same-length-5 returns-2)
