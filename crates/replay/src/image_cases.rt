@@ -1,4 +1,4 @@
-// The cases of stores, images and arguments: does the library answer what the oracle answered.
+// The cases of stores, images, arguments and sheet images: does the library answer what the oracle answered.
 use arguments::Given;
 use arguments::check_arguments;
 use arguments::find_argument;
@@ -8,6 +8,7 @@ use decimals::bytes::same_bytes;
 use images::check_resource;
 use images::check_store;
 use records::Next;
+use requests::check_sheet;
 use unescape::unescape_into;
 use vectors::blob;
 use vectors::byte;
@@ -20,11 +21,12 @@ use vectors::string;
 use vectors::tail;
 use vectors::u64_at;
 
-// Is it a store (4), a resource image (5), an arguments image (13)?
+// Is it a store (4), a resource image (5), a sheet image (18), an arguments image (13)?
 fn checked(kind: u8, s: &[u8]) -> Next {
     match kind {
         4 => check_store(s),
         5 => check_resource(s),
+        18 => check_sheet(s),
         _ => check_arguments(s),
     }
 }
@@ -41,6 +43,7 @@ fn kind_of(op: u8) -> u8 {
     match op {
         20 => 4,
         21 => 5,
+        51 => 18,
         _ => 13,
     }
 }

@@ -16,6 +16,9 @@ use vectors::next_case;
 use vectors::no_counts;
 use vectors::open;
 use vectors::part;
+use vectors::past;
+use vectors::past_string;
+use vectors::string;
 ghost use Prim.Native.Nat.{_<_};
 
 // Does the case agree?
@@ -27,7 +30,7 @@ fn agrees(op: u8, s: &[u8]) -> bool {
         4 => number_cases::function_case(s),
         5 => number_cases::equality_case(s),
         6 => number_cases::match_case(s),
-        20 | 21 | 22 => image_cases::image_case(s),
+        20 | 21 | 22 | 51 => image_cases::image_case(s),
         23 => image_cases::unescape_case(s),
         24 => image_cases::find_case(s),
         30 | 31 | 32 => addition_cases::addition_case(s, op),
@@ -35,15 +38,17 @@ fn agrees(op: u8, s: &[u8]) -> bool {
     }
 }
 
-// The place of an operation's count, 0 for one that is not known. That of its differences is 64 further.
-fn place(op: u8) -> usize
+// The place of an operation's count, 0 for one that is not known; damaged sheet images, of the kind 18, have the place 52. That of its differences is 64
+// further.
+fn place(op: u8, kind: u8) -> usize
     ensures { λ r. ⌜ r < 64 ⌝ }
 {
-    if 32 < op {
+    if 51 < op {
         return 0;
     }
     match op {
-        7..=19 | 26..=29 => 0,
+        7..=19 | 26..=29 | 33..=50 => 0,
+        25 => if kind == 18 { 52 } else { 25 },
         _ => op as usize,
     }
 }
@@ -51,11 +56,11 @@ fn place(op: u8) -> usize
 // A damage case stands for many images.
 fn compared(counts: Counts, s: &[u8]) -> Counts {
     let op = byte(s, 0);
-    let at = place(op);
+    let at = place(op, byte(s, 1));
     if op == 25 {
         return counted(
-            counted(counts, 25, image_cases::damage_count(s)),
-            89,
+            counted(counts, at, image_cases::damage_count(s)),
+            at + 64,
             image_cases::damage_case(s),
         );
     }
@@ -95,37 +100,26 @@ fn row(counts: Counts, place: u8, words: &[u8]) {
     line(counts, at + 64, b" differ\n");
 }
 
-fn show_numbers(counts: Counts) {
-    row(counts, 1, b" literals, ");
-    row(counts, 2, b" number texts, ");
-    row(counts, 3, b" categories, ");
-    row(counts, 4, b" calls of NUMBER, ");
-    row(counts, 5, b" equalities, ");
-    row(counts, 6, b" category words, ");
-}
-
-fn show_images(counts: Counts) {
-    row(counts, 20, b" stores, ");
-    row(counts, 21, b" resource images, ");
-    row(counts, 22, b" arguments images, ");
-    row(counts, 23, b" string literals, ");
-    row(counts, 24, b" arguments looked for, ");
-    row(counts, 25, b" damaged images, ");
-}
-
-fn show_additions(counts: Counts) {
-    row(counts, 30, b" new bundles, ");
-    row(counts, 31, b" resource additions, ");
-    row(counts, 32, b" function additions, ");
-    row(counts, 0, b" unknown, ");
+// The rows that are printed: u8 place, Str words.
+fn show(counts: Counts, rows: &[u8], count: u8) {
+    let mut at = 0usize;
+    let mut left = count;
+    while 0 < left {
+        let words = past(rows, at, 1);
+        row(counts, byte(rows, at), string(rows, words));
+        at = past_string(rows, words);
+        left -= 1;
+    }
 }
 
 fn main() {
     let a = replayed(no_counts(), b"numbers.vec");
     let b = replayed(a, b"images.vec");
     let c = counted(replayed(b, b"additions.vec"), 33, limit::limit());
-    show_numbers(c);
-    show_images(c);
-    show_additions(c);
+    show(
+        c,
+        b"\x01\x00\x0B literals, \x02\x00\x0F number texts, \x03\x00\x0D categories, \x04\x00\x12 calls of NUMBER, \x05\x00\x0D equalities, \x06\x00\x11 category words, \x14\x00\x09 stores, \x15\x00\x12 resource images, \x16\x00\x13 arguments images, \x17\x00\x12 string literals, \x18\x00\x17 arguments looked for, \x19\x00\x11 damaged images, \x33\x00\x0F sheet images, \x34\x00\x17 damaged sheet images, \x1E\x00\x0E new bundles, \x1F\x00\x15 resource additions, \x20\x00\x15 function additions, \x00\x00\x0A unknown, ",
+        18,
+    );
     line(c, 33, b" differ at the limit of a store\n");
 }

@@ -1,65 +1,49 @@
 // A case, formatted in buffers of several lengths, each time compared with what the oracle answered.
 use crate::fields::Lengths;
-use crate::fields::alike;
-use crate::fields::counts_at;
+use crate::fields::figures;
 use crate::fields::lent;
 use crate::fields::places_of;
-use crate::fields::used;
+use crate::fields::second;
 use resolver::format::Answer;
 use resolver::format::Figures;
 use resolver::format::format;
+use sheet_format::format_sheet;
+use std::num::wrapping_sub_usize;
 use vectors::all_are;
 use vectors::begins;
 use vectors::blob;
 use vectors::byte;
 use vectors::flag;
-use vectors::past;
-use vectors::past_blob;
+use vectors::part;
 use vectors::string;
-use vectors::u16_at;
-use vectors::u32_at;
-
-// What a buffer has at most.
-const ROOM: usize = 8192;
 
 // == The ways: 0 as the case lends, 1 ample, 2 just fitting, 3 a text, 4 a list, 5 a workspace one byte short.
-
-fn one_less(n: usize) -> usize {
-    if n == 0 { 0 } else { n - 1 }
-}
-
-fn shortened(n: Lengths, way: u8) -> Lengths {
-    let mut r = n;
-    match way {
-        3 => {
-            r.text = one_less(n.text);
-        }
-        4 => {
-            r.list = one_less(n.list);
-        }
-        5 => {
-            r.work = one_less(n.work);
-        }
-        _ => {}
-    }
-    r
-}
 
 fn lengths(s: &[u8], told: &[u8], way: u8) -> Lengths {
     match way {
         0 => lent(s),
-        1 => alike(ROOM),
-        _ => shortened(used(told), way),
+        1 => Lengths {
+            text: 65537,
+            list: 8192,
+            work: 8192,
+        },
+        _ => {
+            let f = figures(byte(s, 0), told);
+            Lengths {
+                text: wrapping_sub_usize(f.text, (way == 3) as usize),
+                list: wrapping_sub_usize(second(told).len(), (way == 4) as usize),
+                work: wrapping_sub_usize(f.work, (way == 5) as usize),
+            }
+        }
     }
 }
 
-// A buffer that is not used cannot be too short.
-pub(crate) fn is_tried(told: &[u8], way: u8) -> bool {
-    let n = used(told);
+// A buffer that is not used cannot be too short. What finishes has a list.
+pub(crate) fn is_tried(op: u8, told: &[u8], way: u8) -> bool {
+    let f = figures(op, told);
     match way {
-        3 => 0 < n.text,
-        4 => 0 < n.list,
-        5 => 0 < n.work,
+        3 => 0 < f.text,
+        5 => 0 < f.work,
         _ => true,
     }
 }
@@ -76,77 +60,58 @@ fn wanted(told: &[u8], way: u8) -> u8 {
 
 // == What is compared
 
-// The lengths and counts that a finished formatting carries.
-fn counted(told: &[u8], f: Figures) -> bool {
-    let n = used(told);
-    if f.text != n.text {
-        return false;
-    }
-    if f.work != n.work {
-        return false;
-    }
-    let at = counts_at(told);
-    if f.errors as u64 != u16_at(told, at) {
-        return false;
-    }
-    if f.begun != byte(told, past(told, at, 2)) as usize {
-        return false;
-    }
-    f.unfound == u32_at(told, past(told, at, 3))
+fn are_same(f: Figures, g: Figures) -> bool {
+    (f.text == g.text)
+        & (f.errors == g.errors)
+        & (f.begun == g.begun)
+        & (f.unfound == g.unfound)
+        & (f.work == g.work)
 }
 
-// Text and list at the front, later bytes as before; the workspace is zero.
-fn written(told: &[u8], text: &[u8], list: &[u8], work: &[u8]) -> bool {
-    if !begins(text, blob(told, 1)) {
-        return false;
-    }
-    if !begins(list, blob(told, past_blob(told, 1))) {
-        return false;
-    }
-    all_are(work, 0)
-}
-
-fn three_are(text: &[u8], list: &[u8], work: &[u8], v: u8) -> bool {
-    if !all_are(text, v) {
-        return false;
-    }
-    if !all_are(list, v) {
-        return false;
-    }
-    all_are(work, v)
-}
-
-// A refusal met before the run: of 7 that is a list too short for its header.
-fn is_before(n: u8, list: &[u8]) -> bool {
+// What a refusal leaves in every byte: AA, as it was, before the run, and 0 in it. Of 7 the one before is a list too short for its header. Of a sheet those
+// about a message are met in the run.
+fn left(op: u8, n: u8, list: usize) -> u8 {
     match n {
-        4 | 8 | 11 | 12 | 13 => true,
-        7 => list.len() < 5,
-        _ => false,
+        4 | 18 => 0xAA,
+        7 => if list < 5 { 0xAA } else { 0 },
+        8 | 11 | 12 | 13 => if op == 50 { 0 } else { 0xAA },
+        _ => 0,
     }
 }
 
-// The answer as a number: 0 where it is finished with the counts told, the refusal, and 255 where it is another than can be told.
-fn answer(told: &[u8], r: Answer, list: &[u8]) -> u8 {
+// Is it the answer that is wanted, with the figures that are told?
+fn is_answer(r: Answer, want: u8, left: u8, figures: Figures) -> bool {
     match r {
-        Answer::Finished(f) => if counted(told, f) { 0 } else { 255 },
-        Answer::Refused(n) => if is_before(n, list) { n } else { 255 },
-        Answer::Cleared(n) => if is_before(n, list) { 255 } else { n },
+        Answer::Finished(f) => (want == 0) & are_same(f, figures),
+        Answer::Refused(n) => (left == 0xAA) & (n == want),
+        Answer::Cleared(n) => (left == 0) & (n == want) & (n != 0),
     }
 }
 
-// Every byte of the buffers. A refusal before the run changes nothing, one in it clears the buffers.
-fn as_told(told: &[u8], answer: u8, text: &[u8], list: &[u8], work: &[u8]) -> bool {
-    if answer == 0 {
-        return written(told, text, list, work);
+// Every byte that was lent. Finished: text and list at the front, later bytes as before, and the workspace is zero.
+fn are_left(
+    told: &[u8],
+    want: u8,
+    left: u8,
+    n: Lengths,
+    text: &[u8; 65537],
+    list: &[u8; 8192],
+    work: &[u8; 8192],
+) -> bool {
+    let t = part(text, 0, n.text);
+    let l = part(list, 0, n.list);
+    let w = part(work, 0, n.work);
+    if want == 0 {
+        return begins(t, blob(told, 1)) & begins(l, second(told)) & all_are(w, 0);
     }
-    if is_before(answer, list) {
-        return three_are(text, list, work, 0xAA);
-    }
-    three_are(text, list, work, 0)
+    all_are(t, left) & all_are(l, left) & all_are(w, left)
 }
 
 // The product, on what the case holds.
 fn formatted(s: &[u8], text: &mut [u8], list: &mut [u8], work: &mut [u8]) -> Answer {
+    if byte(s, 0) == 50 {
+        return format_sheet(blob(s, 1), second(s), text, list, work);
+    }
     let p = places_of(s);
     format(
         blob(s, 1),
@@ -160,19 +125,9 @@ fn formatted(s: &[u8], text: &mut [u8], list: &mut [u8], work: &mut [u8]) -> Ans
     )
 }
 
-fn compared(
-    s: &[u8],
-    told: &[u8],
-    want: u8,
-    text: &mut [u8],
-    list: &mut [u8],
-    work: &mut [u8],
-) -> bool {
-    let a = answer(told, formatted(s, text, list, work), list);
-    if a != want {
-        return false;
-    }
-    as_told(told, a, text, list, work)
+// Bytes to lend for a text.
+fn room() -> [u8; 65537] {
+    [0xAA; 65537]
 }
 
 pub(crate) fn agrees(s: &[u8], told: &[u8], way: u8) -> bool {
@@ -180,25 +135,27 @@ pub(crate) fn agrees(s: &[u8], told: &[u8], way: u8) -> bool {
     let t = n.text;
     let l = n.list;
     let w = n.work;
-    if ROOM < t {
+    if 65537 < t {
         return false;
     }
-    if ROOM < l {
+    if 8192 < l {
         return false;
     }
-    if ROOM < w {
+    if 8192 < w {
         return false;
     }
-    let mut text = vectors::lent();
+    let op = byte(s, 0);
+    let want = wanted(told, way);
+    let mut text = room();
     let mut list = vectors::lent();
     let mut work = vectors::lent();
     let zero = 0usize;
-    compared(
+    let r = formatted(
         s,
-        told,
-        wanted(told, way),
         &mut text[zero..t],
         &mut list[zero..l],
         &mut work[zero..w],
-    )
+    );
+    let v = left(op, want, l);
+    is_answer(r, want, v, figures(op, told)) & are_left(told, want, v, n, &text, &list, &work)
 }

@@ -1,8 +1,10 @@
-// Replays the oracle's vectors of formattings: the answer, every count and every byte of text, list and workspace, for the buffers that a case lends and,
-// of a formatting that finishes, for ample, just fitting and short ones; and prints the counts. Then the longest arguments image.
+// Replays the oracle's vectors of formattings, of one message and of a sheet: the answer, every count and every byte of text, list and workspace, for the
+// buffers that a case lends and, of a formatting that finishes, for ample, just fitting and short ones; and prints the counts. Then the longest arguments
+// image, and sheets too long for a vector.
 mod cases;
 mod fields;
 mod limit;
+mod sheet_limit;
 
 use fields::answer_at;
 use libc::STDOUT_FILENO;
@@ -16,35 +18,28 @@ use vectors::next_case;
 use vectors::no_counts;
 use vectors::open;
 use vectors::part;
+use vectors::past_string;
+use vectors::string;
 use vectors::tail;
 
-// The places of the counts: 0 cases, 1 refused, 2 ample, 3 just fitting, 4 short, 5 unknown, 6 comparisons that differ, 7 the first case that does.
+// The places of the counts: 0 to 5 formattings by the way that they are tried, 6 cases refused, 7 unknown, 8 comparisons that differ, 9 the first case that
+// does, 10 cases.
 fn differing(c: Counts, by: u64) -> Counts {
     let mut r = c;
     if 0 < by {
-        if r.n[6] == 0 {
-            r.n[7] = r.n[0];
+        if r.n[8] == 0 {
+            r.n[9] = r.n[10];
         }
     }
-    counted(r, 6, by)
-}
-
-// The place of a way's count; place 8 is not printed.
-fn place(way: u8) -> usize {
-    match way {
-        0 => 8,
-        1 => 2,
-        2 => 3,
-        _ => 4,
-    }
+    counted(r, 8, by)
 }
 
 fn tried(c: Counts, s: &[u8], told: &[u8], way: u8) -> Counts {
-    if !cases::is_tried(told, way) {
+    if !cases::is_tried(byte(s, 0), told, way) {
         return c;
     }
     let by = differs(cases::agrees(s, told, way));
-    counted(differing(c, by), place(way), 1)
+    counted(differing(c, by), way as usize, 1)
 }
 
 // A formatting that finishes is tried in buffers of other lengths too.
@@ -58,19 +53,19 @@ fn all_tries(c: Counts, s: &[u8], told: &[u8], count: u8) -> Counts {
     r
 }
 
-fn compared(c: Counts, s: &[u8]) -> Counts {
+pub(crate) fn compared(c: Counts, s: &[u8]) -> Counts {
     let told = tail(s, answer_at(s));
     if byte(told, 0) == 0 {
         return all_tries(c, s, told, 6);
     }
-    all_tries(counted(c, 1, 1), s, told, 1)
+    all_tries(counted(c, 6, 1), s, told, 1)
 }
 
 fn replayed(c: Counts, s: &[u8]) -> Counts {
-    let r = counted(c, 0, 1);
+    let r = counted(c, 10, 1);
     match byte(s, 0) {
-        40 | 41 => compared(r, s),
-        _ => counted(r, 5, 1),
+        40 | 41 | 50 => compared(r, s),
+        _ => counted(r, 7, 1),
     }
 }
 
@@ -90,21 +85,19 @@ fn all_cases(fd: i32, count: u64) -> Counts {
     r
 }
 
-// The last line stands only where a case differs.
-fn show(c: Counts) {
-    line(c, 0, b" formattings\n");
-    line(c, 1, b" of them refused\n");
-    line(c, 2, b" with ample buffers\n");
-    line(c, 3, b" with buffers that just fit\n");
-    line(c, 4, b" with a buffer one byte short\n");
-    line(c, 5, b" unknown\n");
-    line(c, 6, b" differ\n");
-    if 0 < c.n[6] {
-        line(c, 7, b" is the first case that differs\n");
+// The counts at the places from 1 to 8, each with its words, a Str.
+fn show(c: Counts, words: &[u8]) {
+    let mut at = 0usize;
+    let mut i = 1usize;
+    while i < 9 {
+        line(c, i, string(words, at));
+        at = past_string(words, at);
+        i += 1;
     }
 }
 
-fn replay(name: &[u8]) {
+// The last line stands only where a case differs.
+fn replay(name: &[u8], words: &[u8]) {
     let fd = open(name);
     if fd < 0 {
         return;
@@ -112,13 +105,24 @@ fn replay(name: &[u8]) {
     io::write_all(STDOUT_FILENO, name);
     io::write_all(STDOUT_FILENO, b":\n");
     let c = all_cases(fd, case_count(fd));
-    show(c);
     libc::close(fd);
+    line(c, 0, words);
+    show(
+        c,
+        b"\x00\x14 with ample buffers\n\x00\x1C with buffers that just fit\n\x00\x1C with a text one byte short\n\x00\x1C with a list one byte short\n\x00\x21 with a workspace one byte short\n\x00\x09 refused\n\x00\x09 unknown\n\x00\x08 differ\n",
+    );
+    if 0 < c.n[8] {
+        line(c, 9, b" is the first case that differs\n");
+    }
 }
 
 fn main() {
-    replay(b"formats.vec");
-    replay(b"sentences.vec");
+    replay(b"formats.vec", b" formattings\n");
+    replay(b"sentences.vec", b" formattings\n");
+    replay(b"sheets.vec", b" sheets\n");
     let c = counted(no_counts(), 0, limit::limit());
     line(c, 0, b" differ at the longest arguments image\n");
+    let d = sheet_limit::limits(no_counts());
+    line(d, 0, b" sheets too long for a vector, ");
+    line(d, 8, b" differ\n");
 }

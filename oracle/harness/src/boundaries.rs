@@ -1,7 +1,9 @@
-//! Hand-made stores and images at the edges of document 01's rules.
+//! Hand-made stores and images at the edges of document 01's rules, and sheet
+//! images at those of document 02's.
 
 mod images;
 mod parts;
+mod sheets;
 mod strings;
 mod trees;
 
@@ -10,6 +12,7 @@ use images::{arguments, lengths, stores};
 use strings::{ids, numbers, texts};
 use trees::{counts, depths, tags};
 
+pub use sheets::sheets;
 pub use strings::ESCAPES;
 
 type Bytes = Vec<u8>;

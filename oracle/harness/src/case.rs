@@ -3,6 +3,10 @@
 use crate::model::number::Decimal;
 use fluent_syntax::ast::Resource;
 
+pub use crate::case::sheet::{Given, Row, Sheet};
+
+mod sheet;
+
 #[derive(Clone, Debug)]
 pub struct Bundle {
     /// 0 en, 1 da, 2 ru, 3 cy.

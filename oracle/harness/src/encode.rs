@@ -1,8 +1,9 @@
 //! From the tree to document 01's bytes: store, resource image, arguments
-//! image, error list.
+//! image, error list; and document 02's sheet image.
 
 use crate::bytes::Write;
 use crate::case::{Bundle, Item, Value};
+use crate::model::reader::Row;
 use fluent_bundle::resolver::errors::{ReferenceKind, ResolverError};
 use fluent_bundle::{EntryKind, FluentError};
 use fluent_syntax::ast::*;
@@ -205,6 +206,21 @@ pub fn arguments(arguments: &[(String, Value)]) -> Vec<u8> {
             }
             Value::None => rest.u8(3),
         }
+    }
+    with_length(4, rest)
+}
+
+/// A sheet image of these rows.
+pub fn sheet(rows: &[Row]) -> Vec<u8> {
+    let mut rest = vec![1];
+    rest.u16(rows.len());
+    for row in rows {
+        rest.str(&row.message);
+        rest.flag(row.attribute.is_some());
+        if let Some(attribute) = &row.attribute {
+            rest.str(attribute);
+        }
+        rest.raw(&row.arguments);
     }
     with_length(4, rest)
 }

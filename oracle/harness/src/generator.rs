@@ -4,6 +4,7 @@ mod calls;
 mod fans;
 mod inline;
 mod patterns;
+mod sheet;
 mod words;
 
 use crate::case::{Bundle, Case, Item, Value};
@@ -13,6 +14,7 @@ use crate::model::reader;
 use crate::random::Random;
 use crate::vectors::numbers::decimal;
 use fluent_syntax::ast::*;
+pub use sheet::sheet_generator;
 use words::{ATTRIBUTES, FUNCTIONS, IDS, TEXTS, VARIABLES};
 
 /// The case of a seed.

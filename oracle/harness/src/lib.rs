@@ -17,11 +17,12 @@ pub mod points;
 pub mod random;
 pub mod rust;
 pub mod sentences;
+pub mod sheet_points;
 pub mod sheets;
 pub mod vectors;
 
-pub use expected::{expected, Expected};
-pub use generator::{generator, Maker};
+pub use expected::{expected, expected_sheet, Expected, ExpectedSheet};
+pub use generator::{generator, sheet_generator, Maker};
 
 /// Runs something on a thread whose stack is large enough for 100 references
 /// inside each other, each nested to depth 32.

@@ -1,8 +1,9 @@
-//! The sheets of `sheets/*.ftl` as resource images, and the usual sighting as
-//! an arguments image: the file that embeds them, which is both Rattle, for the
-//! program `sheet`, and Rust, for the command `weszlagyo`.
+//! The sheets of `sheets/*.ftl` as resource images, the usual sighting as an
+//! arguments image, and what is printed of it as a sheet image: the file that
+//! embeds them, which is both Rattle, for the program `sheet`, and Rust, for the
+//! command `weszlagyo`.
 
-use crate::case::Value;
+use crate::case::{Bundle, Given, Item, Row, Sheet, Value};
 use crate::encode;
 use crate::ftl;
 use crate::model::number::literal;
@@ -22,6 +23,12 @@ pub const USUAL: [(&str, &str); 6] = [
     ("leg", "7"),
     ("observer", "Anna Berg"),
 ];
+
+/// The messages of a printed sheet, in their order.
+pub const MESSAGES: [&str; 7] = ["sheet", LINE, "seen", LINE, "away", LINE, "who"];
+
+/// The message between two lines, which has no arguments.
+pub const LINE: &str = "line";
 
 /// Fields as arguments: a number where the text is one.
 pub fn arguments(fields: &[(&str, &str)]) -> Vec<(String, Value)> {
@@ -61,17 +68,48 @@ fn one_line_each(source: &str) -> String {
     out
 }
 
-/// The text of the file: a constant for each language, and the sighting.
+/// NUMBER, and the sentences of a language.
+pub fn bundle(root: &Path, locale: usize) -> Bundle {
+    Bundle {
+        locale: locale as u8,
+        isolating: false,
+        items: vec![
+            Item::Function("NUMBER".into()),
+            Item::Plain(read(root, LANGUAGES[locale])),
+        ],
+    }
+}
+
+/// The sheet that is printed of a sighting.
+pub fn sheet(bundle: Bundle, fields: &[(&str, &str)]) -> Sheet {
+    let row = |message: &str| Row {
+        message: message.into(),
+        attribute: None,
+        arguments: Given::Values(match message {
+            LINE => Vec::new(),
+            _ => arguments(fields),
+        }),
+    };
+    Sheet {
+        bundle,
+        rows: MESSAGES.map(row).to_vec(),
+    }
+}
+
+/// The text of the file: a constant for each language, the sighting, and its
+/// sheet.
 pub fn embedded(root: &Path) -> String {
     let mut out = String::from(
-        "// The sheets as resource images, one for each language, and the usual sighting as an arguments image. Made from sheets/*.ftl by `tools/sheets`: change\n\
-         // those, and run it. The file is Rattle and Rust: the command in rust/cli has it too.\n",
+        "// The sentences as resource images, one for each language; the usual sighting as an arguments image; and the sheet image of what is printed of it. Made\n\
+         // from sheets/*.ftl by `tools/sheets`: change those, and run it. The file is Rattle and Rust: the command in rust/cli has it too.\n",
     );
     for language in LANGUAGES {
         let image = encode::resource(&read(root, language));
         constant(&mut out, &language.to_uppercase(), &image);
     }
     constant(&mut out, "SIGHTING", &encode::arguments(&arguments(&USUAL)));
+    let sheet = sheet(bundle(root, 0), &USUAL);
+    constant(&mut out, "SHEET", &sheet.image());
     out
 }
 

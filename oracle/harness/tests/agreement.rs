@@ -3,7 +3,7 @@
 #![forbid(unsafe_code)]
 
 use harness::case::Item;
-use harness::{expected, generator, large_stack, Maker};
+use harness::{expected, expected_sheet, generator, large_stack, sheet_generator, Maker};
 
 /// How many of the seeds' cases differ between the model and the Rust.
 fn differences(seeds: std::ops::Range<u64>) -> usize {
@@ -89,5 +89,27 @@ fn steady_under_additions() {
             steady += 1;
         }
         assert!(steady > 1000);
+    });
+}
+
+/// The same of whole sheets.
+#[test]
+fn sheets_are_steady_under_additions() {
+    large_stack(|| {
+        let mut steady = 0;
+        for seed in 810_000..813_000 {
+            let mut sheet = sheet_generator(seed);
+            let before = expected_sheet(&sheet).expect("they agree").answer;
+            if !matches!(&before, Ok(done) if done.figures.unfound == 0) {
+                continue;
+            }
+            let more = Maker::new(seed + 1).bundle().items;
+            let plain = |item: &Item| !matches!(item, Item::Overriding(_));
+            sheet.bundle.items.extend(more.into_iter().filter(plain));
+            sheet.bundle.items.push(Item::Function("zz".into()));
+            assert_eq!(expected_sheet(&sheet).expect("they agree").answer, before);
+            steady += 1;
+        }
+        assert!(steady > 500, "{steady}");
     });
 }

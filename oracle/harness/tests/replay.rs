@@ -7,6 +7,7 @@ use harness::model::effects::Lengths;
 use harness::model::number::{literal, Decimal, Number};
 use harness::model::operations;
 use harness::model::reader::{self, Given};
+use harness::model::sheet::{format_sheet, prepare};
 
 const CATEGORIES: [&str; 6] = ["zero", "one", "two", "few", "many", "other"];
 
@@ -190,6 +191,7 @@ fn accepts(kind: u8, bytes: &[u8]) -> bool {
         4 => reader::store(bytes).is_some(),
         5 => reader::resource(bytes).is_some(),
         13 => reader::arguments(bytes).is_some(),
+        18 => reader::sheet(bytes).is_some(),
         _ => panic!("kind {kind}"),
     }
 }
@@ -197,8 +199,13 @@ fn accepts(kind: u8, bytes: &[u8]) -> bool {
 #[test]
 fn images() {
     let count = replay("replay/data/images.vec", |operation, f| match operation {
-        20..=22 => {
-            let kind = [4, 5, 13][usize::from(operation - 20)];
+        20 | 21 | 22 | 51 => {
+            let kind = match operation {
+                20 => 4,
+                21 => 5,
+                22 => 13,
+                _ => 18,
+            };
             let fine = accepts(kind, f.blob());
             assert_eq!(f.u8(), if fine { 0 } else { kind });
         }
@@ -319,4 +326,45 @@ fn format(operation: u8, f: &mut Fields) {
 fn formats() {
     assert!(replay("replay_formats/data/formats.vec", format) > 2000);
     assert_eq!(replay("replay_formats/data/sentences.vec", format), 34);
+}
+
+fn sheet(operation: u8, f: &mut Fields) {
+    assert_eq!(operation, 50);
+    let (store, image) = (f.blob(), f.blob());
+    let mut buffer = || vec![0xAA; f.length()];
+    let (mut text, mut list, mut workspace) = (buffer(), buffer(), buffer());
+    let prepared = prepare(store, image);
+    let answer = format_sheet(&prepared, &mut text, &mut list, &mut workspace);
+    let filled = |front: &[u8], length: usize, rest: u8| {
+        let mut bytes = front.to_vec();
+        bytes.resize(length, rest);
+        bytes
+    };
+    let (front, header, rest) = match (f.u8(), answer) {
+        (0, Ok(figures)) => {
+            let (front, header) = (f.blob(), f.blob());
+            assert_eq!(figures.text, front.len());
+            assert_eq!(figures.errors, f.length());
+            assert_eq!(figures.begun, f.length());
+            assert_eq!(figures.unfound, f.number(4));
+            assert_eq!(figures.highest, f.length());
+            f.flag();
+            assert_eq!(workspace, filled(&[], workspace.len(), 0));
+            (front, header, 0xAA)
+        }
+        (refusal, answer) => {
+            assert_eq!(answer, Err(refusal));
+            let before = refusal == 4 || refusal == 18 || refusal == 7 && list.len() < 5;
+            let rest = if before { 0xAA } else { 0 };
+            assert_eq!(workspace, filled(&[], workspace.len(), rest));
+            (&[][..], &[][..], rest)
+        }
+    };
+    assert_eq!(text, filled(front, text.len(), rest));
+    assert_eq!(list, filled(header, list.len(), rest));
+}
+
+#[test]
+fn sheets() {
+    assert!(replay("replay_formats/data/sheets.vec", sheet) > 1000);
 }

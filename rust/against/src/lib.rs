@@ -6,6 +6,7 @@ pub mod additions;
 pub mod convert;
 pub mod formats;
 pub mod sheet;
+pub mod sheets;
 
 use harness::random::Random;
 use std::fmt::Debug;
@@ -13,13 +14,13 @@ use std::fmt::Debug;
 /// What was compared.
 #[derive(Clone, Copy, Debug, Default)]
 pub struct Counts {
-    /// Generated cases.
+    /// Generated cases, or generated sheets.
     pub cases: u64,
     /// Calls of the operations that were compared, bytes and all.
     pub calls: u64,
     /// Calls by their answer: 0 done, or the refusal's number.
-    pub answers: [u64; 18],
-    /// Calls that were lent a store, image, arguments image, id or attribute
+    pub answers: [u64; 19],
+    /// Calls that were lent a store, image, arguments image, sheet, id or attribute
     /// whose bytes were changed from what the generator made; each once.
     pub damaged: u64,
     /// Stores that the crate made and that were compared whole.
@@ -54,6 +55,17 @@ pub fn compare(seed: u64, counts: &mut Counts) -> Result<(), String> {
     formats::by_lengths(&case, &expected, &mut random, counts)?;
     formats::damaged(&case, &expected, &mut random, counts)?;
     additions::by_lengths(&case, &expected, &mut random, counts)
+}
+
+/// Compares everything on the sheet of a seed, or says what differs.
+pub fn compare_sheet(seed: u64, counts: &mut Counts) -> Result<(), String> {
+    let case = harness::sheet_generator(seed);
+    let expected = harness::expected_sheet(&case)?;
+    let mut random = Random::new(seed ^ 0x5EE7_0F0D);
+    counts.cases += 1;
+    sheets::by_the_crate(&case, &expected, counts)?;
+    sheets::by_lengths(&expected, &mut random, counts)?;
+    sheets::damaged(&expected, &mut random, counts)
 }
 
 pub(crate) fn same<T: PartialEq + Debug>(what: &str, ours: T, theirs: T) -> Result<(), String> {

@@ -1,9 +1,14 @@
-//! A sighting sheet for the benchmarks: 60 entries, of which a sheet prints 30
-//! messages. The same tree is given to the original Rust and to the crate.
+//! Sheets of 30 messages for the benchmarks: of a store of 60 entries, and of
+//! the sentences of `sheets/en.ftl`. The same tree is given to the original Rust
+//! and to the crate.
 
+use crate::convert;
 use fluent_syntax::ast::*;
-use harness::case::{Item, Value};
+use harness::case::{Bundle, Item, Value};
 use harness::model::number::Decimal;
+use harness::sheets;
+use std::path::Path;
+use weszlagyo::FluentBundle;
 
 fn id(name: impl Into<String>) -> Identifier<String> {
     Identifier { name: name.into() }
@@ -132,12 +137,74 @@ pub fn items() -> Vec<Item> {
     number.chain(parts).collect()
 }
 
-/// The 30 messages of a sheet.
-pub fn ids() -> Vec<String> {
+/// A bundle, and the messages of a sheet with their arguments.
+pub struct Printed {
+    pub bundle: Bundle,
+    pub messages: Vec<(String, Vec<(String, Value)>)>,
+}
+
+impl Printed {
+    /// The bundle, as the crate makes it.
+    pub fn made(&self) -> FluentBundle {
+        let locale = weszlagyo::Locale::En;
+        assert_eq!(self.bundle.locale, locale.number());
+        let mut made = FluentBundle::new(vec![locale]);
+        made.set_use_isolating(self.bundle.isolating);
+        for item in &self.bundle.items {
+            match item {
+                Item::Plain(tree) | Item::Overriding(tree) => made
+                    .add_resource(convert::resource(tree).expect("well-formed"))
+                    .expect("no id twice"),
+                Item::Function(id) => made
+                    .add_function(id, weszlagyo::builtins::NUMBER)
+                    .expect("it is new"),
+            }
+        }
+        made
+    }
+}
+
+/// How many messages a sheet has.
+const MESSAGES: usize = 30;
+
+/// Three messages of each of the ten parts, all with the same arguments.
+pub fn parts() -> Printed {
     let kinds = ["sighting", "position", "weather"];
-    (0..PARTS)
-        .flat_map(|n| kinds.map(|kind| format!("{kind}-{n}")))
-        .collect()
+    let ids = (0..PARTS).flat_map(|n| kinds.map(|kind| format!("{kind}-{n}")));
+    let messages: Vec<_> = ids.map(|id| (id, arguments())).collect();
+    assert_eq!(messages.len(), MESSAGES);
+    Printed {
+        bundle: Bundle {
+            locale: 0,
+            isolating: true,
+            items: items(),
+        },
+        messages,
+    }
+}
+
+/// The four messages of the printed sheet over and over, each time of another
+/// sighting.
+pub fn sightings() -> Printed {
+    let root = Path::new(concat!(env!("CARGO_MANIFEST_DIR"), "/../.."));
+    let ids = ["sheet", "seen", "away", "who"];
+    let messages = (0..MESSAGES).map(|n| (ids[n % 4].to_string(), sighting(n / 4)));
+    Printed {
+        bundle: sheets::bundle(root, 0),
+        messages: messages.collect(),
+    }
+}
+
+/// The fields of a sighting.
+fn sighting(n: usize) -> Vec<(String, Value)> {
+    let species = ["porpoise", "minke", "humpback", "dolphin", "seal"][n % 5];
+    let observer = ["Anna Berg", "Bo Ås", "Carys"][n % 3];
+    let [count, calves] = [n % 4 * 5, n % 3].map(|n| n.to_string());
+    let [distance, leg] = [40 + 180 * n, n + 1].map(|n| n.to_string());
+    let fields = [species, &count, &calves, &distance, &leg, observer];
+    let names = sheets::USUAL.map(|(name, _)| name);
+    let fields: Vec<_> = names.into_iter().zip(fields).collect();
+    sheets::arguments(&fields)
 }
 
 pub fn arguments() -> Vec<(String, Value)> {

@@ -38,6 +38,10 @@ fn main() {
             "replay/data/additions.vec",
             vectors::additions::make(seed, cases),
         );
+        write(
+            "replay_formats/data/sheets.vec",
+            vectors::sheets::make(seed, cases),
+        );
     });
 }
 

@@ -1,5 +1,5 @@
 //! A separate, small writing-down of document 01: numbers, the layouts, the
-//! additions and formatting. It shares nothing with the Rust but the tests.
+//! additions and formatting; and of document 02's sheets. It shares nothing with the Rust but the tests.
 
 pub mod effects;
 pub mod errors;
@@ -8,3 +8,4 @@ pub mod number;
 pub mod operations;
 pub mod reader;
 pub mod resolve;
+pub mod sheet;

@@ -98,12 +98,20 @@ pub fn prepare(
     if !is_id(message) || !attribute.is_none_or(is_id) {
         return Err(8);
     }
-    let entry = holder(&store, message)
-        .and_then(Holder::message)
-        .ok_or(11)?;
+    message_of(&store, message, attribute, arguments)
+}
+
+/// The same from a store that is well-formed, of ids that are Ids.
+pub fn message_of(
+    store: &reader::Store,
+    message: &[u8],
+    attribute: Option<&[u8]>,
+    arguments: &[u8],
+) -> Result<Resolution, u8> {
+    let entry = holder(store, message).and_then(Holder::message).ok_or(11)?;
     let pattern = part(entry, &attribute.map(<[u8]>::to_vec)).ok_or(12)?;
     let given = reader::arguments(arguments).ok_or(13)?;
-    Ok(resolve(&store, &given, pattern))
+    Ok(resolve(store, &given, pattern))
 }
 
 /// Format, as far as it answers; `prepared` comes from `prepare`.

@@ -1,4 +1,5 @@
-//! The small reader of document 01's layouts: what it reads is well-formed.
+//! The small reader of document 01's layouts and of document 02's sheet image:
+//! what it reads is well-formed.
 
 mod fields;
 mod shapes;
@@ -8,11 +9,13 @@ use fields::Reader;
 
 pub use fields::{is_id, unescape};
 pub use tree::{
-    Arguments, Element, Entry, Expression, Given, Id, Inline, Item, Key, Pattern, Store, Variant,
+    Arguments, Element, Entry, Expression, Given, Id, Inline, Item, Key, Pattern, Row, Store,
+    Variant,
 };
 
 const STORE_LIMIT: usize = 1_048_576;
 const IMAGE_LIMIT: usize = 65_536;
+const SHEET_LIMIT: usize = 1_048_576;
 
 /// A store at the front of a slice that may be longer; `None` is refusal 4.
 pub fn store(slice: &[u8]) -> Option<Store> {
@@ -69,4 +72,33 @@ pub fn arguments(slice: &[u8]) -> Option<Vec<(Id, Given)>> {
     let arguments = r.times(count, |r| Some((r.id()?, r.given()?)))?;
     r.done()?;
     Some(arguments)
+}
+
+/// A sheet image that is the whole slice; `None` is refusal 18. Of an arguments
+/// image only its length is judged, which its own first four bytes state.
+pub fn sheet(slice: &[u8]) -> Option<Vec<Row>> {
+    if slice.len() > SHEET_LIMIT {
+        return None;
+    }
+    let mut r = Reader::whole(slice);
+    if r.u32()? != slice.len() {
+        return None;
+    }
+    r.exactly(1)?;
+    let count = r.u16()?;
+    let rows = r.times(count, |r| {
+        let message = r.id()?;
+        let attribute = r.optional_id()?;
+        let start = r.at;
+        let length = r.u32().filter(|n| (7..=IMAGE_LIMIT).contains(n))?;
+        r.at = start;
+        let arguments = r.take(length)?.to_vec();
+        Some(Row {
+            message,
+            attribute,
+            arguments,
+        })
+    })?;
+    r.done()?;
+    Some(rows)
 }

@@ -76,11 +76,21 @@ pub enum Answer {
 /// Asks the Rust's `format_pattern`.
 pub fn format(case: &Case) -> Answer {
     let bundle = bundle(&case.bundle);
-    let arguments = arguments(&case.arguments);
-    let Some(message) = bundle.get_message(&case.message) else {
+    format_in(&bundle, &case.message, &case.attribute, &case.arguments)
+}
+
+/// The same of a bundle that is there.
+pub fn format_in(
+    bundle: &RustBundle,
+    message: &str,
+    attribute: &Option<String>,
+    given: &[(String, Value)],
+) -> Answer {
+    let arguments = arguments(given);
+    let Some(message) = bundle.get_message(message) else {
         return Answer::NoMessage;
     };
-    let pattern = match &case.attribute {
+    let pattern = match attribute {
         None => message.value(),
         Some(name) => message.get_attribute(name).map(|a| a.value()),
     };

@@ -1,5 +1,5 @@
-//! images.vec: stores, images and arguments, well-formed and damaged. The Rust
-//! has no counterpart; the answers are those of the small reader.
+//! images.vec: stores, images, arguments and sheet images, well-formed and
+//! damaged. The Rust has no counterpart; the answers are those of the small reader.
 
 use super::formats::hurt;
 use super::{File, CASES};
@@ -9,6 +9,7 @@ use crate::case::{Bundle, Item, Value};
 use crate::model::number::Decimal;
 use crate::model::reader;
 use crate::random::Random;
+use crate::sheet_points::sheet;
 use crate::{encode, ftl, rust, Maker};
 use fluent_bundle::FluentValue;
 
@@ -18,6 +19,7 @@ pub enum Kind {
     Store = 4,
     Resource = 5,
     Arguments = 13,
+    Sheet = 18,
 }
 
 impl Kind {
@@ -26,6 +28,7 @@ impl Kind {
             Kind::Store => reader::store(bytes).is_some(),
             Kind::Resource => reader::resource(bytes).is_some(),
             Kind::Arguments => reader::arguments(bytes).is_some(),
+            Kind::Sheet => reader::sheet(bytes).is_some(),
         }
     }
 
@@ -34,6 +37,7 @@ impl Kind {
             Kind::Store => 20,
             Kind::Resource => 21,
             Kind::Arguments => 22,
+            Kind::Sheet => 51,
         }
     }
 }
@@ -50,6 +54,9 @@ pub fn make(seed: u64, cases: usize) -> File {
     let mut file = File::default();
     for (kind, bytes, _) in boundaries::all() {
         judged(&mut file, kind, &bytes);
+    }
+    for (bytes, _) in boundaries::sheets() {
+        judged(&mut file, Kind::Sheet, &bytes);
     }
     for literal in boundaries::ESCAPES {
         unescape_case(&mut file, literal);
@@ -273,6 +280,9 @@ fn bases() -> Vec<(Kind, Vec<u8>)> {
         // Some slices are longer than what is used.
         store.resize(store.len() + at % 3, 0xAA);
         out.push((Kind::Store, store));
+    }
+    for rows in ["", "a", "a; ab.x", "a n=x; b", "a.x n=-15; b m=none n=é"] {
+        out.push((Kind::Sheet, sheet("a = A", rows).image()));
     }
     out
 }

@@ -4,6 +4,7 @@ pub mod additions;
 pub mod formats;
 pub mod images;
 pub mod numbers;
+pub mod sheets;
 
 use crate::bytes::Write;
 use std::collections::HashSet;

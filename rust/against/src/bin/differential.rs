@@ -1,10 +1,11 @@
-//! Compares the crate with the oracle on many generated cases:
-//! `differential [COUNT [FIRST_SEED [THREADS]]]`, 1,000,000 cases from seed 1
-//! on all processors unless said otherwise. It shows how far it is, and ends
-//! with 1 if anything differs.
+//! Compares the crate with the oracle on many generated cases, then on
+//! generated sheets: `differential [COUNT [FIRST_SEED [THREADS [SHEETS]]]]`,
+//! 1,000,000 cases from seed 1 on all processors unless said otherwise, and a
+//! tenth as many sheets. It shows how far it is, and ends with 1 if anything
+//! differs.
 #![forbid(unsafe_code)]
 
-use against::{compare, Counts};
+use against::{compare, compare_sheet, sheets, Counts};
 use std::sync::atomic::{AtomicU64, Ordering};
 use std::sync::Mutex;
 use std::time::{Duration, Instant};
@@ -21,44 +22,112 @@ fn main() {
         .skip(1)
         .map(|word| word.parse().unwrap_or_else(|_| usage()))
         .collect();
-    if words.len() > 3 {
+    if words.len() > 4 {
         usage();
     }
     let count = words.first().copied().unwrap_or(1_000_000);
     let first = words.get(1).copied().unwrap_or(1);
     let processors = std::thread::available_parallelism().map_or(1, |n| n.get() as u64);
     let threads = words.get(2).copied().unwrap_or(processors).max(1);
+    let sheets = words.get(3).copied().unwrap_or(count.div_ceil(10));
 
-    let next = AtomicU64::new(0);
-    let done = AtomicU64::new(0);
-    let total = Mutex::new(Counts::default());
-    let differences = Mutex::new(Vec::new());
-    let start = Instant::now();
-    std::thread::scope(|scope| {
-        for _ in 0..threads {
-            std::thread::Builder::new()
-                .stack_size(STACK)
-                .spawn_scoped(scope, || loop {
-                    let from = next.fetch_add(BATCH, Ordering::Relaxed);
-                    if from >= count {
-                        break;
-                    }
-                    let mut counts = Counts::default();
-                    for at in from..(from + BATCH).min(count) {
-                        let seed = first + at;
-                        if let Err(difference) = compare(seed, &mut counts) {
-                            let mut all = differences.lock().expect("no thread failed");
-                            if all.len() < 10 {
-                                println!("seed {seed}: {difference}");
-                            }
-                            all.push(seed);
+    let cases = Run {
+        what: "cases",
+        compare,
+        count,
+        first,
+        threads,
+    };
+    let sheets = Run {
+        what: "sheets",
+        compare: compare_sheet,
+        count: sheets,
+        ..cases
+    };
+    let same = cases.run(Counts::default(), 0) & (sheets.count == 0 || with_fixed(&sheets));
+    std::process::exit(i32::from(!same));
+}
+
+/// Runs the sheets that are always the same, then the generated ones.
+fn with_fixed(sheets: &Run) -> bool {
+    let (counts, answer) = std::thread::scope(|scope| {
+        let fixed = || {
+            let mut counts = Counts::default();
+            let answer = sheets::fixed::all(&mut counts);
+            (counts, answer)
+        };
+        let thread = std::thread::Builder::new().stack_size(STACK);
+        let thread = thread.spawn_scoped(scope, fixed).expect("a thread");
+        thread.join().expect("it ends well")
+    });
+    if let Err(difference) = &answer {
+        println!("hand-made sheets: {difference}");
+    }
+    sheets.run(counts, u64::from(answer.is_err()))
+}
+
+/// Seeds to be compared.
+struct Run {
+    what: &'static str,
+    compare: fn(u64, &mut Counts) -> Result<(), String>,
+    count: u64,
+    first: u64,
+    threads: u64,
+}
+
+impl Run {
+    /// Compares all of them, says what was compared, with what was before, and
+    /// whether nothing differs.
+    fn run(&self, before: Counts, differed: u64) -> bool {
+        let next = AtomicU64::new(0);
+        let done = AtomicU64::new(0);
+        let total = Mutex::new(before);
+        let differ = Mutex::new(differed);
+        let start = Instant::now();
+        std::thread::scope(|scope| {
+            for _ in 0..self.threads {
+                std::thread::Builder::new()
+                    .stack_size(STACK)
+                    .spawn_scoped(scope, || {
+                        while let Some(counts) = self.batch(&next, &differ) {
+                            done.fetch_add(counts.cases, Ordering::Relaxed);
+                            total.lock().expect("no thread failed").add(&counts);
                         }
-                    }
-                    done.fetch_add(counts.cases, Ordering::Relaxed);
-                    total.lock().expect("no thread failed").add(&counts);
-                })
-                .expect("a thread");
+                    })
+                    .expect("a thread");
+            }
+            self.watch(&next, &done, start);
+        });
+        let total = total.into_inner().expect("no thread failed");
+        let differ = differ.into_inner().expect("no thread failed");
+        self.say(&total, start);
+        println!("{differ} differ");
+        differ == 0 && total.cases == self.count
+    }
+
+    /// Compares the next seeds, if there are any.
+    fn batch(&self, next: &AtomicU64, differ: &Mutex<u64>) -> Option<Counts> {
+        let from = next.fetch_add(BATCH, Ordering::Relaxed);
+        if from >= self.count {
+            return None;
         }
+        let mut counts = Counts::default();
+        for at in from..(from + BATCH).min(self.count) {
+            let seed = self.first + at;
+            if let Err(difference) = (self.compare)(seed, &mut counts) {
+                let mut all = differ.lock().expect("no thread failed");
+                if *all < 10 {
+                    println!("{} seed {seed}: {difference}", self.what);
+                }
+                *all += 1;
+            }
+        }
+        Some(counts)
+    }
+
+    /// Shows how far it is, until it is done.
+    fn watch(&self, next: &AtomicU64, done: &AtomicU64, start: Instant) {
+        let (count, what) = (self.count, self.what);
         let mut shown = Instant::now();
         while done.load(Ordering::Relaxed) < count {
             std::thread::sleep(Duration::from_millis(50));
@@ -67,38 +136,41 @@ fn main() {
                 let done = done.load(Ordering::Relaxed);
                 let seconds = start.elapsed().as_secs_f64();
                 let left = (count - done) as f64 * seconds / done.max(1) as f64;
-                eprintln!("{done} of {count} cases, {seconds:.0} s, about {left:.0} s left");
+                eprintln!("{done} of {count} {what}, {seconds:.0} s, about {left:.0} s left");
             }
             // a thread that panicked stops counting
-            if next.load(Ordering::Relaxed) >= count + threads * BATCH {
+            if next.load(Ordering::Relaxed) >= count + self.threads * BATCH {
                 break;
             }
         }
-    });
+    }
 
-    let total = total.into_inner().expect("no thread failed");
-    let differences = differences.into_inner().expect("no thread failed");
-    println!(
-        "{} cases from seed {first}, {} calls compared, {} with damaged bytes, {} stores made, {:.0} s",
-        total.cases,
-        total.calls,
-        total.damaged,
-        total.stores,
-        start.elapsed().as_secs_f64()
-    );
-    let answers = total.answers.iter().enumerate().filter(|(_, n)| **n > 0);
-    let words: Vec<String> = answers
-        .map(|(answer, n)| match answer {
-            0 => format!("done {n}"),
-            refusal => format!("{refusal}: {n}"),
-        })
-        .collect();
-    println!("answers: {}", words.join(", "));
-    println!("{} differ", differences.len());
-    std::process::exit(i32::from(!differences.is_empty() || total.cases != count));
+    fn say(&self, total: &Counts, start: Instant) {
+        let stores = match total.stores {
+            0 => String::new(),
+            made => format!("{made} stores made, "),
+        };
+        println!(
+            "{} {} from seed {}, {} calls compared, {} with damaged bytes, {stores}{:.0} s",
+            total.cases,
+            self.what,
+            self.first,
+            total.calls,
+            total.damaged,
+            start.elapsed().as_secs_f64()
+        );
+        let answers = total.answers.iter().enumerate().filter(|(_, n)| **n > 0);
+        let words: Vec<String> = answers
+            .map(|(answer, n)| match answer {
+                0 => format!("done {n}"),
+                refusal => format!("{refusal}: {n}"),
+            })
+            .collect();
+        println!("answers: {}", words.join(", "));
+    }
 }
 
 fn usage() -> ! {
-    eprintln!("usage: differential [COUNT [FIRST_SEED [THREADS]]]");
+    eprintln!("usage: differential [COUNT [FIRST_SEED [THREADS [SHEETS]]]]");
     std::process::exit(2)
 }

@@ -1,31 +1,38 @@
-//! Formats one message of the benchmarks' sheet so many times and does nothing
-//! else, so that `tools/instructions` can count what one formatting costs.
+//! Formats one message of the benchmarks' store of 60 entries so many times, or
+//! a sheet of 30, and does nothing else, so that `tools/instructions` can count
+//! what one formatting costs; or calls for a sheet with a list of 4 bytes, which
+//! is refused once store and sheet are checked.
 #![forbid(unsafe_code)]
 
-use against::{convert, sheet};
-use harness::case::Item;
-use weszlagyo::{operations, FluentBundle};
+use against::convert;
+use against::sheet::{self, Printed};
+use weszlagyo::{operations, Refusal, Sheet};
 
 fn main() {
     let mut words = std::env::args().skip(1);
-    let (Some(times), Some(id)) = (
+    let (Some(times), Some(what)) = (
         words.next().and_then(|word| word.parse::<usize>().ok()),
         words.next(),
     ) else {
-        eprintln!("usage: instructions TIMES ID");
+        eprintln!("usage: instructions TIMES (ID | --sheet | --sightings) [--checks]");
         std::process::exit(2);
     };
-    let mut bundle = FluentBundle::default();
-    bundle.add_builtins().expect("it is new");
-    for item in sheet::items() {
-        if let Item::Plain(tree) = &item {
-            let resource = convert::resource(tree).expect("well-formed");
-            bundle.add_resource(&resource).expect("all are new");
-        }
+    let list = match words.next().as_deref() {
+        Some("--checks") => 4,
+        _ => 256,
+    };
+    match what.as_str() {
+        "--sheet" => format_sheet(times, &sheet::parts(), list),
+        "--sightings" => format_sheet(times, &sheet::sightings(), list),
+        id => format(times, id),
     }
+}
+
+/// Formats a message of the 60 entries.
+fn format(times: usize, id: &str) {
+    let bundle = sheet::parts().made();
     let given = sheet::arguments();
-    let args = convert::arguments(&given);
-    let image = args.image().expect("they fit");
+    let image = convert::arguments(&given).image().expect("they fit");
     let (mut text, mut list, mut work) = ([0; 256], [0; 256], [0; 256]);
     for _ in 0..times {
         let figures = operations::format(
@@ -39,5 +46,29 @@ fn main() {
         );
         let length = figures.expect("it is formatted").text;
         std::hint::black_box(length);
+    }
+}
+
+/// Formats a sheet in one call, with a list of that length.
+fn format_sheet(times: usize, printed: &Printed, list: usize) {
+    let bundle = printed.made();
+    let mut sheet = Sheet::new();
+    for (id, given) in &printed.messages {
+        let args = convert::arguments(given);
+        sheet.push(id, None, Some(&args)).expect("it fits");
+    }
+    let (mut text, mut list, mut work) = ([0; 8_192], vec![0; list], [0; 256]);
+    for _ in 0..times {
+        let figures = operations::format_sheet(
+            bundle.store(),
+            sheet.image(),
+            &mut text,
+            &mut list,
+            &mut work,
+        );
+        match list.len() {
+            4 => assert_eq!(figures, Err(Refusal::SHORT_LIST)),
+            _ => assert!(figures.is_ok_and(|figures| figures.errors == 0)),
+        }
     }
 }

@@ -1,4 +1,5 @@
-//! What a store, a resource image and an arguments image are read into.
+//! What a store, a resource image, an arguments image and a sheet image are read
+//! into.
 
 use crate::model::number::Decimal;
 
@@ -73,4 +74,12 @@ pub enum Given {
     Text(Vec<u8>),
     Number(Decimal),
     None,
+}
+
+/// A message of a sheet; its arguments image is not read yet.
+#[derive(Clone, Debug, PartialEq)]
+pub struct Row {
+    pub message: Id,
+    pub attribute: Option<Id>,
+    pub arguments: Vec<u8>,
 }
