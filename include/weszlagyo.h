@@ -9,7 +9,8 @@
  * (below, in the order in which they are met). It is proved that the answer,
  * the lent numbers and every lent byte are those of a written definition,
  * whatever bytes it is lent; there is nothing that a caller must have checked.
- * docs/01-scope.md has the layouts.
+ * docs/01-scope.md has the layouts, docs/02-change-requests.md (Card 1) that of
+ * a sheet.
  *
  * What the proof takes for granted of the caller, as of any C function:
  *  - a pointer and the length after it are a slice that is there, readable,
@@ -18,8 +19,9 @@
  *  - a slice or number that is written overlaps no other one of the call;
  *  - there is stack enough: 64 KiB for the additions; for weszlagyo_format
  *    some kilobytes with ordinary messages, and 2.5 MiB with the deepest that
- *    are allowed (100 references inside each other, each nested to depth 32).
- *    rust/tests/stack measures both.
+ *    are allowed (100 references inside each other, each nested to depth 32);
+ *    for weszlagyo_format_sheet what its deepest message needs, within the
+ *    same 2.5 MiB. rust/tests/stack measures them.
  */
 #ifndef WESZLAGYO_H
 #define WESZLAGYO_H
@@ -100,6 +102,39 @@ uint8_t weszlagyo_format(const uint8_t *store, size_t store_length,
                          uint8_t *work, size_t work_length,
                          size_t *written, size_t *errors, size_t *begun,
                          uint64_t *unfound, size_t *used);
+
+/* Formats the messages of a sheet, one behind the other, in one call.
+ *
+ * store: a bundle's slice, which is checked once for the whole sheet. sheet: a
+ * sheet image, the slice exactly that, at most 1,048,576 bytes: u32 whole
+ * length, version 1 (a byte), u16 count, then for each message its Id (u16
+ * length and bytes), an attribute Flag (0 or 1) and, where it is 1, the
+ * attribute's Id, and an arguments image (which begins with its u32 length).
+ * No message at all is 00 00 00 07 01 00 00.
+ *
+ * text: gets the joining of the texts that the messages give alone; list: the
+ * joining of their records, under one header; both at their front, later bytes
+ * stay. work: the workspace, which is empty at each message's start, zeros
+ * afterwards.
+ *
+ * *written, *errors, *begun, *unfound: as of weszlagyo_format, and the sums
+ * over the messages; the limit of 100 placeables is each message's own. *used:
+ * the largest of the messages'.
+ *
+ * Refusals, which change nothing: 4 the store is malformed; 18 the sheet is
+ * malformed (of an arguments image only its length is judged, 7 to 65,536 and
+ * inside the sheet); 7 list_length is under 5. Then message by message, the
+ * first that one meets, and these fill text, list and work with zeros: 11 no
+ * such message; 12 no such value or attribute; 13 its arguments are malformed;
+ * 15, 7, 16 and 17 as of weszlagyo_format, 15 and 7 by what the messages before
+ * left of text and list. No refusal changes the five numbers. */
+uint8_t weszlagyo_format_sheet(const uint8_t *store, size_t store_length,
+                               const uint8_t *sheet, size_t sheet_length,
+                               uint8_t *text, size_t text_length,
+                               uint8_t *list, size_t list_length,
+                               uint8_t *work, size_t work_length,
+                               size_t *written, size_t *errors, size_t *begun,
+                               uint64_t *unfound, size_t *used);
 
 #ifdef __cplusplus
 }

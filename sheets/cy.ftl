@@ -3,6 +3,9 @@
 
 sheet = Taflen arsylwi
 
+# What stands between two lines of the sheet: a line end and two spaces.
+line = { "\u000A  " }
+
 animals = { $species ->
     [porpoise] { $count ->
         [zero] lamhidydd

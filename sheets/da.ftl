@@ -2,6 +2,9 @@
 
 sheet = Observationsskema
 
+# What stands between two lines of the sheet: a line end and two spaces.
+line = { "\u000A  " }
+
 animals = { $species ->
     [porpoise] marsvin
     [minke] { $count ->

@@ -3,6 +3,9 @@
 
 sheet = Sighting sheet
 
+# What stands between two lines of the sheet: a line end and two spaces.
+line = { "\u000A  " }
+
 animals = { $species ->
     [porpoise] { $count ->
         [one] harbour porpoise

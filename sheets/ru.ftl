@@ -3,6 +3,9 @@
 
 sheet = Лист наблюдения
 
+# What stands between two lines of the sheet: a line end and two spaces.
+line = { "\u000A  " }
+
 animals = { $species ->
     [porpoise] { $count ->
         [one] морская свинья

@@ -5,6 +5,12 @@ use crate::operations::Refusal;
 use crate::value::FluentValue;
 use std::borrow::Cow;
 
+/// The most bytes an arguments image can have.
+pub(crate) const MAX_ARGUMENTS: usize = 65_536;
+
+/// No arguments, as an image.
+pub(crate) const NO_ARGUMENTS: [u8; 7] = [0, 0, 0, 7, 1, 0, 0];
+
 /// The arguments of a formatting: a value for each name, in name order.
 ///
 /// A name is an id, as in Fluent; of another one the formatting says

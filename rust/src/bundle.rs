@@ -1,6 +1,7 @@
 //! The bundle: a store, and the buffers that its operations are lent.
 
-use crate::args::FluentArgs;
+use crate::args::{FluentArgs, NO_ARGUMENTS};
+use crate::buffers::{lengthen, Buffers, FIRST_LENGTH};
 use crate::builtins;
 use crate::errors::{read_list, EntryKind, FluentError};
 use crate::locale::Locale;
@@ -10,12 +11,6 @@ use std::borrow::{Borrow, Cow};
 
 /// The most bytes a store can have.
 const MAX_STORE: usize = 1_048_576;
-
-/// What a list is lent at first, and a text, and a workspace.
-const FIRST_LENGTH: usize = 256;
-
-/// No arguments, as an image.
-const NO_ARGUMENTS: [u8; 7] = [0, 0, 0, 7, 1, 0, 0];
 
 /// Where the isolating Flag stands in a store.
 const ISOLATING_AT: usize = 6;
@@ -209,16 +204,9 @@ impl FluentBundle {
     ) -> Result<Formatted, Refusal> {
         let mut buffers = Buffers::default();
         let figures = self.format_in(&mut buffers, id, attribute, args)?;
-        let errors = match figures.errors {
-            0 => Vec::new(),
-            _ => read_list(&buffers.list),
-        };
-        buffers.text.truncate(figures.text);
-        let text = String::from_utf8(buffers.text)
-            .unwrap_or_else(|e| String::from_utf8_lossy(e.as_bytes()).into_owned());
         Ok(Formatted {
-            text,
-            errors,
+            errors: buffers.errors(figures),
+            text: buffers.into_text(figures),
             figures,
         })
     }
@@ -237,66 +225,17 @@ impl FluentBundle {
             Some(args) => Cow::Owned(args.image()?),
         };
         let attribute = attribute.map(str::as_bytes);
-        loop {
-            let answer = operations::format(
+        buffers.lend(|text, list, work| {
+            operations::format(
                 &self.store,
                 id.as_bytes(),
                 attribute,
                 &image,
-                &mut buffers.text,
-                &mut buffers.list,
-                &mut buffers.work,
-            );
-            match answer {
-                Err(Refusal::SHORT_TEXT) => lengthen(&mut buffers.text),
-                Err(Refusal::SHORT_LIST) => lengthen(&mut buffers.list),
-                Err(Refusal::SHORT_WORKSPACE) => lengthen(&mut buffers.work),
-                other => return other,
-            }
-        }
-    }
-}
-
-fn lengthen(buffer: &mut Vec<u8>) {
-    buffer.resize((buffer.len() * 2).max(FIRST_LENGTH), 0);
-}
-
-/// The buffers of a formatting.
-#[derive(Clone, Debug)]
-pub struct Buffers {
-    text: Vec<u8>,
-    list: Vec<u8>,
-    work: Vec<u8>,
-}
-
-impl Default for Buffers {
-    fn default() -> Self {
-        Self::with_lengths(FIRST_LENGTH, FIRST_LENGTH, FIRST_LENGTH)
-    }
-}
-
-impl Buffers {
-    /// Buffers of these lengths: for the text, the list of errors and the
-    /// workspace.
-    pub fn with_lengths(text: usize, list: usize, work: usize) -> Self {
-        Self {
-            text: vec![0; text],
-            list: vec![0; list],
-            work: vec![0; work],
-        }
-    }
-
-    /// The text of the last formatting, which gave these figures.
-    pub fn text(&self, figures: Figures) -> Cow<'_, str> {
-        String::from_utf8_lossy(self.text.get(..figures.text).unwrap_or_default())
-    }
-
-    /// The errors of the last formatting, which gave these figures.
-    pub fn errors(&self, figures: Figures) -> Vec<FluentError> {
-        match figures.errors {
-            0 => Vec::new(),
-            _ => read_list(&self.list),
-        }
+                text,
+                list,
+                work,
+            )
+        })
     }
 }
 

@@ -55,6 +55,24 @@ mod linked {
             unfound: *mut u64,
             used: *mut usize,
         ) -> u8;
+
+        pub fn weszlagyo_format_sheet(
+            store: *const u8,
+            store_length: usize,
+            sheet: *const u8,
+            sheet_length: usize,
+            text: *mut u8,
+            text_length: usize,
+            list: *mut u8,
+            list_length: usize,
+            work: *mut u8,
+            work_length: usize,
+            written: *mut usize,
+            errors: *mut usize,
+            begun: *mut usize,
+            unfound: *mut u64,
+            used: *mut usize,
+        ) -> u8;
     }
 }
 
@@ -98,7 +116,7 @@ pub fn add_function(slice: &mut [u8], id: &[u8], code: u8) -> u8 {
     }
 }
 
-/// The numbers that a formatting writes.
+/// The numbers that a formatting writes, of a message or of a sheet.
 #[derive(Default)]
 pub struct Numbers {
     pub written: usize,
@@ -133,6 +151,36 @@ pub fn format(
             attribute.len(),
             arguments.as_ptr(),
             arguments.len(),
+            text.as_mut_ptr(),
+            text.len(),
+            list.as_mut_ptr(),
+            list.len(),
+            work.as_mut_ptr(),
+            work.len(),
+            &mut numbers.written,
+            &mut numbers.errors,
+            &mut numbers.begun,
+            &mut numbers.unfound,
+            &mut numbers.used,
+        )
+    }
+}
+
+pub fn format_sheet(
+    store: &[u8],
+    sheet: &[u8],
+    text: &mut [u8],
+    list: &mut [u8],
+    work: &mut [u8],
+    numbers: &mut Numbers,
+) -> u8 {
+    // SAFETY: as for `format`.
+    unsafe {
+        linked::weszlagyo_format_sheet(
+            store.as_ptr(),
+            store.len(),
+            sheet.as_ptr(),
+            sheet.len(),
             text.as_mut_ptr(),
             text.len(),
             list.as_mut_ptr(),

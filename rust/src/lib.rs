@@ -2,11 +2,12 @@
 //! fluent-bundle.
 //!
 //! A bundle is a run of bytes, its store. Each operation on it (a new bundle,
-//! an addition, a formatting) is a function that is proved to give what a
-//! written definition says, for any bytes at all; this crate calls those
-//! functions and does the rest: it builds resources and arguments, lends
-//! buffers and lengthens them when an operation says that one is too short,
-//! gives each call the [`stack`] that it needs, and reads the lists of errors.
+//! an addition, a formatting of a message or of a whole sheet) is a function
+//! that is proved to give what a written definition says, for any bytes at all;
+//! this crate calls those functions and does the rest: it builds resources,
+//! arguments and sheets, lends buffers and lengthens them when an operation says
+//! that one is too short, gives each call the [`stack`] that it needs, and reads
+//! the lists of errors.
 //!
 //! ```
 //! use weszlagyo::syntax::{select, text, variable, Pattern};
@@ -43,6 +44,7 @@
 #![warn(missing_docs)]
 
 mod args;
+mod buffers;
 mod bundle;
 pub mod bytes;
 mod errors;
@@ -53,6 +55,7 @@ mod locale;
 pub mod operations;
 mod refusals;
 mod resource;
+mod sheet;
 pub mod stack;
 pub mod syntax;
 mod value;
@@ -66,11 +69,13 @@ pub mod builtins {
 }
 
 pub use args::FluentArgs;
-pub use bundle::{Buffers, FluentAttribute, FluentBundle, FluentMessage, FluentPattern, Formatted};
+pub use buffers::Buffers;
+pub use bundle::{FluentAttribute, FluentBundle, FluentMessage, FluentPattern, Formatted};
 pub use errors::{EntryKind, FluentError, ReferenceKind, ResolverError};
 pub use locale::{Locale, UnknownLocale};
 pub use operations::Function;
 pub use refusals::Refusal;
 pub use resource::{FluentResource, ResourceBuilder};
+pub use sheet::Sheet;
 pub use stack::on_deep_stack;
 pub use value::{FluentNumber, FluentValue, NotADecimal};

@@ -1,6 +1,6 @@
-//! The proved operations themselves, on lent slices, as document 01 has them:
-//! what each refuses, in which order, and every byte that it leaves. The rest
-//! of this crate stands on these five functions.
+//! The proved operations themselves, on lent slices, as document 01 has them,
+//! and document 02 the sheet: what each refuses, in which order, and every byte
+//! that it leaves. The rest of this crate stands on these six functions.
 //!
 //! They run on any stack: where little is left of a thread's, on one of their
 //! own (see [`stack`](crate::stack)). If that can't be had they refuse with
@@ -28,20 +28,34 @@ impl Function {
     }
 }
 
-/// What a formatting carries beside its text and its list.
+/// What a formatting carries beside its text and its list. Of a sheet the
+/// workspace is the largest of its messages', and the others are the sums over
+/// them.
 #[derive(Clone, Copy, Debug, Default, PartialEq, Eq)]
 pub struct Figures {
     /// Bytes of text.
     pub text: usize,
     /// Errors in the list.
     pub errors: usize,
-    /// Placeables begun, 0 to 101.
+    /// Placeables begun, 0 to 101 of a message.
     pub begun: usize,
     /// Lookups of an id, by a reference to a message, term or function, that
     /// has no entry of any kind.
     pub unfound: u64,
     /// The highest use of the workspace, in bytes.
     pub work: usize,
+}
+
+impl From<ffi::Numbers> for Figures {
+    fn from(numbers: ffi::Numbers) -> Self {
+        Self {
+            text: numbers.written,
+            errors: numbers.errors,
+            begun: numbers.begun,
+            unfound: numbers.unfound,
+            work: numbers.used,
+        }
+    }
 }
 
 /// A new bundle at the front of a slice: 0 en, 1 da, 2 ru, 3 cy; 1 isolates.
@@ -87,9 +101,7 @@ pub fn format(
     work: &mut [u8],
 ) -> Result<Figures, Refusal> {
     let mut numbers = ffi::Numbers::default();
-    // with a list that is too short even for its header, nothing is formatted
-    let needed = if list.len() < 5 { ADDITION } else { FORMAT };
-    with_room(needed, || {
+    with_room(formatting(list), || {
         ffi::format(
             store,
             id,
@@ -101,11 +113,33 @@ pub fn format(
             &mut numbers,
         )
     })?;
-    Ok(Figures {
-        text: numbers.written,
-        errors: numbers.errors,
-        begun: numbers.begun,
-        unfound: numbers.unfound,
-        work: numbers.used,
-    })
+    Ok(numbers.into())
+}
+
+/// Formats the messages of a sheet image, one behind the other: the text is the
+/// joining of the texts that they give alone, the list that of their records.
+/// Refusals: 4, 18, and 7 for a list under 5 bytes, which change nothing; then,
+/// message by message, 11, 12, 13, 15, 7, 16 and 17, which fill the three
+/// buffers with zeros.
+pub fn format_sheet(
+    store: &[u8],
+    sheet: &[u8],
+    text: &mut [u8],
+    list: &mut [u8],
+    work: &mut [u8],
+) -> Result<Figures, Refusal> {
+    let mut numbers = ffi::Numbers::default();
+    with_room(formatting(list), || {
+        ffi::format_sheet(store, sheet, text, list, work, &mut numbers)
+    })?;
+    Ok(numbers.into())
+}
+
+/// The stack that a formatting with this list can use: with one that is too
+/// short even for its header, nothing is formatted.
+fn formatting(list: &[u8]) -> usize {
+    match list.len() < 5 {
+        true => ADDITION,
+        false => FORMAT,
+    }
 }

@@ -1,11 +1,11 @@
-//! Refusals: document 01's numbers, and what each means in words. This is the
-//! one table of them.
+//! Refusals: the numbers of documents 01 and 02, and what each means in words.
+//! This is the one table of them.
 
 use std::error::Error;
 use std::fmt;
 
-/// Why an operation was refused, by document 01's number; 255 is this crate's
-/// own.
+/// Why an operation was refused, by the number of documents 01 and 02; 255 is
+/// this crate's own.
 #[derive(Clone, Copy, Debug, PartialEq, Eq, Hash)]
 pub struct Refusal(u8);
 
@@ -51,6 +51,8 @@ refusals! {
     SHORT_TEXT = 15: "the text passes its buffer";
     SHORT_WORKSPACE = 16: "the workspace is too short";
     MANY_DIGITS = 17: "a minimumFractionDigits is above 19";
+    MALFORMED_SHEET = 18: "the sheet image is malformed",
+        "An id is no Id, an arguments image has under 7 or over 65,536 bytes, or it is too long.";
     NO_STACK = 255: "there is no memory for a stack",
         "Little is left of the thread's own, and the system gave none. Nothing was changed.";
 }
@@ -85,7 +87,7 @@ mod tests {
     #[test]
     fn all_are_in_order_and_have_words() {
         let numbers: Vec<u8> = Refusal::ALL.iter().map(|r| r.number()).collect();
-        let expected: Vec<u8> = (1..=17).filter(|n| *n != 14).chain([255]).collect();
+        let expected: Vec<u8> = (1..=18).filter(|n| *n != 14).chain([255]).collect();
         assert_eq!(numbers, expected);
         assert_eq!(Refusal(14).meaning(), "there is no such refusal");
         assert_eq!(

@@ -21,7 +21,8 @@ mod own;
 
 use crate::refusals::Refusal;
 
-/// What the deepest formatting that is legal can use of the stack, in bytes.
+/// What the deepest formatting that is legal can use of the stack, in bytes, of a
+/// message or of a sheet, which formats one message after the other.
 /// `tests/stack` measures it.
 pub const FORMAT: usize = 5 << 19;
 

@@ -8,7 +8,9 @@ use std::process::Command;
 use std::thread::Builder;
 use weszlagyo::stack::FORMAT;
 use weszlagyo::syntax::*;
-use weszlagyo::{builtins, FluentBundle, FluentError, FluentResource, Refusal, ResolverError};
+use weszlagyo::{
+    builtins, operations, FluentBundle, FluentError, FluentResource, Refusal, ResolverError, Sheet,
+};
 
 /// Says what to do under a limit.
 const PART: &str = "WESZLAGYO_TEST_PART";
@@ -76,6 +78,10 @@ fn format(bundle: &FluentBundle) {
     let done = bundle.format("m0", None, None).expect("formatted");
     assert_eq!(done.figures.begun, 101);
     assert_eq!(done.errors, [ResolverError::TooManyPlaceables.into()]);
+    let (m0, mut errors) = (("m0", None, None), vec![]);
+    let twice = bundle.format_sheet([m0, m0], &mut errors);
+    assert_eq!(twice, done.text.repeat(2));
+    assert_eq!(errors, vec![ResolverError::TooManyPlaceables.into(); 2]);
 }
 
 fn deep() {
@@ -125,10 +131,18 @@ fn starved() {
     let theirs = on_small_thread(move || {
         let taken = take_all();
         let formatted = bundle.format("m0", None, None);
+        let sheet = operations::format_sheet(
+            bundle.store(),
+            Sheet::new().image(),
+            &mut [],
+            &mut [0; 5],
+            &mut [],
+        );
         let added = bundle.add_function("F", builtins::NUMBER);
         let has = bundle.has_message("m0");
         drop(taken);
         assert_eq!(formatted, Err(Refusal::NO_STACK));
+        assert_eq!(sheet, Err(Refusal::NO_STACK));
         assert_eq!(added, Err(FluentError::Refused(Refusal::NO_STACK)));
         assert!(!has);
         format(&bundle);

@@ -17,45 +17,26 @@ fn refused(number: u8) {
     print(b"\n");
 }
 
-// Prints a line: what stands before a text, and the text, which ends at a position.
-fn print_line(before: &[u8], text: &[u8], end: usize) {
+// Prints a text, which ends at a position, and ends its line.
+fn print_text(text: &[u8], end: usize) {
     if text.len() < end {
         return;
     }
     let zero = 0usize;
-    print(before);
     print(&text[zero..end]);
     print(b"\n");
 }
 
-// Formats a message of the sighting, and prints it on a line.
-fn print_message(store: &[u8], before: &[u8], id: &[u8]) {
+// Formats the sheet of the sighting in one call, and prints it.
+fn print_sheet(store: &[u8]) {
     let mut text = io::buffer();
     let mut list = io::buffer();
     let mut work = io::buffer();
-    let has = false;
-    match resolver::format::format(
-        store,
-        id,
-        has,
-        b"",
-        &embedded::SIGHTING,
-        &mut text,
-        &mut list,
-        &mut work,
-    ) {
-        Formatted::Finished(f) => print_line(before, &text, f.text),
+    match sheet_format::format_sheet(store, &embedded::SHEET, &mut text, &mut list, &mut work) {
+        Formatted::Finished(f) => print_text(&text, f.text),
         Formatted::Refused(n) => refused(n),
         Formatted::Cleared(n) => refused(n),
     }
-}
-
-// Prints the four messages of a sheet.
-fn print_sheet(store: &[u8]) {
-    print_message(store, b"", b"sheet");
-    print_message(store, b"  ", b"seen");
-    print_message(store, b"  ", b"away");
-    print_message(store, b"  ", b"who");
 }
 
 // NUMBER, and the sentences of a language, in a new bundle.

@@ -1,19 +1,23 @@
-//! What a formatting uses of the stack.
+//! What a formatting uses of the stack, of a message and of a sheet.
 
 use super::ffi::{self, Numbers};
 use super::paint::used;
 use super::shapes::{begun, Chain, Nest, PLACEABLES};
 use super::words::{neighbours, Block};
 use weszlagyo::syntax::*;
-use weszlagyo::FluentArgs;
+use weszlagyo::{FluentArgs, Sheet};
 
 /// More than three blocks use.
 const SMALL: usize = 2 << 20;
+
+/// How often a sheet has a chain's message.
+const MESSAGES: usize = 3;
 
 /// A chain's bundle and the buffers for its formatting.
 struct Lent {
     store: Vec<u8>,
     arguments: Vec<u8>,
+    sheet: Sheet,
     text: Vec<u8>,
     list: Vec<u8>,
     work: Vec<u8>,
@@ -26,9 +30,14 @@ impl Lent {
         let mut arguments = FluentArgs::new();
         arguments.set("n", 1);
         arguments.set("s", "text");
+        let mut sheet = Sheet::new();
+        for _ in 0..MESSAGES {
+            sheet.push("a0", None, Some(&arguments)).expect("it fits");
+        }
         Self {
             store: bundle.store().to_vec(),
             arguments: arguments.image().expect("they fit"),
+            sheet,
             text: vec![0; 4096],
             list: vec![0; 65_536],
             work: vec![0; 65_536],
@@ -43,6 +52,18 @@ impl Lent {
             b"a0",
             None,
             &self.arguments,
+            &mut self.text,
+            &mut self.list,
+            &mut self.work,
+            &mut self.numbers,
+        )
+    }
+
+    /// Formats a sheet that has it so many times.
+    fn format_sheet(&mut self) -> u8 {
+        ffi::format_sheet(
+            &self.store,
+            self.sheet.image(),
             &mut self.text,
             &mut self.list,
             &mut self.work,
@@ -67,13 +88,32 @@ pub fn measured(chain: &Chain, room: usize) -> usize {
     used
 }
 
-/// What a formatting uses that is refused for its list.
+/// Formats a sheet of a chain on the stack that there is, to its end.
+pub fn run_sheet(chain: &Chain) {
+    let mut lent = Lent::new(chain);
+    assert_eq!(lent.format_sheet(), 0);
+    assert_eq!(lent.numbers.begun, MESSAGES * chain.begun());
+}
+
+/// The stack that formatting a sheet of a chain uses, under `room`.
+pub fn measured_sheet(chain: &Chain, room: usize) -> usize {
+    let mut lent = Lent::new(chain);
+    let (used, answer) = used(room, || lent.format_sheet());
+    assert_eq!(answer, 0);
+    assert_eq!(lent.numbers.begun, MESSAGES * chain.begun());
+    used
+}
+
+/// What a formatting uses that is refused for its list, of a message or of a
+/// sheet.
 pub fn refused(chain: &Chain) -> usize {
     let mut lent = Lent::new(chain);
     lent.list.truncate(4);
-    let (used, answer) = used(SMALL, || lent.format());
+    let (one, answer) = used(SMALL, || lent.format());
     assert_eq!(answer, 7);
-    used
+    let (sheet, answer) = used(SMALL, || lent.format_sheet());
+    assert_eq!(answer, 7);
+    one.max(sheet)
 }
 
 /// A block, and what 100 placeables of it use, reckoned from two and three of

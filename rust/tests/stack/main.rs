@@ -9,7 +9,8 @@
 //! deepest are measured whole; then they are changed level by level as long as
 //! that makes them deeper, and get whatever can stand at the deepest place, and
 //! any last pattern. In the end all words are run whole on a stack that has just
-//! what is said.
+//! what is said. Sheets are measured and run with the deepest words, as each of
+//! their messages is formatted by itself.
 //!
 //!     cargo test --release --offline --test stack -- --nocapture
 //!
@@ -24,7 +25,7 @@ mod shapes;
 mod threads;
 mod words;
 
-use formats::{bottoms, deepest_near, measured, Reckoned};
+use formats::{bottoms, deepest_near, measured, measured_sheet, Reckoned};
 use paint::{on_thread, START};
 use shapes::{Chain, Level, Nest, DEPTH};
 use std::cmp::Reverse;
@@ -75,18 +76,26 @@ fn formattings() {
         let mut patterns = all.iter().map(|word| &word.block.0[0]);
         let deepest_pattern = patterns.find(|nest| nest.len() == DEPTH);
         let near = deepest_near(deepest_pattern.expect("some"));
-        let near = printed(&near).max(with_any_end(&near.block.0[0]));
-        let most = near.max(deepest.expect("some"));
+        let with_ends = printed(&near).max(with_any_end(&near.block.0[0]));
+        let most = with_ends.max(deepest.expect("some"));
         println!(
             "{most} is the most, of {} words; {FORMAT} is said",
             all.len()
         );
+        assert!(most <= FORMAT, "{most} bytes, and {FORMAT} are said");
+        let sheets = all.iter().take(DEEPEST).chain([&near]);
+        let sheets = sheets.map(|word| measured_sheet(&Chain::whole(&word.block.0), ROOM));
+        let most = sheets.max().expect("some");
+        println!("{most} is the most of a sheet; {FORMAT} is said");
         assert!(most <= FORMAT, "{most} bytes, and {FORMAT} are said");
         all
     });
     on_thread(FORMAT + START, || {
         for word in &all {
             formats::run(&Chain::whole(&word.block.0));
+        }
+        for word in all.iter().take(DEEPEST) {
+            formats::run_sheet(&Chain::whole(&word.block.0));
         }
     });
 }

@@ -32,6 +32,9 @@ fn use_all() {
     let mut errors = Vec::new();
     bundle.format_pattern(message.value().expect("a value"), None, &mut errors);
     assert_eq!(errors, [ResolverError::TooManyPlaceables.into()]);
+    let (a0, mut errors) = (("a0", None, None), Vec::new());
+    bundle.format_sheet([a0, a0], &mut errors);
+    assert_eq!(errors, vec![ResolverError::TooManyPlaceables.into(); 2]);
     let more = FluentResource::builder().message("a0", "later").build();
     let more = more.expect("well-formed");
     let held = bundle.add_resource(&more).expect_err("a0 is held");

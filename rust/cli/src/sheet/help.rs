@@ -26,4 +26,7 @@ Prints the sheet of a sighting in English, Danish, Russian and Welsh.
                     write the store of the last language, and the arguments image
 
 A number has at most 15 digits: 3, -3 or 3.5. Of equal options the last holds.
+
+A sheet is the messages sheet, seen, away and who of a store, with its message
+line between two of them. Its errors and its figures stand below it.
 ";

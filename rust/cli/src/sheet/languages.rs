@@ -19,6 +19,10 @@ pub const ALL: [Locale; 4] = [Locale::En, Locale::Da, Locale::Ru, Locale::Cy];
 #[cfg(test)]
 pub const USUAL: &[u8] = &embedded::SIGHTING;
 
+/// The sheet image of it, as the Rattle program has it.
+#[cfg(test)]
+pub const USUAL_SHEET: &[u8] = &embedded::SHEET;
+
 fn image(locale: Locale) -> &'static [u8] {
     match locale {
         Locale::En => &embedded::EN,

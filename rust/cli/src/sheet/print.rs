@@ -1,16 +1,17 @@
-//! The messages of a sheet, formatted and put as they are printed.
+//! A sheet, or the messages of one, formatted and put as they are printed.
 
 use super::options::Options;
 use crate::failure::Failure;
 use weszlagyo::operations::{self, read_list, Figures};
-use weszlagyo::{FluentError, Refusal};
+use weszlagyo::{FluentBundle, FluentError, Refusal, Sheet};
 
-/// What is lent for a text, an error list and a workspace: what needs more is
-/// refused.
+/// What is lent for the text of a message, its error list and its workspace:
+/// what needs more is refused.
 const ROOM: usize = 65_536;
 
-/// The messages of a sheet, and what stands before each.
-const SHEET: [(&str, &str); 4] = [("", "sheet"), ("  ", "seen"), ("  ", "away"), ("  ", "who")];
+/// The messages of a sheet, and the one that stands between two of them.
+const MESSAGES: [&str; 4] = ["sheet", "seen", "away", "who"];
+const LINE: &str = "line";
 
 /// A store and the arguments of a sighting.
 struct Page<'a> {
@@ -20,10 +21,9 @@ struct Page<'a> {
     arguments: &'a [u8],
 }
 
-/// A message that was formatted.
-struct Message<'a> {
-    id: &'a [u8],
-    text: &'a [u8],
+/// What was formatted.
+struct Formatted {
+    text: Vec<u8>,
     errors: Vec<FluentError>,
     figures: Figures,
 }
@@ -42,54 +42,101 @@ pub fn page(
         store,
         arguments,
     };
-    let put = match options.message {
-        Some(id) => page.put(out, "", id, options.attribute),
-        None => SHEET
+    match options.message {
+        Some(id) => Ok(page.put_message(out, id, options.attribute)?),
+        None if options.lines => Ok(MESSAGES
             .iter()
-            .try_for_each(|(before, id)| page.put(out, before, id.as_bytes(), None)),
-    };
-    put.map_err(Failure::from)
-}
-
-impl Page<'_> {
-    /// Formats a message, and puts it.
-    fn put(
-        &self,
-        out: &mut Vec<u8>,
-        before: &str,
-        id: &[u8],
-        attribute: Option<&[u8]>,
-    ) -> Result<(), Refusal> {
-        let (mut text, mut list, mut work) = (vec![0; ROOM], vec![0; ROOM], vec![0; ROOM]);
-        let figures = operations::format(
-            self.store,
-            id,
-            attribute,
-            self.arguments,
-            &mut text,
-            &mut list,
-            &mut work,
-        )?;
-        let message = Message {
-            id,
-            text: &text[..figures.text],
-            errors: read_list(&list),
-            figures,
-        };
-        match self.options.lines {
-            true => message.put_line(out, self.language),
-            false => message.put(out, before, self.options.figures),
-        }
-        Ok(())
+            .try_for_each(|id| page.put_message(out, id.as_bytes(), None))?),
+        None => page.put_sheet(out),
     }
 }
 
-impl Message<'_> {
+/// The sheet that is printed of a sighting.
+fn sheet(arguments: &[u8]) -> Result<Sheet, Refusal> {
+    let mut sheet = Sheet::new();
+    for id in MESSAGES {
+        if !sheet.is_empty() {
+            sheet.push(LINE, None, None)?;
+        }
+        sheet.push_image(id, None, arguments)?;
+    }
+    Ok(sheet)
+}
+
+impl Page<'_> {
+    /// Formats a message by itself, and puts it.
+    fn put_message(
+        &self,
+        out: &mut Vec<u8>,
+        id: &[u8],
+        attribute: Option<&[u8]>,
+    ) -> Result<(), Refusal> {
+        let message = Formatted::new(ROOM, |text, list, work| {
+            operations::format(self.store, id, attribute, self.arguments, text, list, work)
+        })?;
+        match self.options.lines {
+            true => message.put_line(out, self.language, id),
+            false => message.put(out, self.options.figures),
+        }
+        Ok(())
+    }
+
+    /// Formats the sheet in one call, and puts it.
+    fn put_sheet(&self, out: &mut Vec<u8>) -> Result<(), Failure> {
+        let sheet = sheet(self.arguments)?;
+        // what there is room for alone has room among the others
+        let formatted = Formatted::new(sheet.len() * ROOM, |text, list, work| {
+            let work = &mut work[..ROOM];
+            operations::format_sheet(self.store, sheet.image(), text, list, work)
+        });
+        let formatted = formatted.map_err(|refusal| self.refused(refusal))?;
+        formatted.put(out, self.options.figures);
+        Ok(())
+    }
+
+    /// A refusal of the sheet; where a message is missing, which it is.
+    fn refused(&self, refusal: Refusal) -> Failure {
+        match self.missing() {
+            Some(id) if matches!(refusal, Refusal::NO_MESSAGE | Refusal::NO_PATTERN) => {
+                let words =
+                    format!("{refusal}: {id} (a sheet needs sheet, line, seen, away and who)");
+                Failure::line(&[words.as_bytes()])
+            }
+            _ => refusal.into(),
+        }
+    }
+
+    /// The first message of the sheet that the store has not, or not with a
+    /// value.
+    fn missing(&self) -> Option<&'static str> {
+        let bundle = FluentBundle::from_store(self.store.to_vec()).ok()?;
+        let has = |id: &&str| bundle.get_message(id).is_some_and(|m| m.value().is_some());
+        let [first, others @ ..] = MESSAGES;
+        let mut all = [first, LINE].into_iter().chain(others);
+        all.find(|id| !has(id))
+    }
+}
+
+impl Formatted {
+    /// What a formatting leaves in buffers of that length.
+    fn new(
+        room: usize,
+        format: impl FnOnce(&mut [u8], &mut [u8], &mut [u8]) -> Result<Figures, Refusal>,
+    ) -> Result<Self, Refusal> {
+        let (mut text, mut list, mut work) = (vec![0; room], vec![0; room], vec![0; room]);
+        let figures = format(&mut text, &mut list, &mut work)?;
+        text.truncate(figures.text);
+        Ok(Self {
+            text,
+            errors: read_list(&list),
+            figures,
+        })
+    }
+
     /// The text, each error on a line of its own, and the figures if they are
     /// asked for.
-    fn put(&self, out: &mut Vec<u8>, before: &str, figures: bool) {
-        out.extend(before.as_bytes());
-        out.extend(self.text);
+    fn put(&self, out: &mut Vec<u8>, figures: bool) {
+        out.extend(&self.text);
         for error in &self.errors {
             out.extend(b"\n    ! ");
             out.extend(words(error).as_bytes());
@@ -105,13 +152,13 @@ impl Message<'_> {
         out.push(b'\n');
     }
 
-    /// One line, its parts set apart by tabs; a space for each control byte of
-    /// the text.
-    fn put_line(&self, out: &mut Vec<u8>, language: &str) {
+    /// One line of a message, its parts set apart by tabs; a space for each
+    /// control byte of the text.
+    fn put_line(&self, out: &mut Vec<u8>, language: &str, id: &[u8]) {
         let f = self.figures;
         out.extend(language.as_bytes());
         out.push(b'\t');
-        out.extend(self.id);
+        out.extend(id);
         let counts = format!("\t{}\t{}\t{}\t", f.begun, f.unfound, f.errors);
         out.extend(counts.as_bytes());
         out.extend(self.text.iter().map(|b| (*b).max(b' ')));
@@ -128,5 +175,17 @@ fn words(error: &FluentError) -> String {
     match error {
         FluentError::ResolverError(error) => error.to_string(),
         other => other.to_string(),
+    }
+}
+
+#[cfg(test)]
+mod tests {
+    use super::super::languages::{USUAL, USUAL_SHEET};
+    use super::sheet;
+
+    #[test]
+    fn the_usual_sheet_is_that_of_the_rattle_program() {
+        let sheet = sheet(USUAL).expect("it fits");
+        assert_eq!(sheet.image(), USUAL_SHEET);
     }
 }

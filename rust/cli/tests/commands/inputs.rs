@@ -2,7 +2,9 @@
 
 use std::path::Path;
 use weszlagyo::syntax::*;
-use weszlagyo::{FluentArgs, FluentBundle, FluentNumber, FluentResource, FluentValue, Locale};
+use weszlagyo::{
+    FluentArgs, FluentBundle, FluentNumber, FluentResource, FluentValue, Locale, ResourceBuilder,
+};
 
 mod embedded {
     #![allow(dead_code)]
@@ -22,6 +24,16 @@ pub fn write(folder: &Path) {
         ("longer.store", [mixed.as_slice(), b"behind it"].concat()),
         ("cy.store", sheet(Locale::Cy, embedded::CY.to_vec())),
         ("deep.store", deep()),
+        ("small.store", small(FluentResource::builder())),
+        (
+            "no-line.store",
+            store(Locale::En, &[built(short_messages())]),
+        ),
+        ("no-value.store", small(no_value())),
+        ("digits.store", small(many_digits())),
+        ("long.store", small(long(11))),
+        ("longer-sheet.store", small(long(12))),
+        ("work.store", small(much_work())),
         ("text.store", b"This is no store.\n".to_vec()),
         ("most.store", vec![0; 1_048_576]),
         ("too-long.store", vec![0; 1_048_577]),
@@ -145,6 +157,68 @@ fn mixed() -> Vec<u8> {
         );
     let built = [small, long, errors].map(|builder| builder.build().expect("well-formed"));
     store(Locale::En, &built)
+}
+
+fn built(builder: ResourceBuilder) -> FluentResource {
+    builder.build().expect("well-formed")
+}
+
+/// A sheet of short messages, without what stands between them: one finds an id
+/// missing, and one uses the workspace.
+fn short_messages() -> ResourceBuilder {
+    let seen = Pattern::new().place(variable("count")).text(" or ");
+    let chosen = select(placeable(Expression::Inline(message("sheet"))));
+    FluentResource::builder()
+        .message("sheet", "Small")
+        .message("seen", seen.place(message("nothing")))
+        .message(
+            "away",
+            Pattern::from(chosen.variant("Small", "chosen").default("x", "y")),
+        )
+        .message("who", variable("observer"))
+}
+
+/// The store of these messages, with changes.
+fn small(changes: ResourceBuilder) -> Vec<u8> {
+    let mut bundle = FluentBundle::new(vec![Locale::En]);
+    bundle.set_use_isolating(false);
+    bundle.add_builtins().expect("NUMBER is new");
+    let messages = built(short_messages().message("line", "\n- "));
+    bundle.add_resource(messages).expect("no id twice");
+    bundle
+        .add_resource_overriding(built(changes))
+        .expect("room");
+    bundle.store().to_vec()
+}
+
+/// A message of the sheet without a value.
+fn no_value() -> ResourceBuilder {
+    FluentResource::builder()
+        .message_without_value("away")
+        .attribute("title", "Away")
+}
+
+/// A message of the sheet that is refused with 17.
+fn many_digits() -> ResourceBuilder {
+    let digits = Literal::Number("20".into());
+    let given = Arguments::new().positional(variable("count"));
+    let given = given.named("minimumFractionDigits", digits);
+    FluentResource::builder().message("away", call("NUMBER", given))
+}
+
+/// A message of the sheet with so many times 40,000 bytes of text.
+fn long(times: usize) -> ResourceBuilder {
+    let parts = (0..times).fold(Pattern::new(), |p, _| p.place(message("part")));
+    FluentResource::builder()
+        .message("part", "x".repeat(40_000))
+        .message("seen", parts)
+}
+
+/// A message of the sheet that needs 80,000 bytes of workspace.
+fn much_work() -> ResourceBuilder {
+    let text = placeable(Expression::Inline(message("seen")));
+    let chosen = Pattern::from(select(text).default("other", "y"));
+    long(2).message("away", chosen)
 }
 
 /// References inside each other, each nested as deep as is allowed.

@@ -1,9 +1,12 @@
 //! Runs the command lines of `stored/*.txt` and compares status, standard
 //! output, standard error and the files that are written.
 //!
-//! The answers are those of an earlier program, `sheet`, whose text was proved
+//! Most answers are those of an earlier program, `sheet`, whose text was proved
 //! to be made as a definition says. Its messages began with its own name; here
 //! `sheet: ` at the start of a line of standard error stands for `weszlagyo: `.
+//! It formatted each message of a sheet by itself. Since a sheet is one call,
+//! the same errors stand together below it, the figures are its own, and the
+//! stores have the message `line`; `sheets.txt` is of that time.
 #![forbid(unsafe_code)]
 
 mod inputs;
@@ -100,7 +103,7 @@ fn compare(name: &str, before: &[&[u8]], is_run: impl Fn(&Stored) -> bool) -> us
 #[test]
 fn every_stored_command_line() {
     let count = compare("named", &[b"sheet"], |_| true);
-    assert!(count >= 170, "{count} command lines are stored");
+    assert!(count >= 300, "{count} command lines are stored");
 }
 
 /// `sheet` can be left out. A first word without a `-` is then a command's
