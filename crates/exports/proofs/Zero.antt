@@ -18,8 +18,9 @@ use Rattle.resolution.specs.Format as formatting
 use Rattle.resolution.specs.Format.{Buffers, Formatted, ended, format, formatArguments, formatEntry, formatPart, formatStore, formatWith, runPattern}
 use Rattle.theorems.specs.Finished.{Running}
 use Rattle.sheets.specs.Sheet.{formatSheet}
-use Rattle.sheets.specs.ClaimsRefusals.{SheetBefore, SheetRunning, SheetAnswers, cleared}
-use Rattle.sheets.proofs.Refusals.{sheet-answers}
+use Rattle.sheets.specs.Refused.{cleared}
+use Rattle.sheet_theorems.specs.ClaimsRefusals.{SheetBefore, SheetRunning, SheetAnswers}
+use Rattle.sheet_theorems.proofs.Refusals.{sheet-answers}
 use Rattle.exports.specs.Zero.{Told, FormatTold}
 
 -- == New bundles and additions

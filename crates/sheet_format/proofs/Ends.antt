@@ -16,8 +16,8 @@ use Rattle.resolution.specs.Effect.{Bytes}
 use Rattle.resolution.specs.Exec.{Ran, start}
 use Rattle.resolution.specs.Format.{finished, Buffers, Formatted, refuse, ended}
 use Rattle.sheets.specs.Sheet.{runSheet, formatSheet}
-use Rattle.sheets.proofs.Messages.{sheet-malformed-store, sheet-malformed, sheet-header, sheet-runs}
-use Rattle.sheets.proofs.Answers.{sheet-sums}
+use Rattle.sheet_theorems.proofs.Messages.{sheet-malformed-store, sheet-malformed, sheet-header, sheet-runs}
+use Rattle.sheet_theorems.proofs.Answers.{sheet-sums}
 use Rattle.state.specs.Progress.{Progress}
 use Rattle.state.specs.Setters.{newS}
 use Rattle.resolver.specs.declared.format.Answer.the-variants as ans

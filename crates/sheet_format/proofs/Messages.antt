@@ -17,10 +17,10 @@ use Rattle.resolution.specs.Effect.{Bytes}
 use Rattle.resolution.specs.Resolve.{asMessage}
 use Rattle.resolution.specs.Exec.{Machine, Ran, ran, refused, exec}
 use Rattle.theorems.specs.Finished.{traceOf, settingOf}
-use Rattle.sheets.specs.Begun.{withBegun, addBegun}
+use Rattle.sheet_theorems.specs.Begun.{withBegun, addBegun}
 use Rattle.sheets.specs.Sheet.{runMessage}
-use Rattle.sheets.proofs.Begun.{begun-apart}
-use Rattle.sheets.proofs.Messages.{message-none, message-part, message-arguments, message-runs}
+use Rattle.sheet_theorems.proofs.Begun.{begun-apart}
+use Rattle.sheet_theorems.proofs.Messages.{message-none, message-part, message-arguments, message-runs}
 use Rattle.state.specs.Progress.{Progress}
 use Rattle.state.specs.Setters.{refuseS}
 use Rattle.resolver.specs.declared.format.Part as code-part

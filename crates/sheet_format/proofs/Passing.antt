@@ -19,7 +19,7 @@ use Rattle.resolution.specs.Effect.{Bytes}
 use Rattle.resolution.specs.Exec.{Machine, Limits, Ran, ran, refused, start}
 use Rattle.resolution.specs.Format.{limitsOf}
 use Rattle.sheets.specs.Sheet.{runMessage, runSheet}
-use Rattle.sheets.proofs.Messages.{sheet-none, sheet-next, sheet-stops}
+use Rattle.sheet_theorems.proofs.Messages.{sheet-none, sheet-next, sheet-stops}
 use Rattle.state.specs.Progress.{Progress}
 use Rattle.state.specs.Setters.{newS}
 use Rattle.resolver.specs.Relations.Runs.{Rests, Grown, RanAs, ran-as, refused-as}

@@ -17,7 +17,7 @@ use Rattle.resolution.specs.Sentences.{ws}
 use Rattle.requests.specs.Encode.{encRequest, encSheet}
 use Rattle.requests.specs.Image.{Request, maxSheet, minArguments, argumentsBytesAt, requestAt, sheetAt, sheetOf}
 use Rattle.sheets.specs.Sheet.{runArguments, runPart, runEntry, runMessage, runSheet, sheetWith, sheetRead, sheetStore, formatSheet}
-use Rattle.sheets.specs.ClaimsRefusals.{cleared}
+use Rattle.sheets.specs.Refused.{cleared}
 
 -- what a sheet rests on, open
 unfoldable pub sheeted : Unit {0}

@@ -1,7 +1,3 @@
 pub mod Sheet
-pub mod Begun
-pub mod ClaimsJoining
-pub mod ClaimsSteadiness
-pub mod ClaimsAnswers
-pub mod ClaimsRefusals
+pub mod Refused
 pub mod Cases

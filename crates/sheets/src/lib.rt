@@ -1,1 +1,1 @@
-// A sheet's formatting: its definition and the theorems about it. There is no code here.
+// The definition of a sheet's formatting, and sheets by computing. There is no code here.

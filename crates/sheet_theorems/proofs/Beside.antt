@@ -15,9 +15,9 @@ use Rattle.resolution.specs.Exec.{Machine, ran, start}
 use Rattle.resolution.specs.Format.{finished, Buffers, Formatted, zeros, ended}
 use Rattle.theorems.specs.Finished.{listOf, Says}
 use Rattle.theorems.proofs.Lists.{list-of-front}
-use Rattle.sheets.specs.ClaimsJoining.{beside}
-use Rattle.sheets.proofs.Above.{records-append, is-beside, from-start}
-use Rattle.sheets.proofs.Parts.{machine-says}
+use Rattle.sheet_theorems.specs.ClaimsJoining.{beside}
+use Rattle.sheet_theorems.proofs.Above.{records-append, is-beside, from-start}
+use Rattle.sheet_theorems.proofs.Parts.{machine-says}
 
 pub beside-assoc : (a b c : Machine) → beside (beside a b) c ≡ beside a (beside b c)
 unfolding beside

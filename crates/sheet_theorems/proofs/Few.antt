@@ -16,8 +16,8 @@ use Rattle.theorems.specs.Finished.{traceOf, settingOf}
 use Rattle.theorems.proofs.Runs.{same-machine, exec-tallied}
 use Rattle.theorems.proofs.Bounded.{unfound-bound}
 use Rattle.requests.specs.Image.{Request}
 use Rattle.sheets.specs.Sheet.{runMessage, runSheet}
-use Rattle.sheets.proofs.Messages.{Ran-on, message-ran, First, first-ran}
+use Rattle.sheet_theorems.proofs.Messages.{Ran-on, message-ran, First, first-ran}
 
 module _ (s : Bytes) (oct : Octets s) (v : Store) (used : ℕ) (stored : storeOf s ≡ got v used) (L : Limits) where
   -- a message of a well-formed store adds no more than 20 million

@@ -18,13 +18,13 @@ use Rattle.theorems.proofs.Runs.{same-machine}
 use Rattle.theorems.proofs.Within.{Within}
 use Rattle.requests.specs.Image.{Request}
 use Rattle.requests.proofs.Exact.{RequestOk, requests-ok}
 use Rattle.sheets.specs.Sheet.{runSheet, formatSheet}
-use Rattle.sheets.specs.ClaimsJoining.{beside, joined, Each, Joins, Joining, JoinedBytes}
-use Rattle.sheets.proofs.Messages.{sheet-next, First, first-ran}
-use Rattle.sheets.proofs.Above.{errors-length, errors-joined}
-use Rattle.sheets.proofs.Parts.{Finishes, sheet-ends, finishes, sheet-says, sheet-within}
-use Rattle.sheets.proofs.Beside.{beside-assoc, start-beside, beside-start, Alike, alike-self, alike-then, alike-beside, alike-list, alike-ended}
-use Rattle.sheets.proofs.Alone.{Lone, message-alone, Behind, message-behind}
+use Rattle.sheet_theorems.specs.ClaimsJoining.{beside, joined, Each, Joins, Joining, JoinedBytes}
+use Rattle.sheet_theorems.proofs.Messages.{sheet-next, First, first-ran}
+use Rattle.sheet_theorems.proofs.Above.{errors-length, errors-joined}
+use Rattle.sheet_theorems.proofs.Parts.{Finishes, sheet-ends, finishes, sheet-says, sheet-within}
+use Rattle.sheet_theorems.proofs.Beside.{beside-assoc, start-beside, beside-start, Alike, alike-self, alike-then, alike-beside, alike-list, alike-ended}
+use Rattle.sheet_theorems.proofs.Alone.{Lone, message-alone, Behind, message-behind}
 
 -- the messages of a run, alone, and their joining behind what was before
 record Messages (s w : Bytes) (rs : List Request) (n n′ : Machine) : Type 0 where

@@ -22,12 +22,12 @@ use Rattle.theorems.proofs.Whole.{placeables, nothing-left}
 use Rattle.theorems.proofs.Steadiness.{same-store}
 use Rattle.requests.specs.Image.{Request}
 use Rattle.requests.proofs.Exact.{RequestOk}
 use Rattle.sheets.specs.Sheet.{runMessage}
-use Rattle.sheets.specs.ClaimsJoining.{beside, lent, Alone}
-use Rattle.sheets.proofs.Messages.{message-runs, Ran-on, message-ran}
-use Rattle.sheets.proofs.Requests.{request-ids}
-use Rattle.sheets.proofs.Above.{errors-length, errors-joined, is-beside, from-start, exec-below, Room, exec-above}
-use Rattle.sheets.proofs.Beside.{start-beside, Alike, alike-list, ended-alike}
+use Rattle.sheet_theorems.specs.ClaimsJoining.{beside, lent, Alone}
+use Rattle.sheet_theorems.proofs.Messages.{message-runs, Ran-on, message-ran}
+use Rattle.sheet_theorems.proofs.Requests.{request-ids}
+use Rattle.sheet_theorems.proofs.Above.{errors-length, errors-joined, is-beside, from-start, exec-below, Room, exec-above}
+use Rattle.sheet_theorems.proofs.Beside.{start-beside, Alike, alike-list, ended-alike}
 
 -- a run from the start needs no more than the lengths of what it made
 exec-exact : (L L₁ : Limits) (t : Trace) (m : Machine) → exec L t start ≡ ran m → length (m .written) ≤ L₁ .textLen

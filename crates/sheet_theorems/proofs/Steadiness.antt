@@ -24,11 +24,11 @@ use Rattle.theorems.proofs.Steady.{steady}
 use Rattle.theorems.proofs.Wider.{Wider, exec-wider}
 use Rattle.theorems.proofs.Steadiness.{withItems, Extended, all-extend, slices-sized, same-end, each-added}
 use Rattle.requests.specs.Image.{Request}
 use Rattle.sheets.specs.Sheet.{runMessage, runSheet, formatSheet}
-use Rattle.sheets.specs.ClaimsSteadiness.{SheetSteadiness}
-use Rattle.sheets.proofs.Messages.{message-runs, sheet-next, Ran-on, message-ran, First, first-ran}
-use Rattle.sheets.proofs.Parts.{Finishes, sheet-ends, finishes, sheet-says, sheet-within}
-use Rattle.sheets.proofs.Joining.{joining}
+use Rattle.sheet_theorems.specs.ClaimsSteadiness.{SheetSteadiness}
+use Rattle.sheet_theorems.proofs.Messages.{message-runs, sheet-next, Ran-on, message-ran, First, first-ran}
+use Rattle.sheet_theorems.proofs.Parts.{Finishes, sheet-ends, finishes, sheet-says, sheet-within}
+use Rattle.sheet_theorems.proofs.Joining.{joining}
 
 -- lookups that find nothing only add up
 unfounds-grow : (v : Store) (L : Limits) (rs : List Request) (n n′ : Machine) → runSheet v L rs n ≡ ran n′ → n .unfounds ≤ n′ .unfounds

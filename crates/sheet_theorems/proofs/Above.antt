@@ -13,8 +13,8 @@ use Rattle.resolution.specs.Effect.{Bytes, Effect, put, report, begin, expand, 
 use Rattle.resolution.specs.Exec.{Machine, Limits, ran, listLimit, exec, start}
 use Rattle.theorems.specs.Finished.{reports}
 use Rattle.theorems.proofs.Runs.{same-machine, Onward, onward, exec-step, exec-tallied}
-use Rattle.sheets.specs.ClaimsJoining.{beside}
-use Rattle.sheets.proofs.Effects.{textAfter, effectAfter, TextNeeds, Needs, merge-alike, step-took, step-goes}
+use Rattle.sheet_theorems.specs.ClaimsJoining.{beside}
+use Rattle.sheet_theorems.proofs.Effects.{textAfter, effectAfter, TextNeeds, Needs, merge-alike, step-took, step-goes}
 
 -- records one behind the other, and their list's length
 pub records-append : (l k : List Error) → encAll encError (l ++ k) ≡ encAll encError l ++ encAll encError k

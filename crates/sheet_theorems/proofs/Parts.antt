@@ -17,8 +17,8 @@ use Rattle.theorems.proofs.Runs.{same-machine}
 use Rattle.theorems.proofs.Within.{Within, exec-within, start-within}
 use Rattle.theorems.proofs.Parts.{not-before, test-passed, run-ended}
 use Rattle.requests.specs.Image.{Request, sheetOf}
 use Rattle.sheets.specs.Sheet.{runSheet, sheetWith, sheetRead, sheetStore, formatSheet}
-use Rattle.sheets.proofs.Messages.{sheet-runs, Ran-on, message-ran, First, first-ran}
+use Rattle.sheet_theorems.proofs.Messages.{sheet-runs, Ran-on, message-ran, First, first-ran}
 
 -- a sheet that finishes: every test before its messages passes, and their run leads to a machine
 pub record Finishes (s image : Bytes) (b : Buffers) : Type 0 where

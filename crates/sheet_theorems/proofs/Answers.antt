@@ -24,15 +24,15 @@ use Rattle.theorems.proofs.Within.{Within}
 use Rattle.theorems.proofs.Every.{all-map}
 use Rattle.theorems.proofs.ReadBack.{begun-over}
 use Rattle.requests.specs.Image.{Request}
 use Rattle.sheets.specs.Sheet.{formatSheet}
-use Rattle.sheets.specs.ClaimsJoining.{beside, joined, Each}
-use Rattle.sheets.specs.ClaimsAnswers.{OwnPlaceables, AllSheetPlaceables, AllSheetSums, OneOf, NothingOr, AllSheetFigures}
-use Rattle.sheets.proofs.Few.{sheet-few}
-use Rattle.sheets.proofs.Requests.{requests-few}
-use Rattle.sheets.proofs.Above.{errors-length, errors-joined}
-use Rattle.sheets.proofs.Parts.{Finishes, sheet-ends, finishes, sheet-says, sheet-within}
-use Rattle.sheets.proofs.Joining.{Joined, sheet-joined, joins}
-use Rattle.sheets.proofs.Fine.{sheet-fine}
+use Rattle.sheet_theorems.specs.ClaimsJoining.{beside, joined, Each}
+use Rattle.sheet_theorems.specs.ClaimsAnswers.{OwnPlaceables, AllSheetPlaceables, AllSheetSums, OneOf, NothingOr, AllSheetFigures}
+use Rattle.sheet_theorems.proofs.Few.{sheet-few}
+use Rattle.sheet_theorems.proofs.Requests.{requests-few}
+use Rattle.sheet_theorems.proofs.Above.{errors-length, errors-joined}
+use Rattle.sheet_theorems.proofs.Parts.{Finishes, sheet-ends, finishes, sheet-says, sheet-within}
+use Rattle.sheet_theorems.proofs.Joining.{Joined, sheet-joined, joins}
+use Rattle.sheet_theorems.proofs.Fine.{sheet-fine}
 
 -- errors that fit their records and their list are read back
 reads-back : (es : List Error) → All Brief es → length (encErrors es) ≤ 4294967295 → errorsOf (encErrors es) ≡ some es

@@ -28,10 +28,10 @@ use Rattle.theorems.proofs.Written.{Good}
 use Rattle.theorems.proofs.ReadBack.{Utf8, utf8-append, resolves-good}
 use Rattle.requests.specs.Image.{Request}
 use Rattle.requests.proofs.Exact.{RequestOk, requests-ok}
 use Rattle.sheets.specs.Sheet.{runMessage, runSheet, formatSheet}
-use Rattle.sheets.specs.ClaimsAnswers.{SheetTextWellFormed}
-use Rattle.sheets.proofs.Messages.{Ran-on, message-ran, First, first-ran}
-use Rattle.sheets.proofs.Parts.{Finishes, sheet-ends, finishes, sheet-says}
+use Rattle.sheet_theorems.specs.ClaimsAnswers.{SheetTextWellFormed}
+use Rattle.sheet_theorems.proofs.Messages.{Ran-on, message-ran, First, first-ran}
+use Rattle.sheet_theorems.proofs.Parts.{Finishes, sheet-ends, finishes, sheet-says}
 
 -- no workspace text is open, the text is well-formed, and every error fits a record
 pub record Fine (m : Machine) : Type 0 where

@@ -15,8 +15,8 @@ use Rattle.resolution.specs.Effect.{Bytes}
 use Rattle.resolution.specs.Exec.{Machine, listLimit}
 use Rattle.resolution.specs.Format.{finished, Buffers}
 use Rattle.theorems.specs.Finished.{tooManyIn, listOf}
 use Rattle.sheets.specs.Sheet.{formatSheet}
-use Rattle.sheets.specs.ClaimsJoining.{joined, Joins}
+use Rattle.sheet_theorems.specs.ClaimsJoining.{joined, Joins}
 
 -- "the limit of 100 is each message's own"; "what demand 3 says of placeables holds for each message": of one message
 pub record OwnPlaceables (m : Machine) : Type 0 where

@@ -8,8 +8,8 @@ use Rattle.resolution.specs.Effect.{Bytes}
 use Rattle.resolution.specs.Format.{finished, Buffers}
 use Rattle.theorems.specs.Finished.{listOf}
 use Rattle.theorems.specs.Steadiness.{Addition, AllInBytes, slicesAfter, EachAdded, WellFormed, Longer}
 use Rattle.sheets.specs.Sheet.{formatSheet}
-use Rattle.sheets.specs.ClaimsJoining.{Joins}
+use Rattle.sheet_theorems.specs.ClaimsJoining.{Joins}
 
 -- The first sheet is `formatSheet s image b`, the second `formatSheet (slicesAfter xs s) image b′`; t, e, k and w are the first's text length, error
 -- count, placeables begun and workspace figure.

@@ -13,7 +13,8 @@ use Rattle.resolution.specs.Exec.{Machine, ran, refused, start}
 use Rattle.resolution.specs.Format.{finished, refusedRunning, Buffers, Formatted, limitsOf, zeros, refuse}
 use Rattle.theorems.specs.Finished.{Running, Sized}
 use Rattle.requests.specs.Image.{Request, sheetOf}
+use Rattle.sheets.specs.Refused.{cleared}
 use Rattle.sheets.specs.Sheet.{runMessage, runSheet, formatSheet}
 
 -- "Refusals 4 and 18, and 7 for a list buffer under 5 bytes, come before any message"
 pub data SheetBefore : ℕ → Type 0 where
@@ -27,10 +28,6 @@ pub data SheetRunning : ℕ → Type 0 where
   part : SheetRunning 12
   arguments : SheetRunning 13
   run : {n : ℕ} → Running n → SheetRunning n
-
--- a refusal that a message meets "fills the three buffers with zeros"
-unfoldable pub cleared : ℕ → Buffers → Formatted
-cleared n b = record { answer = refusedRunning n; buffers = record { text = zeros (b .text); list = zeros (b .list); work = zeros (b .work) } }
 
 -- "The first refusal that a message meets is the sheet's": the messages before it ran, it is refused behind them, and none after it counts
 pub record FirstRefusal (s image : Bytes) (b : Buffers) (n : ℕ) : Type 0 where

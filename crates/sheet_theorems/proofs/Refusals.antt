@@ -23,10 +23,11 @@ use Rattle.theorems.proofs.Within.{Within}
 use Rattle.theorems.proofs.Formattings.{front-length, sized-same}
 use Rattle.theorems.proofs.Refusals.{exec-refused}
 use Rattle.requests.specs.Image.{Request, sheetOf}
+use Rattle.sheets.specs.Refused.{cleared}
 use Rattle.sheets.specs.Sheet.{runMessage, runSheet, formatSheet}
-use Rattle.sheets.specs.ClaimsRefusals.{SheetBefore, SheetRunning, cleared, SheetAnswers, AllSheetAnswers, FirstRefusals, AllSheetsSized}
-use Rattle.sheets.proofs.Messages.{sheet-malformed-store, sheet-malformed, sheet-header, sheet-runs, message-none, message-part, message-arguments, message-runs, sheet-none, sheet-next, sheet-stops, First, first-ran}
-use Rattle.sheets.proofs.Parts.{Finishes, finishes, sheet-ends, sheet-within}
+use Rattle.sheet_theorems.specs.ClaimsRefusals.{SheetBefore, SheetRunning, SheetAnswers, AllSheetAnswers, FirstRefusals, AllSheetsSized}
+use Rattle.sheet_theorems.proofs.Messages.{sheet-malformed-store, sheet-malformed, sheet-header, sheet-runs, message-none, message-part, message-arguments, message-runs, sheet-none, sheet-next, sheet-stops, First, first-ran}
+use Rattle.sheet_theorems.proofs.Parts.{Finishes, finishes, sheet-ends, sheet-within}
 
 same-refusal : (c d : ℕ) → refused c ≡ refused d → c ≡ d
 same-refusal c d h = cc

@@ -7,7 +7,7 @@ use native.Mathlib.Omega.{arith}
 use lib.Dec.{leb}
 use Rattle.resolution.specs.Effect.{Bytes, Effect, put, report, begin, expand, unfound, open-text, keep-text, free, merged, Trace}
 use Rattle.resolution.specs.Exec.{Machine, Limits, Ran, ran, refused, allowIf, allow, putText, putWork, putAt, step, andThen, exec}
-use Rattle.sheets.specs.Begun.{withBegun, addBegun}
+use Rattle.sheet_theorems.specs.Begun.{withBegun, addBegun}
 
 module _ (b : ℕ) where
   allow-apart : (n k r : ℕ) (m : Machine) → allow n k r (withBegun (b + m .begun) m) ≡ addBegun b (allow n k r m)

@@ -1,0 +1,5 @@
+pub mod Begun
+pub mod ClaimsJoining
+pub mod ClaimsSteadiness
+pub mod ClaimsAnswers
+pub mod ClaimsRefusals

@@ -1,0 +1,1 @@
+// The theorems about sheets: statements in specs/, proofs in proofs/. No code.
