@@ -5,14 +5,13 @@ use mathlib.Core.List.{List, [], _∷_, _++_, append-assoc, append-nil}
 use Prim.Native.Nat.{ℕ, zero, suc, _+_, _-_, _≤_, max}
 use native.Mathlib.Omega.{arith}
 use lib.ListN.{length, length-append}
-use Rattle.records.specs.Bytes.{toBe}
-use Rattle.records.specs.Encode.{encAll, encWhole}
+use Rattle.records.specs.Encode.{encAll}
 use Rattle.records.specs.Errors.{Error, encError, encErrors}
-use Rattle.layout.proofs.Numbers.{length-toBe}
 use Rattle.resolution.specs.Effect.{Bytes, Effect, put, report, begin, expand, unfound, open-text, keep-text, free, merged, Trace}
 use Rattle.resolution.specs.Exec.{Machine, Limits, ran, listLimit, exec, start}
 use Rattle.theorems.specs.Finished.{reports}
 use Rattle.theorems.proofs.Runs.{same-machine, Onward, onward, exec-step, exec-tallied}
+use Rattle.texts.proofs.ErrorList.{list-size}
 use Rattle.sheet_theorems.specs.ClaimsJoining.{beside}
 use Rattle.sheet_theorems.proofs.Effects.{textAfter, effectAfter, TextNeeds, Needs, merge-alike, step-took, step-goes}
 
@@ -22,15 +21,9 @@ unfolding encAll
 records-append [] k = refl
 records-append (e ∷ l) k = ap (λ (x : Bytes). encError e ++ x) (records-append l k) ∙ sym (append-assoc (encError e) (encAll encError l) (encAll encError k))
 
-pub errors-length : (l : List Error) → length (encErrors l) ≡ 5 + length (encAll encError l)
-unfolding encErrors encWhole
-errors-length l =
-    let body : Bytes = 1 ∷ encAll encError l in
-    omega (arith, length-append (toBe 4 (4 + length body)) body, length-toBe 4 (4 + length body))
-
 pub errors-joined : (l k : List Error) → 5 + length (encErrors (l ++ k)) ≡ length (encErrors l) + length (encErrors k)
 errors-joined l k =
-    omega (arith, errors-length k, errors-length l, errors-length (l ++ k), ap length (records-append l k), length-append (encAll encError l) (encAll encError k))
+    omega (arith, list-size k, list-size l, list-size (l ++ k), ap length (records-append l k), length-append (encAll encError l) (encAll encError k))
 
 -- n is m with what base had before
 pub record Above (base m n : Machine) : Type 0 where
@@ -129,7 +122,7 @@ module _ (base : Machine) where
   needs-below L (put b) m n a h = text-below L (m .nest) b m n a (subst (λ (k : ℕ). TextNeeds L k b n) (a .nest) h)
   needs-below L (report e) m n a h =
       let q = ap (λ (x : List Error). length (encErrors x)) (above-report e m n a) in
-      omega (arith, h, q, errors-joined (base .errors) (m .errors ++ (e ∷ [])), errors-length (base .errors))
+      omega (arith, h, q, errors-joined (base .errors) (m .errors ++ (e ∷ [])), list-size (base .errors))
   needs-below L begin m n a h = tt
   needs-below L expand m n a h = tt
   needs-below L unfound m n a h = tt
@@ -187,7 +180,7 @@ module _ (base : Machine) (L₁ L : Limits) where
       let q = ap (λ (x : List Error). length (encErrors x)) (exec-tallied L₁ t m m′ h .errors) in
       record {
         text = omega (arith, r .text, text-grows L₁ t m m′ h);
-        list = omega (arith, r .list, q, errors-joined (base .errors) (m .errors), errors-joined (base .errors) (m′ .errors), errors-joined (m .errors) (reports t), errors-length (reports t));
+        list = omega (arith, r .list, q, errors-joined (base .errors) (m .errors), errors-joined (base .errors) (m′ .errors), errors-joined (m .errors) (reports t), list-size (reports t));
         work = r .work;
       }
 

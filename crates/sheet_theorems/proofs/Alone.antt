@@ -26,7 +26,8 @@ use Rattle.sheets.specs.Sheet.{runMessage}
 use Rattle.sheet_theorems.specs.ClaimsJoining.{beside, lent, Alone}
 use Rattle.sheet_theorems.proofs.Messages.{message-runs, Ran-on, message-ran}
 use Rattle.sheet_theorems.proofs.Requests.{request-ids}
-use Rattle.sheet_theorems.proofs.Above.{errors-length, errors-joined, is-beside, from-start, exec-below, Room, exec-above}
+use Rattle.texts.proofs.ErrorList.{list-size}
+use Rattle.sheet_theorems.proofs.Above.{errors-joined, is-beside, from-start, exec-below, Room, exec-above}
 use Rattle.sheet_theorems.proofs.Beside.{start-beside, Alike, alike-list, ended-alike}
 
 -- a run from the start needs no more than the lengths of what it made
@@ -95,7 +96,7 @@ module _ (s : Bytes) (v : Store) (end : ℕ) (stored : storeOf s ≡ got v end) 
         alone = λ c l p q.
             formatting r n n′ ok g (lent c l (b .work)) m
             (exec-exact (limitsOf b) (limitsOf (lent c l (b .work))) t m (x .1) (omega (arith, p)) (omega (arith, q, stated)) (omega arith))
-            (le-leb listHeader (length l) (omega (arith, q, errors-length (m .errors))));
+            (le-leb listHeader (length l) (omega (arith, q, list-size (m .errors))));
         placeables = placeables st find (g .part) (limitsOf b) m runs;
         join = is-beside n m n′ (x .2);
         nest = left .1;
@@ -144,6 +145,6 @@ module _ (s : Bytes) (v : Store) (end : ℕ) (stored : storeOf s ≡ got v end) 
       let q : format s (r .id) (r .attribute) (r .image) b₁ ≡ ended (ran m) b₁ = h (m .written) (encErrors (m .errors)) refl refl in
       let f : Finished s (r .id) (r .attribute) (r .image) b₁ = parts s (r .id) (r .attribute) (r .image) b₁ _ _ _ _ _ (ap (λ (x : Formatted). x .answer) q) in
       let fits : Within (limitsOf b₁) (f .machine) = within (limitsOf b₁) (settingOf (f .reached .store) (f .reached .arguments)) (findIn (f .reached .store .items)) (f .reached .part) (f .machine) (f .runs) in
-      let stated : length (encErrors (m .errors)) ≤ 4294967295 = omega (arith, roomList, errors-joined (n .errors) (m .errors), errors-length (n .errors)) in
+      let stated : length (encErrors (m .errors)) ≤ 4294967295 = omega (arith, roomList, errors-joined (n .errors) (m .errors), list-size (n .errors)) in
       let ends : ended (ran (f .machine)) b₁ ≡ ended (ran m) b₁ = sym (finish s (r .id) (r .attribute) (r .image) b₁ f) ∙ q in
       alike-behind r n m z u b₁ f (ended-alike (f .machine) m b₁ (fits .stated) stated ends) (omega arith) roomText roomList

@@ -29,7 +29,8 @@ use Rattle.sheet_theorems.specs.ClaimsJoining.{beside, joined, Each}
 use Rattle.sheet_theorems.specs.ClaimsAnswers.{OwnPlaceables, AllSheetPlaceables, AllSheetSums, OneOf, NothingOr, AllSheetFigures}
 use Rattle.sheet_theorems.proofs.Few.{sheet-few}
 use Rattle.sheet_theorems.proofs.Requests.{requests-few}
-use Rattle.sheet_theorems.proofs.Above.{errors-length, errors-joined}
+use Rattle.texts.proofs.ErrorList.{list-size}
+use Rattle.sheet_theorems.proofs.Above.{errors-joined}
 use Rattle.sheet_theorems.proofs.Parts.{Finishes, sheet-ends, finishes, sheet-says, sheet-within}
 use Rattle.sheet_theorems.proofs.Joining.{Joined, sheet-joined, joins}
 use Rattle.sheet_theorems.proofs.Fine.{sheet-fine}
@@ -61,8 +62,8 @@ each-own [] p h k = tt
 each-own (m ∷ ms) p h k =
     let l : List Error = joined ms .errors in
     let both : 5 + length (encErrors (m .errors ++ l)) ≡ length (encErrors (m .errors)) + length (encErrors l) = errors-joined (m .errors) l in (
-      own-placeables m (p .0) (all-left Brief (m .errors) l h) (omega (arith, both, k, errors-length l)),
-      each-own ms (p .1) (all-right Brief (m .errors) l h) (omega (arith, both, k, errors-length (m .errors))),
+      own-placeables m (p .0) (all-left Brief (m .errors) l h) (omega (arith, both, k, list-size l)),
+      each-own ms (p .1) (all-right Brief (m .errors) l h) (omega (arith, both, k, list-size (m .errors))),
     )
 
 ended-list : (m : Machine) (b : Buffers) → length (encErrors (m .errors)) ≤ 4294967295 → listOf (ended (ran m) b .buffers .list) ≡ encErrors (m .errors)
@@ -127,7 +128,7 @@ sheet-sums s os image oi b t e k u w h =
     let header : listHeader ≤ length (b .list) = leb-true listHeader (length (b .list)) (f .header) in
     let begins : k ≤ 101 * 65535 = omega (arith, y .begun, ap (λ (x : Machine). x .begun) (j .join), few-begun (j .machines) (j .placeables), each-length (j .each), few) in
     let misses : u ≤ 20000000 * 65535 = omega (arith, y .unfound, sheet-few s os (f .store) (f .storeEnd) (f .stored) (limitsOf b) (f .requests) m (f .runs), few) in
-    let listed : 5 + 3 * e ≤ length (encErrors (m .errors)) = omega (arith, y .errors, records-length (m .errors), errors-length (m .errors)) in
+    let listed : 5 + 3 * e ≤ length (encErrors (m .errors)) = omega (arith, y .errors, records-length (m .errors), list-size (m .errors)) in
     record {
       text = omega (arith, y .text, fits .text);
       errors = omega (arith, listed, fits .stated, fits .list header);

@@ -21,7 +21,8 @@ use Rattle.requests.proofs.Exact.{RequestOk, requests-ok}
 use Rattle.sheets.specs.Sheet.{runSheet, formatSheet}
 use Rattle.sheet_theorems.specs.ClaimsJoining.{beside, joined, Each, Joins, Joining, JoinedBytes}
 use Rattle.sheet_theorems.proofs.Messages.{sheet-next, First, first-ran}
-use Rattle.sheet_theorems.proofs.Above.{errors-length, errors-joined}
+use Rattle.texts.proofs.ErrorList.{list-size}
+use Rattle.sheet_theorems.proofs.Above.{errors-joined}
 use Rattle.sheet_theorems.proofs.Parts.{Finishes, sheet-ends, finishes, sheet-says, sheet-within}
 use Rattle.sheet_theorems.proofs.Beside.{beside-assoc, start-beside, beside-start, Alike, alike-self, alike-then, alike-beside, alike-list, alike-ended}
 use Rattle.sheet_theorems.proofs.Alone.{Lone, message-alone, Behind, message-behind}
@@ -115,7 +116,7 @@ Fitting b n m = (length (n .written) + length (m .written) ≤ length (b .text))
 fitting-first : (b : Buffers) (n m o : Machine) → Fitting b n (beside m o) → Fitting b n m
 fitting-first b n m o h = (
   omega (arith, h .0, beside-text m o),
-  omega (arith, h .1, beside-list m o, errors-joined (n .errors) (beside m o .errors), errors-joined (n .errors) (m .errors), errors-length (o .errors)),
+  omega (arith, h .1, beside-list m o, errors-joined (n .errors) (beside m o .errors), errors-joined (n .errors) (m .errors), list-size (o .errors)),
 )
 
 fitting-rest : (b : Buffers) (n m m′ o : Machine) → Alike m′ m → Fitting b n (beside m o) → Fitting b (beside n m′) o
@@ -167,7 +168,7 @@ module _ (s image : Bytes) (b : Buffers) (t e k u w : ℕ) (j : Joins s image b 
           requests = j .requests;
           requestsEnd = j .requestsEnd;
           read = j .read;
-          header = le-leb listHeader (length (b .list)) (omega (arith, j .list, errors-length (joined (j .machines) .errors)));
+          header = le-leb listHeader (length (b .list)) (omega (arith, j .list, list-size (joined (j .machines) .errors)));
           machine = y .machine;
           runs = y .runs;
         };

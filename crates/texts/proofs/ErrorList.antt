@@ -160,7 +160,7 @@ few [] = omega arith
 few (e ∷ es) = let z = record-size e in let a = length-append (encError e) (encAll encError es) in let i = few es in omega arith
 
 -- a list's bytes are its header and its records
-list-size : (es : List Error) → length (encErrors es) ≡ 5 + length (encAll encError es)
+pub list-size : (es : List Error) → length (encErrors es) ≡ 5 + length (encAll encError es)
 unfolding encErrors encWhole
 list-size es =
     let a = length-append (toBe 4 (4 + length (1 ∷ encAll encError es))) (1 ∷ encAll encError es) in

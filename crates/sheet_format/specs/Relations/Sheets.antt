@@ -64,6 +64,7 @@ pub record Passed (s sheet x l w x₁ l₁ w₁ : Bytes) (p : Progress) (at left
   pub rest : List Request
   pub rests : Rests x₁ l₁ w₁ p machine
   pub sum : begun ≡ machine .begun
+  -- 101 for each of at most 65,535 messages, so that the sum fits
   pub few : begun + 101 * left ≤ 6619035
   pub grown : Grown x l (newS (length w)) x₁ l₁ p
   pub asked : many [] _∷_ left requestAt sheet at ≡ got rest (checked .end)
