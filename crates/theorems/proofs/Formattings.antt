@@ -1,4 +1,4 @@
--- What is so of every finished formatting, and the workspace that it needs.
+-- What is so of every finished formatting.
 use mathlib.Core.Path.{_≡_, refl, ap, sym, _∙_}
 use mathlib.Core.List.{List}
 use mathlib.Core.Bool.{Bool, true, false}
@@ -18,7 +18,7 @@ use Rattle.resolution.specs.Effect.{Bytes}
 use Rattle.resolution.specs.Resolve.{Setting}
 use Rattle.resolution.specs.Exec.{Ran, ran, refused, start}
 use Rattle.resolution.specs.Format.{finished, refusedRunning, Buffers, Formatted, limitsOf, zeros, refuse, orRefuse, ended, runPattern, formatWith, formatArguments, formatPart, formatEntry, formatStore, format}
-use Rattle.theorems.specs.Finished.{listOf, traceOf, settingOf, Finished, Sound, withWorkspace, Sized}
+use Rattle.theorems.specs.Finished.{listOf, traceOf, settingOf, Finished, Sound, Sized}
 use Rattle.layout.specs.Exact.{Octets}
 use Rattle.layout.proofs.Theorems.{store-sound}
 use Rattle.theorems.proofs.Runs.{exec-tallied}
@@ -26,7 +26,7 @@ use Rattle.theorems.proofs.Bounded.{unfound-bound}
 use Rattle.theorems.proofs.Within.{Within, within}
 use Rattle.theorems.proofs.Lists.{list-of-front}
 use Rattle.theorems.proofs.Parts.{parts, finish, says}
-use Rattle.theorems.proofs.Whole.{lists-reports, placeables, nothing-left, work-enough, work-short}
+use Rattle.theorems.proofs.Whole.{lists-reports, placeables, nothing-left}
 
 module _ (s id : Bytes) (a : Option Bytes) (image : Bytes) (b : Buffers) where
   -- every finished formatting: its numbers, its text, its list, its placeables
@@ -65,38 +65,6 @@ module _ (s id : Bytes) (a : Option Bytes) (image : Bytes) (b : Buffers) where
   pub figure-fits : (f : Finished s id a image b) → f .machine .high ≤ length (b .work)
   unfolding limitsOf
   figure-fits f = within (limitsOf b) (settingOf (f .reached .store) (f .reached .arguments)) (findIn (f .reached .store .items)) (f .reached .part) (f .machine) (f .runs) .work
-
-  module _ (f : Finished s id a image b) (w : Bytes) where
-    -- with a workspace of exactly the highest use, or a longer one, the answer is the same
-    pub enough-workspace : f .machine .high ≤ length w → format s id a image (withWorkspace b w) .answer ≡ format s id a image b .answer
-    unfolding ended limitsOf
-    enough-workspace h =
-        let g : Finished s id a image (withWorkspace b w) = record {
-          reached = record {
-            store = f .reached .store;
-            storeEnd = f .reached .storeEnd;
-            stored = f .reached .stored;
-            ids = f .reached .ids;
-            entry = f .reached .entry;
-            found = f .reached .found;
-            part = f .reached .part;
-            has = f .reached .has;
-            arguments = f .reached .arguments;
-            argumentsEnd = f .reached .argumentsEnd;
-            given = f .reached .given;
-            header = f .reached .header;
-          };
-          machine = f .machine;
-          runs = work-enough (settingOf (f .reached .store) (f .reached .arguments)) (findIn (f .reached .store .items)) (f .reached .part) (limitsOf b) (f .machine) (f .runs) (length w) h;
-        } in
-        ap (λ (x : Formatted). x .answer) (finish s id a image (withWorkspace b w) g) ∙ sym (ap (λ (x : Formatted). x .answer) (finish s id a image b f))
-
-    -- with a shorter one it is refused with 16
-    pub short-workspace : length w < f .machine .high → format s id a image (withWorkspace b w) .answer ≡ refusedRunning 16
-    unfolding format formatStore formatEntry formatPart formatArguments formatWith orRefuse ended limitsOf
-    short-workspace h =
-        let q = work-short (settingOf (f .reached .store) (f .reached .arguments)) (findIn (f .reached .store .items)) (f .reached .part) (limitsOf b) (f .machine) (f .runs) (length w) h in
-        rw (f .reached .stored) (rw (f .reached .ids) (rw (f .reached .found) (rw (f .reached .has) (rw (f .reached .given) (rw (f .reached .header) (rw q))))))
 
 pub front-length : (x l : Bytes) → length x ≤ length l → length (atFront x l) ≡ length l
 unfolding atFront

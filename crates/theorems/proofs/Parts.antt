@@ -1,5 +1,5 @@
 -- A formatting that finishes has every part that its definition asks for, and answers what its machine says.
-use mathlib.Core.Path.{_≡_, refl}
+use mathlib.Core.Path.{_≡_, refl, ap, _∙_}
 use mathlib.Core.List.{List}
 use mathlib.Core.Bool.{Bool, true, false, _&&_}
 use mathlib.Core.Option.{Option, none, some}
@@ -18,6 +18,7 @@ use Rattle.resolution.specs.Resolve.{asMessage}
 use Rattle.resolution.specs.Exec.{Machine, Ran, ran, refused}
 use Rattle.resolution.specs.Format.{finished, refusedBefore, refusedRunning, Buffers, Formatted, limitsOf, refuse, orRefuse, ended, isIdOrNone, runPattern, formatWith, formatArguments, formatPart, formatEntry, formatStore, format}
 use Rattle.theorems.specs.Finished.{settingOf, Finished, Says}
+use Rattle.theorems.proofs.Judged.{reached-ends}
 
 pub not-before : (n t e k u w : ℕ) → refusedBefore n ≡ finished t e k u w → ⊥
 not-before n t e k u w h = let z : _≡_ {A = ℕ} 0 1 = cc in omega arith
@@ -103,8 +104,7 @@ module _ (s id : Bytes) (a : Option Bytes) (image : Bytes) (b : Buffers) where
 
   -- a formatting that has all its parts ends as its machine says
   pub finish : (f : Finished s id a image b) → format s id a image b ≡ ended (ran (f .machine)) b
-  unfolding format formatStore formatEntry formatPart formatArguments formatWith orRefuse
-  finish f = rw (f .reached .stored) (rw (f .reached .ids) (rw (f .reached .found) (rw (f .reached .has) (rw (f .reached .given) (rw (f .reached .header) (rw (f .runs)))))))
+  finish f = reached-ends s id a image b (f .reached) ∙ ap (λ (r : Ran). ended r b) (f .runs)
 
   -- the five numbers of a finished formatting are those of its machine
   pub says : (f : Finished s id a image b) (t e k u w : ℕ) → format s id a image b .answer ≡ finished t e k u w → Says (f .machine) t e k u w

@@ -1,16 +1,12 @@
 -- A formatting from a well-formed store is the same with the u32 limit of its list and without it.
 use mathlib.Core.Path.{_≡_, refl, ap, sym, subst, _∙_}
 use mathlib.Core.List.{List, [], _∷_, _++_, append-assoc, append-nil}
-use mathlib.Core.Bool.{Bool, true, false, _&&_}
-use mathlib.Core.Option.{Option, none, some}
+use mathlib.Core.Option.{Option, some}
 use Prim.Native.Nat.{ℕ, _≤_}
 use lib.ListN.{length}
-use lib.Dec.{leb}
-use Rattle.rules.specs.Rules.{isId}
-use Rattle.records.specs.Got.{Got, got, bad}
 use Rattle.records.specs.Tree.{Pattern}
-use Rattle.records.specs.Images.{Entry, Store, Argument, storeOf, argumentsOf}
-use Rattle.records.specs.Errors.{Error, encErrors, listHeader}
+use Rattle.records.specs.Images.{Entry, Store}
+use Rattle.records.specs.Errors.{Error, encErrors}
 use Rattle.records.specs.Valid.{ValidStore}
 use Rattle.layout.specs.Exact.{Octets}
 use Rattle.layout.proofs.Theorems.{store-sound}
@@ -18,12 +14,13 @@ use Rattle.entries.specs.Lookup.{findIn, partOf}
 use Rattle.resolution.specs.Effect.{Bytes, Effect, put, report, begin, expand, unfound, open-text, keep-text, free, merged, Trace}
 use Rattle.resolution.specs.Resolve.{Setting, asMessage}
 use Rattle.resolution.specs.Exec.{Machine, Limits, Ran, ran, refused, allow, listed, step, andThen, exec, start}
-use Rattle.resolution.specs.Format.{Buffers, limitsOf, orRefuse, ended, isIdOrNone, runPattern, formatWith, formatArguments, formatPart, formatEntry, formatStore, format}
+use Rattle.resolution.specs.Format.{Buffers, limitsOf, ended, runPattern, format}
 use Rattle.theorems.specs.Finished.{reported, reports, traceOf, settingOf, Reached}
 use Rattle.theorems.specs.Unlimited.{stepFreely, execFreely, runFreely, formatFreely, SameFreely, LimitIdle}
 use Rattle.theorems.proofs.Runs.{step-counted}
 use Rattle.theorems.proofs.Written.{reports-append}
 use Rattle.theorems.proofs.Bounded.{prefix-bound, limit-idle}
+use Rattle.theorems.proofs.Judged.{Judged, reached-ends, judged}
 
 module _ (L : Limits) where
   -- a step that lists at most 20 million bytes
@@ -66,52 +63,15 @@ run-free v valid st id e a p h q L = exec-free L [] (traceOf st (findIn (v .item
 module _ (s : Bytes) (oct : Octets s) (id : Bytes) (a : Option Bytes) (image : Bytes) (b : Buffers) where
   -- with the limit and without it, the same
   same-freely : (r : Reached s id a image b) → format s id a image b ≡ formatFreely r
-  unfolding format formatStore formatEntry formatPart formatArguments formatWith orRefuse
   same-freely r =
       let st : Setting = settingOf (r .store) (r .arguments) in
       let q : runPattern st (findIn (r .store .items)) (limitsOf b) (r .part) ≡ runFreely st (findIn (r .store .items)) (limitsOf b) (r .part) = run-free (r .store) (store-sound s oct (r .stored) .0) st id (r .entry) a (r .part) (r .found) (r .has) (limitsOf b) in
-      rw (r .stored) (rw (r .ids) (rw (r .found) (rw (r .has) (rw (r .given) (rw (r .header) (ap (λ (x : Ran). ended x b) q))))))
+      reached-ends s id a image b r ∙ ap (λ (x : Ran). ended x b) q
 
-  reaches : (r : Reached s id a image b) → SameFreely s id a image b
-  reaches r = SameFreely.reached r (same-freely r)
-
-  -- the tests before the run, from the last to the first
-  module _ (v : Store) (z : ℕ) (h₁ : storeOf s ≡ got v z) where
-    module _ (h₂ : isId id && isIdOrNone a ≡ true) where
-      module _ (e : Entry) (h₃ : asMessage (findIn (v .items) id) ≡ some e) where
-        module _ (p : Pattern) (h₄ : partOf a e ≡ some p) where
-          module _ (l : List (Bytes × Argument)) (y : ℕ) (h₅ : argumentsOf image ≡ got l y) where
-            at-header : (x : Bool) → leb listHeader (length (b .list)) ≡ x → SameFreely s id a image b
-            unfolding format formatStore formatEntry formatPart formatArguments formatWith orRefuse
-            at-header true q =
-                reaches (record { store = v; storeEnd = z; stored = h₁; ids = h₂; entry = e; found = h₃; part = p; has = h₄; arguments = l; argumentsEnd = y; given = h₅; header = q })
-            at-header false q = SameFreely.before 7 (rw h₁ (rw h₂ (rw h₃ (rw h₄ (rw h₅ (rw q))))))
-
-          at-arguments : (g : Got (List (Bytes × Argument))) → argumentsOf image ≡ g → SameFreely s id a image b
-          unfolding format formatStore formatEntry formatPart formatArguments orRefuse
-          at-arguments bad q = SameFreely.before 13 (rw h₁ (rw h₂ (rw h₃ (rw h₄ (rw q)))))
-          at-arguments (got l y) q = at-header l y q (leb listHeader (length (b .list))) refl
-
-        at-part : (o : Option Pattern) → partOf a e ≡ o → SameFreely s id a image b
-        unfolding format formatStore formatEntry formatPart orRefuse
-        at-part none q = SameFreely.before 12 (rw h₁ (rw h₂ (rw h₃ (rw q))))
-        at-part (some p) q = at-arguments p q (argumentsOf image) refl
-
-      at-entry : (o : Option Entry) → asMessage (findIn (v .items) id) ≡ o → SameFreely s id a image b
-      unfolding format formatStore formatEntry orRefuse
-      at-entry none q = SameFreely.before 11 (rw h₁ (rw h₂ (rw q)))
-      at-entry (some e) q = at-part e q (partOf a e) refl
-
-    at-ids : (x : Bool) → isId id && isIdOrNone a ≡ x → SameFreely s id a image b
-    unfolding format formatStore orRefuse
-    at-ids true q = at-entry q (asMessage (findIn (v .items) id)) refl
-    at-ids false q = SameFreely.before 8 (rw h₁ (rw q))
-
-  at-store : (g : Got Store) → storeOf s ≡ g → SameFreely s id a image b
-  unfolding format formatStore
-  at-store bad q = SameFreely.before 4 (rw q)
-  at-store (got v z) q = at-ids v z q (isId id && isIdOrNone a) refl
+  freely : Judged s id a image b → SameFreely s id a image b
+  freely (Judged.before n q) = SameFreely.before n q
+  freely (Judged.reached r) = SameFreely.reached r (same-freely r)
 
 -- the limit decides nothing
 pub limit-decides-nothing : LimitIdle
-limit-decides-nothing s oct id a image b = at-store s oct id a image b (storeOf s) refl
+limit-decides-nothing s oct id a image b = freely s oct id a image b (judged s id a image b)

@@ -1,22 +1,20 @@
--- Whole formattings: the errors and placeables of a run that ends, what it leaves in use, what it needs, and that more entries and longer buffers
--- change nothing.
+-- Whole formattings: the errors and placeables of a run that ends, what it leaves in use, and that more entries and longer buffers change nothing.
 use mathlib.Core.Path.{_≡_, refl, ap, _∙_}
 use mathlib.Core.List.{[], _∷_}
-use Prim.Native.Nat.{ℕ, _≤_, _<_}
+use Prim.Native.Nat.{ℕ, _≤_}
 use native.Mathlib.Omega.{arith}
 use Rattle.records.specs.Tree.{Pattern}
 use Rattle.entries.specs.Lookup.{Find}
 use Rattle.entries.proofs.Holders.{Extends}
 use Rattle.resolution.specs.Effect.{put, report, begin, expand, unfound, open-text, keep-text, free, merged, Trace, Out, Done}
 use Rattle.resolution.specs.Resolve.{Setting, bytesOf, resolve}
-use Rattle.resolution.specs.Exec.{Machine, Limits, ran, refused, exec, start}
+use Rattle.resolution.specs.Exec.{Machine, Limits, ran, exec, start}
 use Rattle.resolution.specs.Format.{maxPatterns, fresh, runPattern}
 use Rattle.theorems.specs.Finished.{reports, tooManyIn, traceOf, Placeables}
 use Rattle.theorems.proofs.Tally.{isOver, tally}
 use Rattle.theorems.proofs.Runs.{Tallied, exec-tallied}
 use Rattle.theorems.proofs.Steady.{steady}
 use Rattle.theorems.proofs.Wider.{Wider, exec-wider}
-use Rattle.theorems.proofs.Work.{withWork, exec-fits, exec-short}
 use Rattle.theorems.proofs.Counts.{Counted, counted}
 use Rattle.theorems.proofs.Fuel.{ok-fresh, deep-enough}
 use Rattle.theorems.proofs.Net.{Netted, netted}
@@ -68,16 +66,6 @@ module _ (st : Setting) (find : Find) (p : Pattern) where
         let out : Out Done = resolve st find maxPatterns p (bytesOf p ∷ []) fresh in
         let r : Netted start m (out .text) (out .kept) = netted st find maxPatterns p (bytesOf p ∷ []) fresh L start m h in
         (r .made, r .level, omega (arith, r .used, keeps-none st find maxPatterns p (bytesOf p ∷ []) fresh))
-
-    -- with a workspace of the highest use, or any longer one, the run is the same
-    pub work-enough : (w : ℕ) → m .high ≤ w → runPattern st find (withWork L w) p ≡ ran m
-    unfolding runPattern
-    work-enough w le = exec-fits L w (traceOf st find p) start m le h
-
-    -- with any shorter one it is refused with 16
-    pub work-short : (w : ℕ) → w < m .high → runPattern st find (withWork L w) p ≡ refused 16
-    unfolding runPattern start
-    work-short w lt = exec-short L w (traceOf st find p) start m (omega arith) lt h
 
     -- where nothing was unfound, a bundle that has more and buffers at least as long give the same machine: text, errors, counts and highest use
     pub whole-steady : (find′ : Find) (L′ : Limits) → Extends find find′ → Wider L L′ → m .unfounds ≡ 0 → runPattern st find′ L′ p ≡ ran m

@@ -113,10 +113,6 @@ pub record Sound (s : Bytes) (id : Bytes) (a : Option Bytes) (image : Bytes) (b 
   pub errors : parts .machine .errors ≡ reports (outOf parts .trace)
   pub placeables : Placeables (parts .machine)
 
--- the same text and list buffers, another workspace
-abbrev pub withWorkspace : Buffers → Bytes → Buffers
-withWorkspace b w = record { text = b .text; list = b .list; work = w }
-
 -- each buffer as long as it was
 pub record Sized (b b′ : Buffers) : Type 0 where
   pub text : length (b′ .text) ≡ length (b .text)
