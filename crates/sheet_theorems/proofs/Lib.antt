@@ -12,3 +12,4 @@ pub mod Steadiness
 pub mod Fine
 pub mod Answers
 pub mod Refusals
+pub mod Figures

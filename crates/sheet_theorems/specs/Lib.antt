@@ -3,3 +3,5 @@ pub mod ClaimsJoining
 pub mod ClaimsSteadiness
 pub mod ClaimsAnswers
 pub mod ClaimsRefusals
+pub mod HighestUse
+pub mod ClaimsFigures
