@@ -18,7 +18,10 @@ use Rattle.resolution.specs.Effect.{Bytes}
 use Rattle.resolution.specs.Exec.{Machine, Ran, ran, refused, start}
 use Rattle.resolution.specs.Format.{Answer, finished, refusedBefore, refusedRunning, Buffers, Formatted, zeros, refuse, orRefuse, ended, formatWith, formatArguments, format, limitsOf, runPattern, valuesOf}
 use Rattle.layout.specs.Exact.{Octets}
+use Rattle.theorems.specs.HighestUse.{highestUse}
+use Rattle.theorems.specs.Figures.{FigureIs}
 use Rattle.theorems.proofs.Formattings.{few-unfound}
+use Rattle.theorems.proofs.Figures.{figure-highest}
 use Rattle.state.specs.Progress.{Progress}
 use Rattle.resolver.specs.Relations.Meets.{Env, env, Setup, settingOf, findOf}
 use Rattle.state.specs.Setters.{maxUnfound, newS}
@@ -88,3 +91,13 @@ module _ (s id : Bytes) (a : Option Bytes) (image x l w : Bytes) {p : code-part.
           let c : closed sc n (buffers x₁ l₁ w₁) ≡ stopped (ended o (buffers x l w)) = closes x l w p x₁ l₁ w₁ sc n (ru .text-size) (ru .list-size) (ru .work-size) o (subst (λ (j : ℕ). RanAs o x l p x₁ l₁ w₁ sc j) (sym en) ran) in
           let d : format s id a image (buffers x l w) ≡ ended o (buffers x l w) = k ∙ rw (ha, le-leb 5 (length l) big) in
           g ∙ c ∙ sym (ap stopped d) ∙ stopped-is (format s id a image (buffers x l w)) (λ t e b u v h. omega (arith, few-unfound s id a image (buffers x l w) oct t e b u v h)))
+
+-- what gives the definition's answer gives its figure
+pub figured : (r : code-answer.Answer) (x l w : Bytes) (o : Formatted) (n : ℕ) → gave r x l w ≡ o → FigureIs (o .answer) n → FigureIs (answerOf r) n
+unfolding gave
+figured r x l w o n h = subst (λ (a : Answer). FigureIs a n) (sym (ap (λ (y : Formatted). y .answer) h))
+
+-- both parts of a formatting's contract from the first
+pub with-figure : (r : code-answer.Answer) (x l w s id : Bytes) (a : Option Bytes) (image : Bytes) (b : Buffers) → gave r x l w ≡ format s id a image b
+    → (gave r x l w ≡ format s id a image b) × FigureIs (answerOf r) (highestUse s id a image)
+with-figure r x l w s id a image b h = (h, figured r x l w (format s id a image b) (highestUse s id a image) h (figure-highest s id a image b))

@@ -21,7 +21,9 @@ use texts::put_header;
 ghost use mathlib.Core.Path.{_≡_};
 ghost use Prim.Native.Nat.{_%_};
 ghost use Rattle.resolution.specs.Format.{format, isIdOrNone};
-ghost use Rattle.resolver.specs.Formats.{gave};
+ghost use Rattle.resolver.specs.Formats.{answerOf, gave};
+ghost use Rattle.theorems.specs.HighestUse.{highestUse};
+ghost use Rattle.theorems.specs.Figures.{FigureIs};
 ghost use Rattle.state.specs.Progress.{progressOf, scopeOf};
 ghost use Rattle.resolver.specs.Relations.Runs.{messageIn, PatternFound, RunOn, closed};
 ghost use Rattle.records.specs.Optional.{optionOf};
@@ -164,6 +166,7 @@ pub fn format<'a>(
     work: &mut [u8],
 ) -> Answer
     ensures { λ r. ⌜ gave r (now (text .exit)) (now (list .exit)) (now (work .exit)) ≡ format (now (store .entry)) (now (id .entry)) (optionOf has (now (attribute .entry))) (now (args .entry)) (record { text = now (text .entry); list = now (list .entry); work = now (work .entry) }) ⌝ }
+    ensures { λ r. ⌜ FigureIs (answerOf r) (highestUse (now (store .entry)) (now (id .entry)) (optionOf has (now (attribute .entry))) (now (args .entry))) ⌝ }
 {
     match find_pattern(store, id, has, attribute) {
         Part::Refused(n) => Answer::Refused(n),

@@ -17,13 +17,17 @@ use Rattle.resolution.specs.Exec.{Ran, start}
 use Rattle.resolution.specs.Format.{finished, Buffers, Formatted, refuse, ended}
 use Rattle.sheets.specs.Sheet.{runSheet, formatSheet}
 use Rattle.sheet_theorems.proofs.Messages.{sheet-malformed-store, sheet-malformed, sheet-header, sheet-runs}
+use Rattle.theorems.specs.Figures.{FigureIs}
+use Rattle.sheet_theorems.specs.HighestUse.{sheetHighestUse}
 use Rattle.sheet_theorems.proofs.Answers.{sheet-sums}
+use Rattle.sheet_theorems.proofs.Figures.{sheet-figure-highest}
 use Rattle.state.specs.Progress.{Progress}
 use Rattle.state.specs.Setters.{newS}
+use Rattle.resolver.specs.declared.format.Answer as code-answer
 use Rattle.resolver.specs.declared.format.Answer.the-variants as ans
 use Rattle.resolver.specs.Formats.{answerOf, gave}
 use Rattle.resolver.specs.Relations.Runs.{stopped, closed}
-use Rattle.resolver.proofs.Ends.{stopped-is}
+use Rattle.resolver.proofs.Ends.{stopped-is, figured}
 use Rattle.resolver.proofs.Finish.{closes}
 use Rattle.resolver.proofs.Whole.{buffers}
 use Rattle.sheet_format.specs.Relations.Sheets.{limits, Checked, SheetRan}
@@ -62,3 +66,8 @@ module _ (s sheet x l w : Bytes) where
 -- 18
 pub refused-sheet : (s sheet x l w : Bytes) {v : Store} {used : ℕ} → storeOf s ≡ got v used → sheetOf sheet ≡ bad → gave (ans.Refused 18) x l w ≡ formatSheet s sheet (buffers x l w)
 refused-sheet s sheet x l w h b = gave-refused _ x l w 18 (sheet-malformed s sheet (buffers x l w) _ _ h b)
+
+-- both parts of a sheet's contract from the first
+pub with-figure : (r : code-answer.Answer) (x l w s sheet : Bytes) (b : Buffers) → gave r x l w ≡ formatSheet s sheet b
+    → (gave r x l w ≡ formatSheet s sheet b) × FigureIs (answerOf r) (sheetHighestUse s sheet)
+with-figure r x l w s sheet b h = (h, figured r x l w (formatSheet s sheet b) (sheetHighestUse s sheet) h (sheet-figure-highest s sheet b))

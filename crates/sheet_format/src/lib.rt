@@ -2,7 +2,9 @@
 mod message;
 
 ghost use mathlib.Core.Path.{_≡_};
-ghost use Rattle.resolver.specs.Formats.{gave};
+ghost use Rattle.resolver.specs.Formats.{answerOf, gave};
+ghost use Rattle.theorems.specs.Figures.{FigureIs};
+ghost use Rattle.sheet_theorems.specs.HighestUse.{sheetHighestUse};
 ghost use Rattle.sheet_format.specs.Relations.Sheets.{Begins, SheetRan};
 ghost use Rattle.sheets.specs.Sheet.{formatSheet};
 ghost use Rattle.state.specs.Progress.{progressOf};
@@ -63,6 +65,7 @@ pub fn format_sheet<'a>(
     work: &mut [u8],
 ) -> Answer
     ensures { λ r. ⌜ gave r (now (text .exit)) (now (list .exit)) (now (work .exit)) ≡ formatSheet (now (store .entry)) (now (sheet .entry)) (record { text = now (text .entry); list = now (list .entry); work = now (work .entry) }) ⌝ }
+    ensures { λ r. ⌜ FigureIs (answerOf r) (sheetHighestUse (now (store .entry)) (now (sheet .entry))) ⌝ }
 {
     let Next::At(_) = check_store(store) else {
         return Answer::Refused(4);

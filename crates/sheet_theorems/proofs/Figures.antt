@@ -19,11 +19,11 @@ use Rattle.resolution.specs.Format.{Answer, finished, refusedBefore, refusedRun
 use Rattle.theorems.specs.Finished.{traceOf, settingOf, Says}
 use Rattle.theorems.specs.Steadiness.{Same, slicesAfter}
 use Rattle.theorems.specs.HighestUse.{argumentsUse, partUse, entryUse, messageUse}
-use Rattle.theorems.specs.Figures.{AsLong, FinishesAlike}
+use Rattle.theorems.specs.Figures.{FigureIs, AsLong, FinishesAlike}
 use Rattle.theorems.proofs.Runs.{same-machine}
 use Rattle.theorems.proofs.Work.{AsWide, exec-high, work-enough, work-short}
 use Rattle.theorems.proofs.Highest.{same-number, Resting, Message-run, message-highest, message-starved}
-use Rattle.theorems.proofs.Figures.{message-use, start-rests, as-wide, header-again, alike-end, decides-again, as-itself, not-refused-before}
+use Rattle.theorems.proofs.Figures.{message-use, start-rests, figure-is, as-wide, header-again, alike-end, decides-again, as-itself, not-refused-before}
 use Rattle.requests.specs.Image.{Request, sheetOf}
 use Rattle.sheets.specs.Sheet.{runArguments, runPart, runEntry, runMessage, runSheet, formatSheet}
 use Rattle.sheets.specs.Refused.{cleared}
@@ -135,6 +135,10 @@ sheet-figures-highest s image b t e k u w h =
     let f : Finishes s image b = finishes s image b t e k u w h in
     let l : Largest (f .store) (limitsOf b) (f .requests) start (f .machine) = messages-highest (f .store) (limitsOf b) (f .requests) start (f .machine) start-rests (f .runs) in
     omega (arith, sheet-says s image b t e k u w f h .work, l .high, sheet-use s image (f .store) (f .storeEnd) (f .stored) (f .requests) (f .requestsEnd) (f .read))
+
+-- so of every answer
+pub sheet-figure-highest : (s image : Bytes) (b : Buffers) → FigureIs (formatSheet s image b .answer) (sheetHighestUse s image)
+sheet-figure-highest s image b = figure-is (formatSheet s image b .answer) (sheetHighestUse s image) (sheet-figures-highest s image b)
 
 module _ (s image : Bytes) (b : Buffers) (t e k u w : ℕ) (h : formatSheet s image b .answer ≡ finished t e k u w) (b′ : Buffers) (l : AsLong b b′) where
   enough : w ≤ length (b′ .work) → FinishesAlike t (formatSheet s image b) b′ (formatSheet s image b′)

@@ -23,7 +23,7 @@ use Rattle.resolution.specs.Format.{Answer, finished, refusedBefore, refusedRun
 use Rattle.theorems.specs.Finished.{listOf, traceOf, settingOf, Reached, Finished, Says}
 use Rattle.theorems.specs.Steadiness.{Addition, AllInBytes, slicesAfter, Longer, Same}
 use Rattle.theorems.specs.HighestUse.{empty, highest, argumentsUse, partUse, entryUse, messageUse, storeUse, highestUse}
-use Rattle.theorems.specs.Figures.{FiguresHighest, AsLong, FinishesAlike, Decides, FiguresExact, FiguresUnchanged, ShortWorkspaces}
+use Rattle.theorems.specs.Figures.{FigureIs, FiguresHighest, AsLong, FinishesAlike, Decides, FiguresExact, FiguresUnchanged, ShortWorkspaces}
 use Rattle.theorems.proofs.Work.{AsWide, work-enough, work-short}
 use Rattle.theorems.proofs.Within.{within}
 use Rattle.theorems.proofs.Highest.{same-number, Resting, Message-run, message-highest, message-starved}
@@ -58,6 +58,16 @@ figures-highest s id a image b t e k u w h =
     let find : Find = findIn (r .store .items) in
     let m : Message-run (traceOf st find (r .part)) start (f .machine) = message-highest (limitsOf b) st find (r .part) start start-rests (f .machine) (f .runs) in
     omega (arith, says s id a image b f t e k u w h .work, m .high, reached-use s id a image b r)
+
+-- a figure is n, where every figure that is answered is
+pub figure-is : (x : Answer) (n : ℕ) → ((t e k u w : ℕ) → x ≡ finished t e k u w → w ≡ n) → FigureIs x n
+figure-is (finished t e k u w) n h = h t e k u w refl
+figure-is (refusedBefore c) n h = tt
+figure-is (refusedRunning c) n h = tt
+
+-- so of every answer
+pub figure-highest : (s id : Bytes) (a : Option Bytes) (image : Bytes) (b : Buffers) → FigureIs (format s id a image b .answer) (highestUse s id a image)
+figure-highest s id a image b = figure-is (format s id a image b .answer) (highestUse s id a image) (figures-highest s id a image b)
 
 -- text and list as long, as lengths
 pub as-wide : (b b′ : Buffers) → AsLong b b′ → AsWide (limitsOf b) (limitsOf b′)

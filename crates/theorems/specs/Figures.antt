@@ -9,10 +9,16 @@ use Rattle.growth.specs.Items.{atFront}
 use Rattle.layout.specs.Exact.{Octets}
 use Rattle.resolution.specs.Effect.{Bytes}
 use Rattle.resolution.specs.Exec.{refused}
-use Rattle.resolution.specs.Format.{finished, refusedRunning, Buffers, Formatted, zeros, ended, format}
+use Rattle.resolution.specs.Format.{Answer, finished, refusedBefore, refusedRunning, Buffers, Formatted, zeros, ended, format}
 use Rattle.theorems.specs.Finished.{listOf}
 use Rattle.theorems.specs.Steadiness.{Addition, AllInBytes, slicesAfter}
 use Rattle.theorems.specs.HighestUse.{highestUse}
+
+-- the workspace figure of an answer, where it has one, is n
+abbrev pub FigureIs : Answer → ℕ → Type 0
+FigureIs (finished t e k u w) n = w ≡ n
+FigureIs (refusedBefore c) n = Unit {0}
+FigureIs (refusedRunning c) n = Unit {0}
 
 -- "It shall be exactly the highest use by the definition"
 abbrev pub FiguresHighest : Type 0

@@ -31,6 +31,7 @@ use state::set_front;
 use state::set_text;
 use unescape::unescape_into;
 use unescape::unescaped_len;
+use workspace::highest;
 
 // Whether n bytes more have room in the workspace, of `len` in all, between its front and its back.
 pub fn has_room(st: &[usize; 16], n: usize, len: usize) -> bool
@@ -53,12 +54,7 @@ fn grow(st: &mut [usize; 16], n: usize, len: usize)
     ensures { λ _. ⌜ progressOf (now (st .exit)) ≡ workAfter len (wrote.At (getD (now (st .entry)) 3 0 + n)) (progressOf (now (st .entry))) ⌝ }
 {
     let front = st[FRONT] + n;
-    let used = front + (len - st[BACK]);
-    let high = st[HIGH];
-    if high < used {
-        set_front(st, front, used);
-        return;
-    }
+    let high = highest(st[HIGH], front, st[BACK], len);
     set_front(st, front, high);
 }
 

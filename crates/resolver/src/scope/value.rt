@@ -45,6 +45,7 @@ use unescape::unescape_into;
 use unescape::unescaped_len;
 use values::Local;
 use values::Value;
+use workspace::highest;
 use writes::put::has_room;
 
 // A named argument, by positions in the store: its name, and its literal's tag and bytes.
@@ -131,12 +132,7 @@ fn keep(st: &mut [usize; 16], n: usize, len: usize)
     ensures { λ _. ⌜ progressOf (now (st .exit)) ≡ heldS ((progressOf (now (st .entry))) .back - n) (max ((progressOf (now (st .entry))) .high) ((progressOf (now (st .entry))) .front + (len - ((progressOf (now (st .entry))) .back - n)))) (progressOf (now (st .entry))) ⌝ }
 {
     let back = st[BACK] - n;
-    let used = st[FRONT] + (len - back);
-    let high = st[HIGH];
-    if high < used {
-        set_held(st, back, used);
-        return;
-    }
+    let high = highest(st[HIGH], st[FRONT], back, len);
     set_held(st, back, high);
 }
 

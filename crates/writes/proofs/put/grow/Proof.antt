@@ -1,5 +1,6 @@
--- `writes::put::grow` meets its contract: the greater of two numbers is what the branch leaves.
+-- `writes::put::grow` meets its contract: the front moves on, and the highest use is the greater of the one before and the use now.
 use Rattle.state.specs.Progress.{progressOf}
+use Rattle.workspace.proofs.Laws.{highest-is}
 use Rattle.writes.proofs.Laws.{room-is, work-at}
 use borrow.Author.Needs.{needs}
 use denote.Ref.{now}
@@ -16,33 +17,22 @@ add-front c =
     let h = room-is _ _ _ (c .before .pre) in
     omega (arith, h .0, h .1)
 
-element-copy-out-used : tie.Need-element-copy-out-used
-element-copy-out-used c = search needs
+element-copy-out-highest : tie.Need-element-copy-out-highest
+element-copy-out-highest c = search needs
 
-sub-used : tie.Need-sub-used
-sub-used c =
-    let h = room-is _ _ _ (c .before .before .pre) in
-    omega (arith, h .0, h .1)
+element-copy-out-highest-2 : tie.Need-element-copy-out-highest-2
+element-copy-out-highest-2 c = search needs
 
-add-used : tie.Need-add-used
-add-used c =
-    let h = room-is _ _ _ (c .before .before .pre) in
-    omega (arith, h .0, h .1)
-
-element-copy-out-high : tie.Need-element-copy-out-high
-element-copy-out-high c = search needs
+highest-requires : tie.Need-highest-requires
+highest-requires c κs = search needs
 
 set-front-requires : tie.Need-set-front-requires
 set-front-requires c κs = search needs
 
 returns : tie.Need-returns
-returns c = c .set-front .ensures ∙ work-at (progressOf (now (c .before .before .before .before .before .before .args .st))) (c .before .before .before .before .before .before .args .len) _ (omega (arith, c .before .before .if1 .taken))
-
-set-front-requires-2 : tie.Need-set-front-requires-2
-set-front-requires-2 c κs = search needs
-
-returns-2 : tie.Need-returns-2
-returns-2 c = c .set-front2 .ensures ∙ work-at (progressOf (now (c .before .before .before .before .before .before .args .st))) (c .before .before .before .before .before .before .args .len) _ (omega (arith, c .before .before .if1 .left))
+returns c =
+    let h = room-is _ _ _ (c .before .before .before .before .before .before .pre) in
+    c .set-front .ensures ∙ work-at (progressOf (now (c .before .before .before .before .before .before .args .st))) (c .before .before .before .before .before .before .args .len) _ (c .before .before .highest .ensures ∙ highest-is _ _ _ _ (h .0) (h .1))
 
 pub grow-spec : {M : Type 1} → statement M
-grow-spec = tie.close (tie.spec element-copy-out-front add-front element-copy-out-used sub-used add-used element-copy-out-high set-front-requires returns set-front-requires-2 returns-2)
+grow-spec = tie.close (tie.spec element-copy-out-front add-front element-copy-out-highest element-copy-out-highest-2 highest-requires set-front-requires returns)

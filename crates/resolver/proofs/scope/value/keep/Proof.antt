@@ -1,7 +1,8 @@
--- `resolver::scope::value::keep` meets its contract: the back moves down, and the highest use is the greater of two.
+-- `resolver::scope::value::keep` meets its contract: the back moves down, and the highest use is the greater of the one before and the use now.
 use Prim.Native.Nat.{ℕ}
 use Rattle.state.specs.Progress.{Progress, progressOf}
 use Rattle.state.specs.Setters.{heldS}
+use Rattle.workspace.proofs.Laws.{highest-is}
 use borrow.Author.Needs.{needs}
 use denote.Ref.{now}
 use mathlib.Core.Path.{_∙_, _≡_, ap}
@@ -19,29 +20,22 @@ element-copy-out-back c = search needs
 sub-back : tie.Need-sub-back
 sub-back c = search needs
 
-element-copy-out-used : tie.Need-element-copy-out-used
-element-copy-out-used c = search needs
+element-copy-out-highest : tie.Need-element-copy-out-highest
+element-copy-out-highest c = search needs
 
-sub-used : tie.Need-sub-used
-sub-used c = search needs
+element-copy-out-highest-2 : tie.Need-element-copy-out-highest-2
+element-copy-out-highest-2 c = search needs
 
-add-used : tie.Need-add-used
-add-used c = search needs
-
-element-copy-out-high : tie.Need-element-copy-out-high
-element-copy-out-high c = search needs
+highest-requires : tie.Need-highest-requires
+highest-requires c κs = search needs
 
 set-held-requires : tie.Need-set-held-requires
 set-held-requires c κs = search needs
 
 returns : tie.Need-returns
-returns c = c .set-held .ensures ∙ high-as (progressOf (now (c .before .before .before .before .before .before .args .st))) _ (omega (arith, c .before .before .if1 .taken))
-
-set-held-requires-2 : tie.Need-set-held-requires-2
-set-held-requires-2 c κs = search needs
-
-returns-2 : tie.Need-returns-2
-returns-2 c = c .set-held2 .ensures ∙ high-as (progressOf (now (c .before .before .before .before .before .before .args .st))) _ (omega (arith, c .before .before .if1 .left))
+returns c =
+    let room = c .before .before .before .before .before .before .pre in
+    c .set-held .ensures ∙ high-as (progressOf (now (c .before .before .before .before .before .before .args .st))) _ (c .before .before .highest .ensures ∙ highest-is _ _ _ _ (omega (arith, room .0)) (omega (arith, room .1)))
 
 pub keep-spec : {M : Type 1} → statement M
-keep-spec = tie.close (tie.spec element-copy-out-back sub-back element-copy-out-used sub-used add-used element-copy-out-high set-held-requires returns set-held-requires-2 returns-2)
+keep-spec = tie.close (tie.spec element-copy-out-back sub-back element-copy-out-highest element-copy-out-highest-2 highest-requires set-held-requires returns)
