@@ -1,14 +1,17 @@
 -- What a formatting's answer says of the number and the figures that are exported: one law for each of its three cases.
 -- Assumes nothing.
-use mathlib.Core.Path.{_≡_, sym, ap, _∙_}
+use mathlib.Core.Path.{_≡_, sym, ap, subst, _∙_}
 use Prim.Native.Nat.{ℕ}
 use Rattle.resolution.specs.Effect.{Bytes}
+use Rattle.resolution.specs.Format as formatting
 use Rattle.resolution.specs.Format.{Formatted}
+use Rattle.theorems.specs.Figures.{FigureIs}
 use Rattle.resolver.specs.Formats.{answerOf, gave}
 use Rattle.resolver.specs.declared.format.Answer.{Answer}
 use Rattle.resolver.specs.declared.format.Answer.the-variants as answer
 use Rattle.resolver.specs.declared.format.Figures.{Figures}
 use Rattle.exports.specs.Numbers.{Lent, formatNumberOf, handed, lentAfter}
+use Rattle.exports.specs.Zero.{FormatTold}
 
 abbrev lentOf : Figures → Lent
 lentOf f = record { written = f .text; errors = f .errors; begun = f .begun; unfound = f .unfound; used = f .work }
@@ -27,3 +30,22 @@ pub cleared-told : {r : Answer} {n : ℕ} {x l w : Bytes} {o : Formatted} (k : L
     → handed o k ≡ record { number = n; figures = k; buffers = record { text = x; list = l; work = w } }
 unfolding gave answerOf handed formatNumberOf lentAfter
 cleared-told {x = x} {l = l} {w = w} k h is = ap (λ (o : Formatted). handed o k) (sym h ∙ ap (λ (c : Answer). gave c x l w) is)
+
+-- the figure of a finished one; of a refused one there is none, as its number is not 0
+pub finished-figure : {r : Answer} {f : Figures} {n : ℕ} → FigureIs (answerOf r) n → r ≡ answer.Finished f → f .work ≡ n
+unfolding answerOf
+finished-figure {n = n} h is = subst (λ (c : Answer). FigureIs (answerOf c) n) is h
+
+-- a refusal's number is not 0
+not-zero : (o : Formatted) (c : formatting.Answer) → FormatTold (o .answer) → o .answer ≡ c → FormatTold c
+not-zero o c h q = subst (λ (x : formatting.Answer). FormatTold x) q h
+
+pub refused-figure : {r : Answer} {c k n : ℕ} {x l w : Bytes} {o : Formatted} → gave r x l w ≡ o → FormatTold (o .answer) → r ≡ answer.Refused c → c ≡ 0 → k ≡ n
+unfolding gave answerOf
+refused-figure {r} {c} {x = x} {l = l} {w = w} {o = o} h t is z =
+    absurd (not-zero o (formatting.refusedBefore c) t (sym (ap (λ (y : Formatted). y .answer) h) ∙ ap answerOf is) z)
+
+pub cleared-figure : {r : Answer} {c k n : ℕ} {x l w : Bytes} {o : Formatted} → gave r x l w ≡ o → FormatTold (o .answer) → r ≡ answer.Cleared c → c ≡ 0 → k ≡ n
+unfolding gave answerOf
+cleared-figure {r} {c} {x = x} {l = l} {w = w} {o = o} h t is z =
+    absurd (not-zero o (formatting.refusedRunning c) t (sym (ap (λ (y : Formatted). y .answer) h) ∙ ap answerOf is) z)

@@ -6,3 +6,4 @@ pub mod Opened
 pub mod Case
 pub mod Sentences
 pub mod Misreadings
+pub mod Figures

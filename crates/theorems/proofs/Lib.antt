@@ -8,10 +8,10 @@ pub mod Work
 pub mod Within
 pub mod Counts
 pub mod Fuel
-pub mod Net
 pub mod Kept
 pub mod Spaces
 pub mod Highest
+pub mod Net
 pub mod Lengths
 pub mod Costs
 pub mod Bounded

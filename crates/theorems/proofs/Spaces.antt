@@ -1,10 +1,10 @@
--- What a trace makes of the workspace: nothing is freed that is not at its back, and in the end the newest text is longer by what was written and the back by
--- what was kept.
+-- What a trace makes of the workspace, and writes to the text buffer: nothing is freed that is not at the workspace's back; in the end the newest text is longer by
+-- what was written, or the text buffer has it where no text is open, and the back is longer by what was kept.
 use mathlib.Core.Path.{_≡_, refl, ap, sym, subst, _∙_}
-use mathlib.Core.List.{List, [], _∷_, _++_}
+use mathlib.Core.List.{List, [], _∷_, _++_, append-assoc, append-nil}
 use mathlib.Core.Bool.{Bool, true, false}
 use mathlib.Core.Option.{Option, none, some}
-use Prim.Native.Nat.{ℕ, _+_, _-_, _≤_}
+use Prim.Native.Nat.{ℕ, zero, suc, _+_, _-_, _≤_}
 use native.Mathlib.Omega.{arith}
 use lib.ListN.{length, length-append}
 use lib.Dec.{ltb}
@@ -39,13 +39,34 @@ abbrev pub AllFreeable : Trace → Workspace → Type 0
 AllFreeable [] w = Unit {0}
 AllFreeable (e ∷ t) w = Freeable e w × AllFreeable t (workspaceAfter e w)
 
+-- what an effect writes to the text buffer: texts, where none is open in the workspace
+abbrev pub outTo : List ℕ → Bytes → Bytes
+outTo [] b = b
+outTo (k ∷ ks) b = []
+
+abbrev pub putOut : Effect → List ℕ → Bytes
+putOut (put b) f = outTo f b
+putOut (report e) f = []
+putOut begin f = []
+putOut expand f = []
+putOut unfound f = []
+putOut open-text f = []
+putOut keep-text f = []
+putOut (free n) f = []
+putOut (merged n) f = []
+
+abbrev pub textOut : Trace → Workspace → Bytes
+textOut [] w = []
+textOut (e ∷ t) w = putOut e (w .front) ++ textOut t (workspaceAfter e w)
+
 -- the newest text is n bytes longer, and the back k
 abbrev pub grown : ℕ → ℕ → Workspace → Workspace
 grown n k w = record { front = longer n (w .front); back = w .back + k }
 
-pub record Spaced (t : Trace) (w : Workspace) (n k : ℕ) : Type 0 where
+pub record Spaced (t : Trace) (w : Workspace) (b : Bytes) (k : ℕ) : Type 0 where
   pub frees : AllFreeable t w
-  pub leaves : spaceAfter t w ≡ grown n k w
+  pub leaves : spaceAfter t w ≡ grown (length b) k w
+  pub writes : textOut t w ≡ outTo (w .front) b
 
 same-space : (f f′ : List ℕ) (b b′ : ℕ) → f ≡ f′ → b ≡ b′ → _≡_ {A = Workspace} (record { front = f; back = b }) (record { front = f′; back = b′ })
 same-space f f′ b b′ p q = rw (p, q)
@@ -74,70 +95,96 @@ frees-append : (a b : Trace) (w : Workspace) → AllFreeable a w → AllFreeable
 frees-append [] b w h k = k
 frees-append (e ∷ a) b w h k = (h .0, frees-append a b (workspaceAfter e w) (h .1) k)
 
--- one trace, then another
-both : (a b : Trace) (w : Workspace) (m n j k : ℕ) → Spaced a w m j → ((x : Workspace) → Spaced b x n k) → Spaced (a ++ b) w (m + n) (j + k)
-both a b w m n j k p q = record {
-  frees = frees-append a b w (p .frees) (q (spaceAfter a w) .frees);
-  leaves = after-append a b w ∙ q (spaceAfter a w) .leaves ∙ ap (λ (x : Workspace). grown n k x) (p .leaves) ∙ grown-twice m n j k w;
-}
+out-append : (a b : Trace) (w : Workspace) → textOut (a ++ b) w ≡ textOut a w ++ textOut b (spaceAfter a w)
+out-append [] b w = refl
+out-append (e ∷ a) b w =
+    ap (λ (x : Bytes). putOut e (w .front) ++ x) (out-append a b (workspaceAfter e w)) ∙ sym (append-assoc (putOut e (w .front)) (textOut a (workspaceAfter e w)) _)
 
-nothing : (w : Workspace) → Spaced [] w 0 0
-nothing w = record { frees = tt; leaves = sym (grown-none w) }
+-- a text is open where one was, however long it is
+out-longer : (n : ℕ) (l : List ℕ) (b : Bytes) → outTo (longer n l) b ≡ outTo l b
+unfolding longer
+out-longer n [] b = refl
+out-longer n (k ∷ ks) b = refl
+
+out-both : (l : List ℕ) (a b : Bytes) → outTo l a ++ outTo l b ≡ outTo l (a ++ b)
+out-both [] a b = refl
+out-both (k ∷ ks) a b = refl
+
+out-none : (l : List ℕ) → outTo l [] ≡ []
+out-none [] = refl
+out-none (k ∷ ks) = refl
+
+-- one trace, then another
+both : (a b : Trace) (w : Workspace) (x y : Bytes) (j k : ℕ) → Spaced a w x j → ((v : Workspace) → Spaced b v y k) → Spaced (a ++ b) w (x ++ y) (j + k)
+both a b w x y j k p q =
+    let v : Workspace = spaceAfter a w in
+    let same : outTo (v .front) y ≡ outTo (w .front) y = ap (λ (u : Workspace). outTo (u .front) y) (p .leaves) ∙ out-longer (length x) (w .front) y in
+    record {
+      frees = frees-append a b w (p .frees) (q v .frees);
+      leaves =
+      after-append a b w ∙ q v .leaves ∙ ap (λ (u : Workspace). grown (length y) k u) (p .leaves) ∙ grown-twice (length x) (length y) j k w
+      ∙ ap (λ (n : ℕ). grown n (j + k) w) (sym (length-append x y));
+      writes = out-append a b w ∙ ap (λ (z : Bytes). z ++ textOut b v) (p .writes) ∙ ap (λ (z : Bytes). outTo (w .front) x ++ z) (q v .writes ∙ same) ∙ out-both (w .front) x y;
+    }
+
+nothing : (w : Workspace) → Spaced [] w [] 0
+nothing w = record { frees = tt; leaves = sym (grown-none w); writes = sym (out-none (w .front)) }
 
 -- the trace of every action does so, by the text that it writes and the bytes that it keeps
 abbrev pub Spaces : Rel
-Spaces A a a′ = (s : State) (w : Workspace) → Spaced (a s .trace) w (length (a s .text)) (a s .kept)
+Spaces A a a′ = (s : State) (w : Workspace) → Spaced (a s .trace) w (a s .text) (a s .kept)
 
 spaces-bind : {A B : Type 0} (x : M A) (f : A → M B) → Spaces A x x → ((a : A) → Spaces B (f a) (f a)) → Spaces B (x >>= f) (x >>= f)
 unfolding _>>=_
 spaces-bind x f h k s w =
     let q = f (x s .value) (x s .state) in
-    subst (λ (n : ℕ). Spaced (x s .trace ++ q .trace) w n (x s .kept + q .kept)) (sym (length-append (x s .text) (q .text)))
-    (both (x s .trace) (q .trace) w _ _ _ _ (h s w) (k (x s .value) (x s .state)))
+    both (x s .trace) (q .trace) w (x s .text) (q .text) (x s .kept) (q .kept) (h s w) (k (x s .value) (x s .state))
 
 spaces-then : {A B : Type 0} (x : M A) (y : M B) → Spaces A x x → Spaces B y y → Spaces B (x >> y) (x >> y)
 unfolding _>>_
 spaces-then x y h k = spaces-bind x (λ a. y) h (λ a. k)
 
--- an effect that leaves the workspace as it is
-quiet : (e : Effect) (w : Workspace) → Freeable e w → workspaceAfter e w ≡ w → Spaced (e ∷ []) w 0 0
-quiet e w f h = record { frees = (f, tt); leaves = h ∙ sym (grown-none w) }
+-- an effect that leaves the workspace as it is, and writes nothing
+quiet : (e : Effect) (w : Workspace) → Freeable e w → workspaceAfter e w ≡ w → putOut e (w .front) ≡ [] → Spaced (e ∷ []) w [] 0
+quiet e w f h q = record { frees = (f, tt); leaves = h ∙ sym (grown-none w); writes = ap {B = Bytes} (λ (x : Bytes). x ++ []) q ∙ sym (out-none (w .front)) }
 
 spaces-write : (b : Bytes) → Spaces Done (write b) (write b)
 unfolding write workspaceAfter
-spaces-write b s w = record { frees = (tt, tt); leaves = same-space _ _ _ _ refl (omega arith) }
+spaces-write b s w = record { frees = (tt, tt); leaves = same-space _ _ _ _ refl (omega arith); writes = append-nil _ }
 
 spaces-capture : (x : M Done) → Spaces Done x x → Spaces Bytes (capture x) (capture x)
 unfolding capture workspaceAfter moved longer
 spaces-capture x h s w =
     let r = x s in
     let v : Workspace = record { front = 0 ∷ w .front; back = w .back } in
-    let p : Spaced (r .trace) v (length (r .text)) (r .kept) = h s v in
+    let p : Spaced (r .trace) v (r .text) (r .kept) = h s v in
     record {
       frees = (tt, frees-append (r .trace) (keep-text ∷ []) v (p .frees) (tt, tt));
       leaves =
       after-append (r .trace) (keep-text ∷ []) v ∙ ap (λ (u : Workspace). workspaceAfter keep-text u) (p .leaves)
       ∙ same-space _ _ _ _ (sym (longer-none (w .front))) (omega arith);
+      writes = out-append (r .trace) (keep-text ∷ []) v ∙ append-nil _ ∙ p .writes ∙ sym (out-none (w .front));
     }
 
 spaces-release : {A : Type 0} (x : M A) → Spaces A x x → Spaces A (release x) (release x)
 unfolding release workspaceAfter
 spaces-release x h s w =
     let r = x s in
-    let p : Spaced (r .trace) w (length (r .text)) (r .kept) = h s w in
+    let p : Spaced (r .trace) w (r .text) (r .kept) = h s w in
     let back : spaceAfter (r .trace) w .back ≡ w .back + r .kept = ap (λ (u : Workspace). u .back) (p .leaves) in
     record {
       frees = frees-append (r .trace) (free (r .kept) ∷ []) w (p .frees) (omega (arith, back), tt);
       leaves =
       after-append (r .trace) (free (r .kept) ∷ []) w ∙ ap (λ (u : Workspace). workspaceAfter (free (r .kept)) u) (p .leaves)
       ∙ same-space _ _ _ _ refl (omega arith);
+      writes = out-append (r .trace) (free (r .kept) ∷ []) w ∙ append-nil _ ∙ p .writes;
     }
 
 spaces-enterIf : (b few : Bool) → Spaces Bool (enterIf b few) (enterIf b few)
 unfolding enterIf workspaceAfter
 spaces-enterIf true few s w = nothing w
-spaces-enterIf false true s w = quiet begin w tt refl
-spaces-enterIf false false s w = record { frees = (tt, (tt, tt)); leaves = sym (grown-none w) }
+spaces-enterIf false true s w = quiet begin w tt refl refl
+spaces-enterIf false false s w = record { frees = (tt, (tt, tt)); leaves = sym (grown-none w); writes = sym (out-none (w .front)) }
 
 spaces-enter : Spaces Bool enter enter
 unfolding enter
@@ -150,7 +197,7 @@ spaces-only x h false = λ s w. nothing w
 
 spaces-expand : Spaces Done (emit expand) (emit expand)
 unfolding emit workspaceAfter
-spaces-expand s w = quiet expand w tt refl
+spaces-expand s w = quiet expand w tt refl refl
 
 spaces-entered : (b x : M Done) → Spaces Done b b → Spaces Done x x → Spaces Done (entered b x) (entered b x)
 unfolding entered
@@ -163,8 +210,8 @@ unfolding ret emit isDirty getLocals setLocals workspaceAfter
 spaces-closed = record {
   rRet = λ {k} {A} a s w. nothing w;
   rBind = λ {k} {A} {B} {m} {m′} {f} {f′} h l. spaces-bind m f h l;
-  rReport = λ {k} e p s w. quiet (report e) w tt refl;
-  rMerged = λ {k} n s w. quiet (merged n) w tt refl;
+  rReport = λ {k} e p s w. quiet (report e) w tt refl refl;
+  rMerged = λ {k} n s w. quiet (merged n) w tt refl refl;
   rWrite = λ {k} b. spaces-write b;
   rDirty = λ {k} s w. nothing w;
   rGet = λ {k} s w. nothing w;
@@ -176,7 +223,7 @@ spaces-closed = record {
 
 spaces-look-for : (x : Option Holder) → Spaces (Option Holder) (lookFor x) (lookFor x)
 unfolding lookFor workspaceAfter
-spaces-look-for none s w = quiet unfound w tt refl
+spaces-look-for none s w = quiet unfound w tt refl refl
 spaces-look-for (some e) s w = nothing w
 
 spaces-look : (find : Find) (i : Bytes) → Spaces (Option Holder) (lookUp find i) (lookUp find i)
@@ -195,5 +242,5 @@ pub record Empties (t : Trace) : Type 0 where
 pub traces-empty : (st : Setting) (find : Find) (p : Pattern) → Empties (traceOf st find p)
 unfolding empty longer
 traces-empty st find p =
-    let r : Spaced (traceOf st find p) empty (length (resolve st find maxPatterns p (bytesOf p ∷ []) fresh .text)) (resolve st find maxPatterns p (bytesOf p ∷ []) fresh .kept) = spaced st find maxPatterns p (bytesOf p ∷ []) fresh empty in
+    let r : Spaced (traceOf st find p) empty (resolve st find maxPatterns p (bytesOf p ∷ []) fresh .text) (resolve st find maxPatterns p (bytesOf p ∷ []) fresh .kept) = spaced st find maxPatterns p (bytesOf p ∷ []) fresh empty in
     record { frees = r .frees; leaves = r .leaves ∙ same-space _ _ _ _ refl (omega (arith, keeps-none st find maxPatterns p (bytesOf p ∷ []) fresh)) }
