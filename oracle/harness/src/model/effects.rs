@@ -21,6 +21,9 @@ pub enum Effect {
     Keep,
     /// As many of the kept texts are freed, the latest first.
     Free(usize),
+    /// A kept text is read, to be written, merged or compared with keys: how
+    /// many were kept before it, and its bytes.
+    Read(usize, Vec<u8>),
     /// minimumFractionDigits is merged.
     Merge(u64),
 }
@@ -98,6 +101,7 @@ pub fn run(effects: &[Effect], lengths: Lengths) -> Result<Finished, u8> {
                     used -= kept.pop().expect("a kept text");
                 }
             }
+            Effect::Read(..) => {}
             Effect::Merge(digits) => {
                 if *digits > 19 {
                     return Err(17);

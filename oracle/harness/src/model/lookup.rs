@@ -1,6 +1,6 @@
 //! Who holds an id: messages, terms and functions share one name space.
 
-use super::reader::{Entry, Item, Store};
+use super::reader::{Entry, Id, Item, Pattern, Store};
 
 #[derive(Clone, Copy)]
 pub enum Holder<'s> {
@@ -48,4 +48,15 @@ pub fn holder<'s>(store: &'s Store, id: &[u8]) -> Option<Holder<'s>> {
         }
     }
     held
+}
+
+/// An entry's value, or its first attribute of that name.
+pub fn part<'s>(entry: &'s Entry, attribute: &Option<Id>) -> Option<&'s Pattern> {
+    match attribute {
+        None => entry.value.as_ref(),
+        Some(name) => {
+            let named = entry.attributes.iter().find(|(id, _)| id == name);
+            named.map(|(_, pattern)| pattern)
+        }
+    }
 }

@@ -9,3 +9,4 @@ pub mod operations;
 pub mod reader;
 pub mod resolve;
 pub mod sheet;
+pub mod workspace;

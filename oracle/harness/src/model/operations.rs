@@ -2,9 +2,9 @@
 
 use super::effects::{run, Finished, Lengths};
 use super::errors;
-use super::lookup::{holder, Holder};
+use super::lookup::{holder, part, Holder};
 use super::reader::{self, is_id};
-use super::resolve::{part, resolve, Resolution};
+use super::resolve::{resolve, Resolution};
 use crate::bytes::Write;
 
 const STORE_LIMIT: usize = 1_048_576;
@@ -121,4 +121,34 @@ pub fn format(prepared: &Result<Resolution, u8>, lengths: Lengths) -> Result<Fin
         return Err(7);
     }
     run(&resolution.effects, lengths)
+}
+
+/// The whole operation on three lent buffers.
+pub fn format_in(
+    prepared: &Result<Resolution, u8>,
+    text: &mut [u8],
+    list: &mut [u8],
+    workspace: &mut [u8],
+) -> Result<Finished, u8> {
+    let lengths = Lengths {
+        text: text.len(),
+        list: list.len(),
+        workspace: workspace.len(),
+    };
+    let answer = format(prepared, lengths);
+    match &answer {
+        Ok(done) => {
+            text[..done.text.len()].copy_from_slice(&done.text);
+            list[..done.list.len()].copy_from_slice(&done.list);
+            workspace.fill(0);
+        }
+        // Met in the run; before it nothing changes.
+        Err(_) if prepared.is_ok() && lengths.list >= 5 => {
+            text.fill(0);
+            list.fill(0);
+            workspace.fill(0);
+        }
+        Err(_) => {}
+    }
+    answer
 }

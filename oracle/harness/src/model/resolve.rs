@@ -2,7 +2,7 @@
 
 use super::effects::Effect;
 use super::errors::{self, FUNCTION, MESSAGE, TERM, VARIABLE};
-use super::lookup::{holder, Holder};
+use super::lookup::{holder, part, Holder};
 use super::number::Number;
 use super::reader::*;
 
@@ -13,6 +13,8 @@ type Step<T> = Result<T, Stop>;
 #[derive(Clone)]
 enum Value {
     Text(Vec<u8>),
+    /// A text of the workspace: how many were kept before it, and its bytes.
+    Kept(usize, Vec<u8>),
     Number(Box<Number>),
     None,
     Error,
@@ -93,7 +95,20 @@ impl<'s> Resolver<'s> {
         text(self)?;
         self.effects.push(Effect::Keep);
         self.alive += 1;
-        Ok(Value::Text(self.making.pop().expect("an open text")))
+        let text = self.making.pop().expect("an open text");
+        Ok(Value::Kept(self.alive - 1, text))
+    }
+
+    /// The bytes of a text are needed; those of a kept one are read.
+    fn read<'v>(&mut self, value: &'v Value) -> Option<&'v [u8]> {
+        match value {
+            Value::Text(text) => Some(text),
+            Value::Kept(before, text) => {
+                self.effects.push(Effect::Read(*before, text.clone()));
+                Some(text)
+            }
+            Value::Number(_) | Value::None | Value::Error => None,
+        }
     }
 
     /// Frees the workspace texts made since `alive` of them were alive.
@@ -184,10 +199,11 @@ impl<'s> Resolver<'s> {
         };
         let alive = self.alive;
         let value = self.value(selector)?;
+        let text = self.read(&value);
         let locale = self.store.locale;
         let chosen = variants
             .iter()
-            .find(|variant| matches(&variant.key, &value, locale))
+            .find(|variant| matches(&variant.key, &value, text, locale))
             .or_else(|| variants.iter().find(|variant| variant.default));
         self.free(alive);
         match chosen {
@@ -274,10 +290,10 @@ impl<'s> Resolver<'s> {
     }
 
     fn put_value(&mut self, value: &Value) {
-        match value {
-            Value::Text(text) => self.put(text),
-            Value::Number(number) => self.put(&number.text()),
-            Value::None | Value::Error => {}
+        if let Some(text) = self.read(value) {
+            self.put(text);
+        } else if let Value::Number(number) = value {
+            self.put(&number.text());
         }
     }
 
@@ -330,17 +346,15 @@ impl<'s> Resolver<'s> {
         };
         let mut number = number.clone();
         for (name, value) in named {
-            match value {
-                Value::Text(text) => number.merge_text(name, text),
-                Value::Number(n) => {
-                    if let Some(digits) = number.merge_number(name, n.value) {
-                        self.effects.push(Effect::Merge(digits));
-                        if digits > 19 {
-                            return Err(Stop);
-                        }
+            if let Some(text) = self.read(value) {
+                number.merge_text(name, text);
+            } else if let Value::Number(n) = value {
+                if let Some(digits) = number.merge_number(name, n.value) {
+                    self.effects.push(Effect::Merge(digits));
+                    if digits > 19 {
+                        return Err(Stop);
                     }
                 }
-                Value::None | Value::Error => {}
             }
         }
         Ok(Value::Number(number))
@@ -368,20 +382,10 @@ impl<'s> Resolver<'s> {
     }
 }
 
-/// An entry's value, or its first attribute of that name.
-pub fn part<'s>(entry: &'s Entry, attribute: &Option<Id>) -> Option<&'s Pattern> {
-    match attribute {
-        None => entry.value.as_ref(),
-        Some(name) => {
-            let named = entry.attributes.iter().find(|(id, _)| id == name);
-            named.map(|(_, pattern)| pattern)
-        }
-    }
-}
-
-fn matches(key: &Key, value: &Value, locale: u8) -> bool {
+/// Whether a key matches a value, whose text is given if it is one.
+fn matches(key: &Key, value: &Value, text: Option<&[u8]>, locale: u8) -> bool {
     match (key, value) {
-        (Key::Id(id), Value::Text(text)) => id == text,
+        (Key::Id(id), Value::Text(_) | Value::Kept(..)) => Some(&id[..]) == text,
         (Key::Id(id), Value::Number(number)) => number.category(locale).as_bytes() == id,
         (Key::Number(literal), Value::Number(n)) => Number::of_literal(literal).equals(n),
         _ => false,
