@@ -10,6 +10,7 @@ pub mod case;
 pub mod cldr;
 pub mod encode;
 mod expected;
+pub mod figures;
 pub mod ftl;
 mod generator;
 pub mod model;
