@@ -14,6 +14,7 @@ pub mod figures;
 pub mod ftl;
 mod generator;
 pub mod model;
+pub mod plain;
 pub mod points;
 pub mod random;
 pub mod rust;

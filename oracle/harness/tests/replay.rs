@@ -256,38 +256,40 @@ fn damage(f: &mut Fields) {
     assert_eq!(map.len(), usize::div_ceil(at, 8));
 }
 
+fn addition(operation: u8, f: &mut Fields) {
+    let refusal = |answer: Result<usize, u8>| answer.err().unwrap_or(0);
+    match operation {
+        30 => {
+            let mut slice = vec![0xAA; f.length()];
+            let answer = operations::new(&mut slice, f.u8(), f.u8());
+            assert_eq!(f.u8(), refusal(answer.map(|()| 0)));
+            assert_eq!(f.blob(), slice);
+        }
+        31 => {
+            let mode = f.u8();
+            let mut slice = f.blob().to_vec();
+            let image = f.blob();
+            let mut list = vec![0xAA; f.length()];
+            let lent = (mode == 1).then_some(&mut list[..]);
+            let answer = operations::add_resource(&mut slice, image, lent);
+            assert_eq!(f.u8(), refusal(answer));
+            assert_eq!(f.number(2) as usize, answer.unwrap_or(0));
+            assert_eq!((f.blob(), f.blob()), (&slice[..], &list[..]));
+        }
+        32 => {
+            let mut slice = f.blob().to_vec();
+            let answer = operations::add_function(&mut slice, f.str(), f.u8());
+            assert_eq!(f.u8(), refusal(answer.map(|()| 0)));
+            assert_eq!(f.blob(), slice);
+        }
+        _ => panic!("operation {operation}"),
+    }
+}
+
 #[test]
 fn additions() {
-    let count = replay("replay/data/additions.vec", |operation, f| {
-        let refusal = |answer: Result<usize, u8>| answer.err().unwrap_or(0);
-        match operation {
-            30 => {
-                let mut slice = vec![0xAA; f.length()];
-                let answer = operations::new(&mut slice, f.u8(), f.u8());
-                assert_eq!(f.u8(), refusal(answer.map(|()| 0)));
-                assert_eq!(f.blob(), slice);
-            }
-            31 => {
-                let mode = f.u8();
-                let mut slice = f.blob().to_vec();
-                let image = f.blob();
-                let mut list = vec![0xAA; f.length()];
-                let lent = (mode == 1).then_some(&mut list[..]);
-                let answer = operations::add_resource(&mut slice, image, lent);
-                assert_eq!(f.u8(), refusal(answer));
-                assert_eq!(f.number(2) as usize, answer.unwrap_or(0));
-                assert_eq!((f.blob(), f.blob()), (&slice[..], &list[..]));
-            }
-            32 => {
-                let mut slice = f.blob().to_vec();
-                let answer = operations::add_function(&mut slice, f.str(), f.u8());
-                assert_eq!(f.u8(), refusal(answer.map(|()| 0)));
-                assert_eq!(f.blob(), slice);
-            }
-            _ => panic!("operation {operation}"),
-        }
-    });
-    assert!(count > 1000);
+    assert!(replay("replay/data/additions.vec", addition) > 1000);
+    assert!(replay("replay/data/figure_additions.vec", addition) >= 1000);
 }
 
 fn format(operation: u8, f: &mut Fields) {
@@ -367,4 +369,16 @@ fn sheet(operation: u8, f: &mut Fields) {
 #[test]
 fn sheets() {
     assert!(replay("replay_formats/data/sheets.vec", sheet) > 1000);
+}
+
+#[test]
+fn figures() {
+    let count = replay(
+        "replay_formats/data/figures.vec",
+        |operation, f| match operation {
+            50 => sheet(operation, f),
+            _ => format(operation, f),
+        },
+    );
+    assert!(count > 1000);
 }

@@ -42,6 +42,9 @@ fn main() {
             "replay_formats/data/sheets.vec",
             vectors::sheets::make(seed, cases),
         );
+        let (figures, additions) = vectors::figures::make(seed, cases);
+        write("replay_formats/data/figures.vec", figures);
+        write("replay/data/figure_additions.vec", additions);
     });
 }
 

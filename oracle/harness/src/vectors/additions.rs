@@ -11,7 +11,7 @@ use crate::{encode, ftl, rust, Maker};
 use fluent_syntax::ast::Resource;
 
 /// What lent bytes hold before.
-const BEFORE: u8 = 0xAA;
+pub(super) const BEFORE: u8 = 0xAA;
 
 pub fn make(seed: u64, cases: usize) -> File {
     let mut r = Random::new(seed ^ 4);
@@ -60,7 +60,7 @@ fn news(file: &mut File) {
 }
 
 /// Add resource over bytes; `errors` is the Rust's list, if it can be asked.
-fn resource_case(
+pub(super) fn resource_case(
     file: &mut File,
     mode: u8,
     before: &[u8],
@@ -89,7 +89,12 @@ fn resource_case(
     answer.is_ok().then_some(slice)
 }
 
-fn function_case(file: &mut File, before: &[u8], id: &[u8], code: u8) -> Option<Vec<u8>> {
+pub(super) fn function_case(
+    file: &mut File,
+    before: &[u8],
+    id: &[u8],
+    code: u8,
+) -> Option<Vec<u8>> {
     let mut slice = before.to_vec();
     let answer = operations::add_function(&mut slice, id, code);
     let mut case = Vec::new();
@@ -117,7 +122,7 @@ fn slice(bundle: &Bundle, more: usize) -> Vec<u8> {
 }
 
 /// The list of the Rust's errors for a plain addition, and their count.
-fn rust_list(before: &Bundle, tree: &Resource<String>) -> (Vec<u8>, usize) {
+pub(super) fn rust_list(before: &Bundle, tree: &Resource<String>) -> (Vec<u8>, usize) {
     let mut bundle = rust::bundle(before);
     let errors = rust::add(&mut bundle, &Item::Plain(tree.clone()));
     (encode::error_list(&errors), errors.len())

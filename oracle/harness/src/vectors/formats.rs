@@ -11,19 +11,19 @@ use crate::sentences::sentences;
 use crate::{expected, generator, Expected};
 
 /// What a replaying program may lend for operation 40.
-const LENT: usize = 4096;
+pub(super) const LENT: usize = 4096;
 
 /// One formatting over bytes.
 #[derive(Clone)]
-struct Format {
-    store: Vec<u8>,
+pub(super) struct Format {
+    pub(super) store: Vec<u8>,
     message: Vec<u8>,
     attribute: Option<Vec<u8>>,
     arguments: Vec<u8>,
 }
 
 impl Format {
-    fn write(
+    pub(super) fn write(
         &self,
         file: &mut File,
         lengths: Option<Lengths>,
@@ -120,7 +120,7 @@ pub fn make(seed: u64, cases: usize) -> File {
     file
 }
 
-fn format_of(case: &Case, e: &Expected) -> Format {
+pub(super) fn format_of(case: &Case, e: &Expected) -> Format {
     Format {
         store: e.store.clone(),
         message: case.message.clone().into_bytes(),

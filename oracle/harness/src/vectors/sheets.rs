@@ -1,6 +1,6 @@
 //! sheets.vec: sheets with lent lengths.
 
-use super::formats::hurt;
+use super::formats::{hurt, LENT};
 use super::{File, CASES};
 use crate::bytes::Write;
 use crate::case::Sheet;
@@ -10,11 +10,8 @@ use crate::random::Random;
 use crate::sheet_points::{sheet, sheet_points};
 use crate::{expected_sheet, sheet_generator, ExpectedSheet};
 
-/// No buffer is longer.
-const LENT: usize = 4096;
-
 /// Every case is shorter.
-const LONGEST: usize = 4400;
+pub(super) const LONGEST: usize = 4400;
 
 pub fn make(seed: u64, cases: usize) -> File {
     let mut r = Random::new(seed ^ 5);
@@ -40,7 +37,7 @@ pub fn make(seed: u64, cases: usize) -> File {
 }
 
 /// Writes operation 50, unless it is too long.
-fn write(
+pub(super) fn write(
     file: &mut File,
     (store, sheet): (&[u8], &[u8]),
     lengths: Lengths,
