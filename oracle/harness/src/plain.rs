@@ -11,8 +11,8 @@ use fluent_syntax::ast::*;
 pub enum Addition {
     Resource {
         image: Vec<u8>,
-        /// What the image holds, if it was made from a tree.
-        tree: Option<Resource<String>>,
+        /// What the image was made from; its bytes may be changed since.
+        tree: Resource<String>,
         /// The length of the list that is lent.
         list: usize,
     },
@@ -53,11 +53,7 @@ pub fn addition(r: &mut Random, maker: &mut Maker, slice: &[u8]) -> Addition {
     };
     let image = encode::resource(&tree);
     let list = list_length(slice, &image) + if r.one_in(3) { r.below(9) } else { 0 };
-    Addition::Resource {
-        image,
-        tree: Some(tree),
-        list,
-    }
+    Addition::Resource { image, tree, list }
 }
 
 fn function(id: &str, code: u8) -> Addition {
@@ -81,7 +77,7 @@ fn malformed(r: &mut Random, tree: Resource<String>) -> Addition {
     hurt(r, &mut image);
     Addition::Resource {
         image,
-        tree: None,
+        tree,
         list: 64,
     }
 }
@@ -112,11 +108,7 @@ fn short_list(r: &mut Random, slice: &[u8]) -> Addition {
     let tree = ftl::resource(*r.pick(&REPEATED));
     let image = encode::resource(&tree);
     let list = r.below(list_length(slice, &image));
-    Addition::Resource {
-        image,
-        tree: Some(tree),
-        list,
-    }
+    Addition::Resource { image, tree, list }
 }
 
 /// How long a list this image needs; 64 where it is refused.

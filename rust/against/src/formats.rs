@@ -57,7 +57,7 @@ pub fn by_the_crate(
     Ok(())
 }
 
-fn figures(finished: &Finished) -> operations::Figures {
+pub(crate) fn figures(finished: &Finished) -> operations::Figures {
     operations::Figures {
         text: finished.text.len(),
         errors: finished.errors,

@@ -4,6 +4,7 @@
 
 pub mod additions;
 pub mod convert;
+pub mod figures;
 pub mod formats;
 pub mod sheet;
 pub mod sheets;
@@ -14,7 +15,7 @@ use std::fmt::Debug;
 /// What was compared.
 #[derive(Clone, Copy, Debug, Default)]
 pub struct Counts {
-    /// Generated cases, or generated sheets.
+    /// Generated cases, sheets, or formattings and sheets by their figures.
     pub cases: u64,
     /// Calls of the operations that were compared, bytes and all.
     pub calls: u64,

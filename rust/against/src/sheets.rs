@@ -49,7 +49,7 @@ pub fn by_the_crate(
     same("format_sheet_in", ours, theirs)
 }
 
-fn figures(figures: model::Figures) -> operations::Figures {
+pub(crate) fn figures(figures: model::Figures) -> operations::Figures {
     operations::Figures {
         text: figures.text,
         errors: figures.errors,

@@ -12,7 +12,9 @@ use crate::model::effects::Lengths;
 use crate::model::reader;
 use crate::plain::{addition, Addition};
 use crate::random::Random;
-use crate::{expected, expected_sheet, generator, sheet_generator, Expected, ExpectedSheet, Maker};
+use crate::{
+    encode, expected, expected_sheet, generator, sheet_generator, Expected, ExpectedSheet, Maker,
+};
 
 /// What is lent as workspace.
 #[derive(Clone, Copy, Debug, PartialEq)]
@@ -244,24 +246,14 @@ impl Writer {
     fn add(&mut self, held: &mut Held, next: Addition) {
         let file = &mut self.additions;
         let (after, item) = match next {
-            // A changed image that is still well-formed can't be given to the Rust.
-            Addition::Resource {
-                image, tree: None, ..
-            } if reader::resource(&image).is_some() => return,
-            Addition::Resource {
-                image,
-                tree: None,
-                list,
-            } => {
-                let after = resource_case(file, 1, &held.slice, &image, list, None);
-                assert!(after.is_none(), "it is malformed");
+            Addition::Resource { image, tree, list } if image != encode::resource(&tree) => {
+                // The Rust can't be given one that is still well-formed.
+                if reader::resource(&image).is_none() {
+                    resource_case(file, 1, &held.slice, &image, list, None);
+                }
                 return;
             }
-            Addition::Resource {
-                image,
-                tree: Some(tree),
-                list,
-            } => {
+            Addition::Resource { image, tree, list } => {
                 let (errors, _) = rust_list(&held.bundle, &tree);
                 let after = resource_case(file, 1, &held.slice, &image, list, Some(&errors));
                 (after, Item::Plain(tree))

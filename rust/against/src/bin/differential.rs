@@ -1,11 +1,12 @@
 //! Compares the crate with the oracle on many generated cases, then on
-//! generated sheets: `differential [COUNT [FIRST_SEED [THREADS [SHEETS]]]]`,
-//! 1,000,000 cases from seed 1 on all processors unless said otherwise, and a
-//! tenth as many sheets. It shows how far it is, and ends with 1 if anything
-//! differs.
+//! generated sheets, then on formattings and sheets by their workspace figures:
+//! `differential [COUNT [FIRST_SEED [THREADS [SHEETS [FIGURES]]]]]`, 1,000,000
+//! cases from seed 1 on all processors unless said otherwise, a tenth as many
+//! sheets, and the figures of a tenth as many formattings and half as many
+//! sheets as those. It shows how far it is, and ends with 1 if anything differs.
 #![forbid(unsafe_code)]
 
-use against::{compare, compare_sheet, sheets, Counts};
+use against::{compare, compare_sheet, figures, sheets, Counts};
 use std::sync::atomic::{AtomicU64, Ordering};
 use std::sync::Mutex;
 use std::time::{Duration, Instant};
@@ -22,7 +23,7 @@ fn main() {
         .skip(1)
         .map(|word| word.parse().unwrap_or_else(|_| usage()))
         .collect();
-    if words.len() > 4 {
+    if words.len() > 5 {
         usage();
     }
     let count = words.first().copied().unwrap_or(1_000_000);
@@ -30,6 +31,7 @@ fn main() {
     let processors = std::thread::available_parallelism().map_or(1, |n| n.get() as u64);
     let threads = words.get(2).copied().unwrap_or(processors).max(1);
     let sheets = words.get(3).copied().unwrap_or(count.div_ceil(10));
+    let figures = words.get(4).copied().unwrap_or(count.div_ceil(10));
 
     let cases = Run {
         what: "cases",
@@ -44,26 +46,23 @@ fn main() {
         count: sheets,
         ..cases
     };
-    let same = cases.run(Counts::default(), 0) & (sheets.count == 0 || with_fixed(&sheets));
+    let of_formattings = Run {
+        what: "formattings by their figures",
+        compare: figures::compare_formatting,
+        count: figures,
+        ..cases
+    };
+    let of_sheets = Run {
+        what: "sheets by their figures",
+        compare: figures::compare_sheet,
+        count: figures.div_ceil(2),
+        ..cases
+    };
+    let same = cases.run(Counts::default(), 0)
+        & (sheets.count == 0 || sheets.with_fixed(sheets::fixed::all))
+        & (figures == 0 || of_formattings.with_fixed(figures::by_hand))
+        & (figures == 0 || of_sheets.run(Counts::default(), 0));
     std::process::exit(i32::from(!same));
-}
-
-/// Runs the sheets that are always the same, then the generated ones.
-fn with_fixed(sheets: &Run) -> bool {
-    let (counts, answer) = std::thread::scope(|scope| {
-        let fixed = || {
-            let mut counts = Counts::default();
-            let answer = sheets::fixed::all(&mut counts);
-            (counts, answer)
-        };
-        let thread = std::thread::Builder::new().stack_size(STACK);
-        let thread = thread.spawn_scoped(scope, fixed).expect("a thread");
-        thread.join().expect("it ends well")
-    });
-    if let Err(difference) = &answer {
-        println!("hand-made sheets: {difference}");
-    }
-    sheets.run(counts, u64::from(answer.is_err()))
 }
 
 /// Seeds to be compared.
@@ -76,6 +75,24 @@ struct Run {
 }
 
 impl Run {
+    /// Compares what is always the same, then the seeds.
+    fn with_fixed(&self, fixed: fn(&mut Counts) -> Result<(), String>) -> bool {
+        let (counts, answer) = std::thread::scope(|scope| {
+            let fixed = || {
+                let mut counts = Counts::default();
+                let answer = fixed(&mut counts);
+                (counts, answer)
+            };
+            let thread = std::thread::Builder::new().stack_size(STACK);
+            let thread = thread.spawn_scoped(scope, fixed).expect("a thread");
+            thread.join().expect("it ends well")
+        });
+        if let Err(difference) = &answer {
+            println!("hand-made {}: {difference}", self.what);
+        }
+        self.run(counts, u64::from(answer.is_err()))
+    }
+
     /// Compares all of them, says what was compared, with what was before, and
     /// whether nothing differs.
     fn run(&self, before: Counts, differed: u64) -> bool {
@@ -171,6 +188,6 @@ impl Run {
 }
 
 fn usage() -> ! {
-    eprintln!("usage: differential [COUNT [FIRST_SEED [THREADS [SHEETS]]]]");
+    eprintln!("usage: differential [COUNT [FIRST_SEED [THREADS [SHEETS [FIGURES]]]]]");
     std::process::exit(2)
 }

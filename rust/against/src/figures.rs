@@ -1,0 +1,336 @@
+//! The workspace figure, and what is promised by it: a workspace of just that
+//! length gives the same answer, a shorter one is refused with 16, and plain
+//! additions change neither.
+
+mod asked;
+
+use crate::{hurt, same, Counts, Lent};
+use asked::{Asked, Model};
+use harness::figures::{formattings, sheets};
+use harness::model::effects::Lengths;
+use harness::model::operations as model;
+use harness::plain::{addition, Addition};
+use harness::random::Random;
+use harness::{encode, generator, sheet_generator, Maker};
+use weszlagyo::operations::{self, Figures};
+
+/// Compares everything on a formatting of a seed, or says what differs.
+pub fn compare_formatting(seed: u64, counts: &mut Counts) -> Result<(), String> {
+    counts.cases += 1;
+    let made = (0..6).map(|at| {
+        let case = generator(seed.wrapping_mul(8).wrapping_add(at) ^ 0xF1 << 48);
+        (encode::store(&case.bundle), Asked::message(&case))
+    });
+    let mut random = Random::new(seed ^ 0xF1_0F0D);
+    of_some_figure(made).all(seed, &mut random, counts)
+}
+
+/// The same on a sheet of a seed.
+pub fn compare_sheet(seed: u64, counts: &mut Counts) -> Result<(), String> {
+    counts.cases += 1;
+    let made = (0..4).map(|at| {
+        let sheet = sheet_generator(seed.wrapping_mul(8).wrapping_add(at) ^ 0xF1 << 48);
+        let asked = Asked::Sheet(sheet.image());
+        (encode::store(&sheet.bundle), asked)
+    });
+    let mut random = Random::new(seed ^ 0xF5_0F0D);
+    of_some_figure(made).all(seed, &mut random, counts)
+}
+
+/// The first whose figure is above 0, or else the last.
+fn of_some_figure(made: impl Iterator<Item = (Vec<u8>, Asked)>) -> Call {
+    let mut last = None;
+    for (store, asked) in made {
+        let model = asked.prepare(&store);
+        let above = model.need().is_some_and(|(_, need)| need.workspace > 0);
+        last = Some(Call {
+            store,
+            asked,
+            model,
+        });
+        if above {
+            break;
+        }
+    }
+    last.expect("one at least")
+}
+
+/// The figures that were worked out by hand.
+pub fn by_hand(counts: &mut Counts) -> Result<(), String> {
+    let mut random = Random::new(0xF1);
+    let messages = formattings().into_iter().map(|point| {
+        let store = encode::store(&point.case.bundle);
+        (store, Asked::message(&point.case), point.figure)
+    });
+    let sheets = sheets().into_iter().map(|point| {
+        let store = encode::store(&point.sheet.bundle);
+        (store, Asked::Sheet(point.sheet.image()), point.figure)
+    });
+    for (at, (store, asked, figure)) in messages.chain(sheets).enumerate() {
+        let call = Call::new(store, asked);
+        let work = call.model.need().map(|(_, need)| need.workspace);
+        same("a figure by hand", Some(figure), work)?;
+        call.all(at as u64, &mut random, counts)?;
+    }
+    Ok(())
+}
+
+/// A call that is made over and over, with other buffers.
+struct Call {
+    store: Vec<u8>,
+    asked: Asked,
+    model: Model,
+}
+
+/// What a call that finished leaves.
+#[derive(PartialEq, Debug)]
+struct Done {
+    figures: Figures,
+    text: Vec<u8>,
+    list: Vec<u8>,
+}
+
+impl Call {
+    fn new(store: Vec<u8>, asked: Asked) -> Self {
+        let model = asked.prepare(&store);
+        Self {
+            store,
+            asked,
+            model,
+        }
+    }
+
+    fn all(mut self, seed: u64, random: &mut Random, counts: &mut Counts) -> Result<(), String> {
+        // the slice of a store may be longer than the store, and has room then
+        let room = *random.pick(&[0, 20, 60, 200, 1000]);
+        let length = self.store.len() + random.below(room + 1);
+        self.store.resize(length, random.draw() as u8);
+        let Some((figures, need)) = self.model.need() else {
+            // refused whatever is lent
+            let lengths = Lengths {
+                text: 500,
+                list: 500,
+                workspace: random.below(500),
+            };
+            self.compare(lengths, random, counts)?;
+            return self.damaged(lengths, random, counts);
+        };
+        let first = self.lengths(need, figures, random, counts)?;
+        let added = self.added(seed, random, counts)?;
+        if first.figures.unfound == 0 {
+            let again = added.lengths(need, figures, random, counts)?;
+            same("after additions", again, first)?;
+        } else if let Some((figures, need)) = added.model.need() {
+            added.lengths(need, figures, random, counts)?;
+        } else {
+            added.compare(need, random, counts)?;
+        }
+        self.damaged(need, random, counts)?;
+        added.damaged(need, random, counts)
+    }
+
+    /// Ample buffers; then a workspace of the figure, shorter ones and a longer
+    /// one, with text and list as long as needed or longer.
+    fn lengths(
+        &self,
+        need: Lengths,
+        figures: Figures,
+        random: &mut Random,
+        counts: &mut Counts,
+    ) -> Result<Done, String> {
+        let ample = Lengths {
+            text: 2 * need.text + 64,
+            list: 2 * need.list + 64,
+            workspace: 2 * need.workspace + 64,
+        };
+        let first = self.finished(ample, random, counts)?;
+        same("figures", first.figures, figures)?;
+        same("the figure", first.figures.work, need.workspace)?;
+        let exact = self.finished(longer(need, random), random, counts)?;
+        same("a workspace of the figure", &exact, &first)?;
+        let mut more = longer(need, random);
+        more.workspace += 1 + random.below(300);
+        let more = self.finished(more, random, counts)?;
+        same("a longer workspace", &more, &first)?;
+        if need.workspace > 0 {
+            for workspace in [need.workspace - 1, random.below(need.workspace)] {
+                let mut less = longer(need, random);
+                less.workspace = workspace;
+                let answer = self.answer(less, random, counts)?;
+                same("a shorter workspace", answer.map(drop), Err(16))?;
+            }
+        }
+        Ok(first)
+    }
+
+    /// A call that has to finish.
+    fn finished(
+        &self,
+        lengths: Lengths,
+        random: &mut Random,
+        counts: &mut Counts,
+    ) -> Result<Done, String> {
+        let answer = self.answer(lengths, random, counts)?;
+        answer.map_err(|refusal| self.named(lengths, &format!("refused with {refusal}")))
+    }
+
+    /// A call that may finish or not.
+    fn compare(
+        &self,
+        lengths: Lengths,
+        random: &mut Random,
+        counts: &mut Counts,
+    ) -> Result<(), String> {
+        self.answer(lengths, random, counts).map(drop)
+    }
+
+    /// One call, with any bytes in the buffers before: the model's answer, and
+    /// every byte.
+    fn answer(
+        &self,
+        lengths: Lengths,
+        random: &mut Random,
+        counts: &mut Counts,
+    ) -> Result<Result<Done, u8>, String> {
+        let [mut text, mut list, mut work] =
+            [lengths.text, lengths.list, lengths.workspace].map(|length| any(length, random));
+        let mut ours = [&text, &list, &work].map(|bytes| Lent::with(bytes, random));
+        let [ours_text, ours_list, ours_work] = &mut ours;
+        let buffers = [ours_text.slice(), ours_list.slice(), ours_work.slice()];
+        let answer = self.asked.call(&self.store, buffers);
+        let wanted = self.model.call([&mut text, &mut list, &mut work]);
+        counts.call(wanted.err().unwrap_or(0));
+        same("answer", answer, wanted).map_err(|e| self.named(lengths, &e))?;
+        let wanted_bytes = [("text", &text), ("list", &list), ("workspace", &work)];
+        for (ours, (what, wanted)) in ours.iter().zip(wanted_bytes) {
+            same(what, ours.held()?, wanted).map_err(|e| self.named(lengths, &e))?;
+        }
+        if wanted == Err(16) {
+            let mut all = text.iter().chain(&list).chain(&work);
+            same("zeros after 16", all.all(|byte| *byte == 0), true)?;
+        }
+        Ok(wanted.map(|figures| Done {
+            figures,
+            text: text[..figures.text].to_vec(),
+            list: list[..length_of(&list)].to_vec(),
+        }))
+    }
+
+    /// A difference, with the call that shows it, if that is short.
+    fn named(&self, lengths: Lengths, difference: &str) -> String {
+        let (store, asked) = (&self.store, &self.asked);
+        match store.len() < 1500 {
+            true => format!("{lengths:?}: {difference}\n  {store:02x?}\n  {asked:02x?}"),
+            false => format!("{lengths:?}: {difference}"),
+        }
+    }
+
+    /// The same call on the slice that some plain additions leave.
+    fn added(&self, seed: u64, random: &mut Random, counts: &mut Counts) -> Result<Self, String> {
+        let mut slice = self.store.clone();
+        let mut maker = Maker::new(seed ^ 0xADD);
+        for _ in 0..1 + random.below(6) {
+            match addition(random, &mut maker, &slice) {
+                Addition::Resource { image, tree, list } => {
+                    let mut image = image;
+                    if random.one_in(8) {
+                        hurt(random, &mut image);
+                    }
+                    counts.damaged += u64::from(image != encode::resource(&tree));
+                    slice = resource(&slice, &image, list, random, counts)?;
+                }
+                Addition::Function { id, code } => {
+                    slice = function(&slice, id.as_bytes(), code, random, counts)?;
+                }
+            }
+        }
+        Ok(Self::new(slice, self.asked.clone()))
+    }
+
+    /// Changed bytes of the store, of the arguments or of the sheet, with the
+    /// lengths of the call that they are made from.
+    fn damaged(
+        &self,
+        need: Lengths,
+        random: &mut Random,
+        counts: &mut Counts,
+    ) -> Result<(), String> {
+        let (mut store, mut asked) = (self.store.clone(), self.asked.clone());
+        let changed = match random.below(3) {
+            0 => hurt(random, &mut store),
+            1 => hurt(random, asked.bytes()),
+            _ => hurt(random, &mut store) | hurt(random, asked.bytes()),
+        };
+        counts.damaged += u64::from(changed);
+        let mut lengths = longer(need, random);
+        match random.below(3) {
+            0 => {}
+            1 => lengths.workspace = lengths.workspace.saturating_sub(1),
+            _ => lengths.workspace = random.below(lengths.workspace + 2),
+        }
+        Self::new(store, asked).compare(lengths, random, counts)
+    }
+}
+
+/// Text and list as long or longer, the workspace as long.
+fn longer(need: Lengths, random: &mut Random) -> Lengths {
+    let mut more = |length: usize| match random.one_in(2) {
+        true => length,
+        false => length + random.below(100),
+    };
+    Lengths {
+        text: more(need.text),
+        list: more(need.list),
+        workspace: need.workspace,
+    }
+}
+
+/// Bytes of any contents.
+fn any(length: usize, random: &mut Random) -> Vec<u8> {
+    let all = std::iter::repeat_with(|| random.draw().to_le_bytes()).flatten();
+    all.take(length).collect()
+}
+
+/// The length that a list states.
+fn length_of(list: &[u8]) -> usize {
+    list[..4].iter().fold(0, |n, b| n << 8 | usize::from(*b))
+}
+
+/// A plain addition: the model's answer, slice and list. Gives the slice.
+fn resource(
+    slice: &[u8],
+    image: &[u8],
+    length: usize,
+    random: &mut Random,
+    counts: &mut Counts,
+) -> Result<Vec<u8>, String> {
+    let mut theirs = slice.to_vec();
+    let mut wanted_list = any(length, random);
+    let mut ours = Lent::with(slice, random);
+    let mut list = Lent::with(&wanted_list, random);
+    let answer = operations::add_resource(ours.slice(), image, list.slice());
+    let wanted = model::add_resource(&mut theirs, image, Some(&mut wanted_list));
+    counts.call(wanted.err().unwrap_or(0));
+    same("add_resource", answer.map_err(|r| r.number()), wanted)?;
+    same("add_resource's slice", ours.held()?, &theirs)?;
+    same("add_resource's list", list.held()?, &wanted_list)?;
+    Ok(theirs)
+}
+
+/// A function's addition: the model's answer and slice. Gives the slice.
+fn function(
+    slice: &[u8],
+    id: &[u8],
+    code: u8,
+    random: &mut Random,
+    counts: &mut Counts,
+) -> Result<Vec<u8>, String> {
+    let mut theirs = slice.to_vec();
+    let mut ours = Lent::with(slice, random);
+    let answer = operations::add_function(ours.slice(), id, code);
+    let wanted = model::add_function(&mut theirs, id, code);
+    counts.call(wanted.err().unwrap_or(0));
+    same("add_function", answer.map_err(|r| r.number()), wanted)?;
+    same("add_function's slice", ours.held()?, &theirs)?;
+    Ok(theirs)
+}

@@ -1,0 +1,107 @@
+//! A formatting or a sheet: the crate's operation, and the model's.
+
+use crate::{formats, sheets};
+use harness::case::Case;
+use harness::encode;
+use harness::model::effects::Lengths;
+use harness::model::operations as model;
+use harness::model::resolve::Resolution;
+use harness::model::sheet::{self, Prepared};
+use weszlagyo::operations::{self, Figures};
+
+/// What is asked of a store.
+#[derive(Clone, Debug)]
+pub enum Asked {
+    Message {
+        id: Vec<u8>,
+        attribute: Option<Vec<u8>>,
+        arguments: Vec<u8>,
+    },
+    Sheet(Vec<u8>),
+}
+
+/// What the model makes of it, before it knows any length.
+pub enum Model {
+    Message(Result<Resolution, u8>),
+    Sheet(Prepared),
+}
+
+impl Asked {
+    pub fn message(case: &Case) -> Self {
+        Self::Message {
+            id: case.message.clone().into_bytes(),
+            attribute: case.attribute.clone().map(String::into_bytes),
+            arguments: encode::arguments(&case.arguments),
+        }
+    }
+
+    /// The arguments image or the sheet image.
+    pub fn bytes(&mut self) -> &mut Vec<u8> {
+        match self {
+            Self::Message { arguments, .. } => arguments,
+            Self::Sheet(image) => image,
+        }
+    }
+
+    pub fn prepare(&self, store: &[u8]) -> Model {
+        match self {
+            Self::Message {
+                id,
+                attribute,
+                arguments,
+            } => Model::Message(model::prepare(store, id, attribute.as_deref(), arguments)),
+            Self::Sheet(image) => Model::Sheet(sheet::prepare(store, image)),
+        }
+    }
+
+    /// The crate's operation on a text, a list and a workspace.
+    pub fn call(&self, store: &[u8], [text, list, work]: [&mut [u8]; 3]) -> Result<Figures, u8> {
+        let answer = match self {
+            Self::Message {
+                id,
+                attribute,
+                arguments,
+            } => {
+                let attribute = attribute.as_deref();
+                operations::format(store, id, attribute, arguments, text, list, work)
+            }
+            Self::Sheet(image) => operations::format_sheet(store, image, text, list, work),
+        };
+        answer.map_err(|refusal| refusal.number())
+    }
+}
+
+impl Model {
+    /// The model's operation on a text, a list and a workspace.
+    pub fn call(&self, [text, list, work]: [&mut [u8]; 3]) -> Result<Figures, u8> {
+        match self {
+            Self::Message(prepared) => {
+                let answer = model::format_in(prepared, text, list, work);
+                answer.map(|done| formats::figures(&done))
+            }
+            Self::Sheet(prepared) => {
+                sheet::format_sheet(prepared, text, list, work).map(sheets::figures)
+            }
+        }
+    }
+
+    /// The figures with ample buffers, and the lengths that are needed.
+    pub fn need(&self) -> Option<(Figures, Lengths)> {
+        let (figures, list) = match self {
+            Self::Message(prepared) => {
+                let done = model::format(prepared, Lengths::AMPLE).ok()?;
+                (formats::figures(&done), done.list.len())
+            }
+            Self::Sheet(prepared) => {
+                let done = sheet::join(prepared, Lengths::AMPLE).ok()?;
+                (sheets::figures(done.figures), done.list.len())
+            }
+        };
+        let need = Lengths {
+            text: figures.text,
+            list,
+            workspace: figures.work,
+        };
+        Some((figures, need))
+    }
+}
