@@ -43,17 +43,21 @@ pub fn addition(r: &mut Random, maker: &mut Maker, slice: &[u8]) -> Addition {
     }
     let tree = match r.below(12) {
         0 | 1 => maker.resource(),
-        2..=4 => ftl::resource(*r.pick(&REPEATED)),
-        5 => ftl::resource(*r.pick(&NEW)),
+        2..=4 => ftl::resource(word(r, &REPEATED)),
+        5 => ftl::resource(word(r, &NEW)),
         6 => return malformed(r, maker.resource()),
         7 => long(r, slice),
         8 => return short_list(r, slice),
-        9 | 10 => return function(*r.pick(&["NUMBER", "F", "G", "H2", "a", "t"]), 1),
+        9 | 10 => return function(word(r, &["NUMBER", "F", "G", "H2", "a", "t"]), 1),
         _ => return refused(r),
     };
     let image = encode::resource(&tree);
     let list = list_length(slice, &image) + if r.one_in(3) { r.below(9) } else { 0 };
     Addition::Resource { image, tree, list }
+}
+
+fn word(r: &mut Random, words: &[&'static str]) -> &'static str {
+    words[r.below(words.len())]
 }
 
 fn function(id: &str, code: u8) -> Addition {
@@ -66,8 +70,8 @@ fn function(id: &str, code: u8) -> Addition {
 /// A function that is no Id, or has another code.
 fn refused(r: &mut Random) -> Addition {
     match r.one_in(2) {
-        true => function(*r.pick(&["", "1a", "-t", "a b", "é", "_"]), 1),
-        false => function(*r.pick(&["F", "G", "a"]), *r.pick(&[0, 2, 255])),
+        true => function(word(r, &["", "1a", "-t", "a b", "é", "_"]), 1),
+        false => function(word(r, &["F", "G", "a"]), *r.pick(&[0, 2, 255])),
     }
 }
 
@@ -105,7 +109,7 @@ fn filled(name: &str, length: usize) -> Resource<String> {
 
 /// A resource that fits, with a list that is too short for its records.
 fn short_list(r: &mut Random, slice: &[u8]) -> Addition {
-    let tree = ftl::resource(*r.pick(&REPEATED));
+    let tree = ftl::resource(word(r, &REPEATED));
     let image = encode::resource(&tree);
     let list = r.below(list_length(slice, &image));
     Addition::Resource { image, tree, list }

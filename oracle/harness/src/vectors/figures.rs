@@ -16,6 +16,9 @@ use crate::{
     encode, expected, expected_sheet, generator, sheet_generator, Expected, ExpectedSheet, Maker,
 };
 
+/// More than what a case has beside slices, images, texts and lists.
+const FIELDS: usize = 100;
+
 /// What is lent as workspace.
 #[derive(Clone, Copy, Debug, PartialEq)]
 enum Kind {
@@ -177,6 +180,10 @@ impl Writer {
     ) {
         let mut format = format_of(case, e);
         format.store = held.slice.clone();
+        let length = held.slice.len() + e.arguments.len() + need.text + need.list;
+        if length + FIELDS > LONGEST {
+            return;
+        }
         for kind in kinds {
             if let Some(lengths) = self.lent(*kind, need) {
                 let answer = e.with(lengths);
@@ -238,7 +245,13 @@ impl Writer {
     fn added(&mut self, mut held: Held) -> Held {
         for _ in 0..2 + self.r.below(4) {
             let next = addition(&mut self.r, &mut self.maker, &held.slice);
-            self.add(&mut held, next);
+            let length = match &next {
+                Addition::Resource { image, list, .. } => image.len() + list,
+                Addition::Function { id, .. } => id.len(),
+            };
+            if 2 * held.slice.len() + length + FIELDS <= LONGEST {
+                self.add(&mut held, next);
+            }
         }
         held
     }
