@@ -84,7 +84,7 @@ uint8_t weszlagyo_add_function(uint8_t *slice, size_t slice_length,
  * *written: bytes of text. *errors: errors in the list. *begun: placeables
  * begun, 0 to 101. *unfound: lookups of an id without an entry, for a reference
  * to a message, term or function. *used: the most bytes of work in use at a
- * time.
+ * time, exactly; see "Choosing a workspace" below.
  *
  * Refusals, which change nothing: 4 the store is malformed; 8 id, or the
  * attribute that is asked for, is not an id; 11 no such message; 12 no such
@@ -119,7 +119,7 @@ uint8_t weszlagyo_format(const uint8_t *store, size_t store_length,
  *
  * *written, *errors, *begun, *unfound: as of weszlagyo_format, and the sums
  * over the messages; the limit of 100 placeables is each message's own. *used:
- * the largest of the messages'.
+ * exactly the largest of the messages'.
  *
  * Refusals, which change nothing: 4 the store is malformed; 18 the sheet is
  * malformed (of an arguments image only its length is judged, 7 to 65,536 and
@@ -135,6 +135,27 @@ uint8_t weszlagyo_format_sheet(const uint8_t *store, size_t store_length,
                                uint8_t *work, size_t work_length,
                                size_t *written, size_t *errors, size_t *begun,
                                uint64_t *unfound, size_t *used);
+
+/* Choosing a workspace.
+ *
+ * In the workspace stand the texts of selectors and arguments, while they are
+ * needed: what a message, a term, an inline placeable or a string literal with
+ * a backslash gives there. *used is exactly the most bytes that were in use at
+ * a time, as document 01 defines it, of a sheet the largest of its messages'.
+ * It follows from store, id, attribute and arguments (from store and sheet),
+ * and not from the buffers. It is proved that, text and list being as long,
+ *  - with work_length *used, or more, all is the same: the answer, the five
+ *    numbers, and every byte of text and list; where *used is 0, work_length
+ *    may be 0;
+ *  - with any work_length below *used the call is refused with 16;
+ *  - where *unfound is 0, no calls of weszlagyo_add_resource and
+ *    weszlagyo_add_function on the store, done or refused, change *used, as
+ *    they change nothing else of the formatting.
+ * So format once with a long workspace, keep *used, and lend that from then on.
+ *
+ * Another message, other arguments, and weszlagyo_add_resource_overriding may
+ * need another one. For a device take the largest over the messages and
+ * arguments that it prints: one by one, or *used of a sheet of them all. */
 
 #ifdef __cplusplus
 }
