@@ -15,12 +15,62 @@ pub(crate) fn lengthen(buffer: &mut Vec<u8>) {
     buffer.resize((buffer.len() * 2).max(FIRST_LENGTH), 0);
 }
 
-/// The buffers of a formatting.
+/// The buffers of a formatting: for its text, for the list of its errors, and
+/// its workspace, where the texts of selectors and arguments stand while they
+/// are needed.
+///
+/// Those of [`with_lengths`](Self::with_lengths) are lengthened where they are
+/// too short. Those of [`fixed`](Self::fixed) never are: for a device whose
+/// memory is shared out beforehand.
+///
+/// # Choosing a workspace
+///
+/// Format once, with buffers that may grow, and keep
+/// [`Figures::work`](crate::operations::Figures::work): it is exactly what the
+/// formatting needs, whatever the buffers were. It is proved that a workspace of
+/// that length, or a longer one, gives the same text, errors and figures, that
+/// any shorter one is refused with [`Refusal::SHORT_WORKSPACE`], and that no
+/// plain addition to the bundle changes the figure where `unfound` was 0. So it
+/// can be kept for as long as nothing overriding is added. Another message,
+/// attribute or other arguments may need more: take the largest of all that the
+/// device prints, or the figure of a sheet of them, which is that.
+///
+/// ```
+/// use weszlagyo::syntax::{message, select, variable, Pattern};
+/// use weszlagyo::{Buffers, FluentArgs, FluentBundle, FluentResource, Refusal};
+///
+/// let seen = select(message("kind"))
+///     .variant("minke", "a minke whale")
+///     .default("other", "a whale");
+/// let resource = FluentResource::builder()
+///     .message("kind", variable("species"))
+///     .message("seen", Pattern::new().place(seen))
+///     .build()?;
+/// let mut bundle = FluentBundle::default();
+/// bundle.add_resource(&resource).expect("no id is there twice");
+/// let args = FluentArgs::from_iter([("species", "minke")]);
+///
+/// let mut long = Buffers::default();
+/// let figures = bundle.format_in(&mut long, "seen", None, Some(&args))?;
+/// assert_eq!(figures.work, "minke".len());
+///
+/// // a list of 5 bytes has room for no error, only for its header
+/// let mut device = Buffers::fixed(64, 5, figures.work);
+/// let again = bundle.format_in(&mut device, "seen", None, Some(&args))?;
+/// assert_eq!((again, device.text(again)), (figures, "a minke whale".into()));
+///
+/// let mut short = Buffers::fixed(64, 5, figures.work - 1);
+/// let refused = bundle.format_in(&mut short, "seen", None, Some(&args));
+/// assert_eq!(refused, Err(Refusal::SHORT_WORKSPACE));
+/// # Ok::<(), Refusal>(())
+/// ```
 #[derive(Clone, Debug)]
 pub struct Buffers {
     text: Vec<u8>,
     list: Vec<u8>,
     work: Vec<u8>,
+    /// Whether they keep their lengths.
+    is_fixed: bool,
 }
 
 impl Default for Buffers {
@@ -31,23 +81,49 @@ impl Default for Buffers {
 
 impl Buffers {
     /// Buffers of these lengths: for the text, the list of errors and the
-    /// workspace.
+    /// workspace. A formatting that finds one too short is tried again with one
+    /// that is twice as long.
     pub fn with_lengths(text: usize, list: usize, work: usize) -> Self {
         Self {
             text: vec![0; text],
             list: vec![0; list],
             work: vec![0; work],
+            is_fixed: false,
         }
     }
 
-    /// Runs a formatting on them, with a longer one whenever it finds one too
-    /// short.
+    /// Buffers that keep these lengths. A formatting that finds one too short is
+    /// refused with [`Refusal::SHORT_TEXT`], [`Refusal::SHORT_LIST`] or
+    /// [`Refusal::SHORT_WORKSPACE`]; they can be used again afterwards.
+    ///
+    /// A list has 5 bytes at least, with which no error is allowed. A workspace
+    /// may have none.
+    pub fn fixed(text: usize, list: usize, work: usize) -> Self {
+        Self {
+            is_fixed: true,
+            ..Self::with_lengths(text, list, work)
+        }
+    }
+
+    /// Whether they keep their lengths.
+    pub fn is_fixed(&self) -> bool {
+        self.is_fixed
+    }
+
+    /// Their lengths: of the text, the list of errors and the workspace.
+    pub fn lengths(&self) -> (usize, usize, usize) {
+        (self.text.len(), self.list.len(), self.work.len())
+    }
+
+    /// Runs a formatting on them; with a longer one whenever it finds one too
+    /// short, unless they are fixed.
     pub(crate) fn lend(
         &mut self,
         mut formatting: impl FnMut(&mut [u8], &mut [u8], &mut [u8]) -> Result<Figures, Refusal>,
     ) -> Result<Figures, Refusal> {
         loop {
             match formatting(&mut self.text, &mut self.list, &mut self.work) {
+                answer if self.is_fixed => return answer,
                 Err(Refusal::SHORT_TEXT) => lengthen(&mut self.text),
                 Err(Refusal::SHORT_LIST) if self.list.len() < MAX_LIST => lengthen(&mut self.list),
                 Err(Refusal::SHORT_WORKSPACE) => lengthen(&mut self.work),

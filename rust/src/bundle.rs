@@ -211,8 +211,9 @@ impl FluentBundle {
         })
     }
 
-    /// Formats into buffers of the caller's, which are lengthened where they
-    /// are too short and can be used again: for many formattings in a row.
+    /// Formats into buffers of the caller's, which can be used again: for many
+    /// formattings in a row. Where one is too short it is lengthened, or, if they
+    /// are [fixed](Buffers::fixed), the formatting is refused.
     pub fn format_in(
         &self,
         buffers: &mut Buffers,

@@ -42,7 +42,16 @@ pub struct Figures {
     /// Lookups of an id, by a reference to a message, term or function, that
     /// has no entry of any kind.
     pub unfound: u64,
-    /// The highest use of the workspace, in bytes.
+    /// The highest use of the workspace, in bytes: exactly that of document 01's
+    /// definition, 0 where no text went there.
+    ///
+    /// It is a function of the store, the id, the attribute and the arguments (of
+    /// the store and the sheet), and of no buffer. A workspace of just this length,
+    /// or a longer one, gives the same in every byte and number; a shorter one,
+    /// text and list being as long, [`Refusal::SHORT_WORKSPACE`]. Where `unfound`
+    /// is 0, no list of plain additions and functions changes it, as it changes
+    /// nothing else. So it is the workspace to choose, see
+    /// [`Buffers`](crate::Buffers#choosing-a-workspace).
     pub work: usize,
 }
 
