@@ -18,7 +18,9 @@ Prints the sheet of a sighting in English, Danish, Russian and Welsh.
   --store FILE      format from this store, in place of the sheets
   --arguments FILE  format with this arguments image, in place of the fields
   --isolate         put isolation marks around what is filled in
-  --figures         add the figures: placeables begun, ids unfound, workspace
+  --figures         add the figures: placeables begun, ids unfound, errors, bytes of
+                    text, and the bytes of workspace that are needed
+  --workspace BYTES lend a workspace of just so many bytes, in place of 65536
   --lines           a line for each message, its parts set apart by tabs:
                     language, message, begun, unfound, errors, text, each error
 

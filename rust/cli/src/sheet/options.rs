@@ -19,6 +19,8 @@ pub struct Options<'a> {
     pub arguments: Option<&'a [u8]>,
     pub save_store: Option<&'a [u8]>,
     pub save_arguments: Option<&'a [u8]>,
+    /// The bytes of the workspace, where they are given.
+    pub workspace: Option<usize>,
     /// A value for each of the fields, in their order, where one is given.
     pub given: [Option<&'a [u8]>; FIELDS.len()],
     /// The fields that are left out.
@@ -70,6 +72,7 @@ impl<'a> Options<'a> {
             Valued::Arguments => self.arguments = Some(value),
             Valued::SaveStore => self.save_store = Some(value),
             Valued::SaveArguments => self.save_arguments = Some(value),
+            Valued::Workspace => self.workspace = Some(bytes(value)?),
         }
         Some(())
     }
@@ -87,6 +90,7 @@ enum Valued {
     Arguments,
     SaveStore,
     SaveArguments,
+    Workspace,
 }
 
 impl Valued {
@@ -101,9 +105,20 @@ impl Valued {
             b"arguments" => Self::Arguments,
             b"save-store" => Self::SaveStore,
             b"save-arguments" => Self::SaveArguments,
+            b"workspace" => Self::Workspace,
             name => Self::Field(Field::named(name)?),
         })
     }
+}
+
+/// The most bytes that are lent as a workspace.
+const MAX_WORKSPACE: usize = 16_777_216;
+
+/// A number of bytes, in digits.
+fn bytes(value: &[u8]) -> Option<usize> {
+    let is_digits = value.iter().all(u8::is_ascii_digit);
+    let digits = std::str::from_utf8(value).ok().filter(|_| is_digits)?;
+    digits.parse().ok().filter(|n| *n <= MAX_WORKSPACE)
 }
 
 const HELP: &[u8] = b"; --help says how to use it";
@@ -113,6 +128,7 @@ fn needs(word: &[u8], option: Valued) -> Failure {
     let what: &[u8] = match option {
         Valued::No => b" needs a field (species, count, calves, distance, leg or observer)",
         Valued::Language => b" needs a language (en, da, ru or cy)",
+        Valued::Workspace => b" needs a number of bytes (0 to 16777216)",
         _ => b" needs a value",
     };
     Failure::line(&[word, what, HELP])

@@ -5,8 +5,8 @@ use crate::failure::Failure;
 use weszlagyo::operations::{self, read_list, Figures};
 use weszlagyo::{FluentBundle, FluentError, Refusal, Sheet};
 
-/// What is lent for the text of a message, its error list and its workspace:
-/// what needs more is refused.
+/// What is lent for the text of a message, its error list and, unless another is
+/// asked for, its workspace: what needs more is refused.
 const ROOM: usize = 65_536;
 
 /// The messages of a sheet, and the one that stands between two of them.
@@ -43,10 +43,10 @@ pub fn page(
         arguments,
     };
     match options.message {
-        Some(id) => Ok(page.put_message(out, id, options.attribute)?),
-        None if options.lines => Ok(MESSAGES
+        Some(id) => page.put_message(out, id, options.attribute),
+        None if options.lines => MESSAGES
             .iter()
-            .try_for_each(|id| page.put_message(out, id.as_bytes(), None))?),
+            .try_for_each(|id| page.put_message(out, id.as_bytes(), None)),
         None => page.put_sheet(out),
     }
 }
@@ -70,10 +70,11 @@ impl Page<'_> {
         out: &mut Vec<u8>,
         id: &[u8],
         attribute: Option<&[u8]>,
-    ) -> Result<(), Refusal> {
-        let message = Formatted::new(ROOM, |text, list, work| {
+    ) -> Result<(), Failure> {
+        let message = Formatted::new(ROOM, self.workspace(), |text, list, work| {
             operations::format(self.store, id, attribute, self.arguments, text, list, work)
-        })?;
+        });
+        let message = message.map_err(|refusal| self.short(refusal))?;
         match self.options.lines {
             true => message.put_line(out, self.language, id),
             false => message.put(out, self.options.figures),
@@ -85,8 +86,8 @@ impl Page<'_> {
     fn put_sheet(&self, out: &mut Vec<u8>) -> Result<(), Failure> {
         let sheet = sheet(self.arguments)?;
         // what there is room for alone has room among the others
-        let formatted = Formatted::new(sheet.len() * ROOM, |text, list, work| {
-            let work = &mut work[..ROOM];
+        let room = sheet.len() * ROOM;
+        let formatted = Formatted::new(room, self.workspace(), |text, list, work| {
             operations::format_sheet(self.store, sheet.image(), text, list, work)
         });
         let formatted = formatted.map_err(|refusal| self.refused(refusal))?;
@@ -100,6 +101,26 @@ impl Page<'_> {
             Some(id) if matches!(refusal, Refusal::NO_MESSAGE | Refusal::NO_PATTERN) => {
                 let words =
                     format!("{refusal}: {id} (a sheet needs sheet, line, seen, away and who)");
+                Failure::line(&[words.as_bytes()])
+            }
+            _ => self.short(refusal),
+        }
+    }
+
+    /// How many bytes are lent as the workspace.
+    fn workspace(&self) -> usize {
+        self.options.workspace.unwrap_or(ROOM)
+    }
+
+    /// A refusal; where the workspace that was asked for is too short, with its
+    /// length.
+    fn short(&self, refusal: Refusal) -> Failure {
+        match self.options.workspace {
+            Some(lent) if refusal == Refusal::SHORT_WORKSPACE => {
+                let words = match lent {
+                    1 => format!("{refusal}: 1 byte was lent"),
+                    _ => format!("{refusal}: {lent} bytes were lent"),
+                };
                 Failure::line(&[words.as_bytes()])
             }
             _ => refusal.into(),
@@ -118,12 +139,14 @@ impl Page<'_> {
 }
 
 impl Formatted {
-    /// What a formatting leaves in buffers of that length.
+    /// What a formatting leaves in a text and a list of one length, with a
+    /// workspace of another.
     fn new(
         room: usize,
+        workspace: usize,
         format: impl FnOnce(&mut [u8], &mut [u8], &mut [u8]) -> Result<Figures, Refusal>,
     ) -> Result<Self, Refusal> {
-        let (mut text, mut list, mut work) = (vec![0; room], vec![0; room], vec![0; room]);
+        let (mut text, mut list, mut work) = (vec![0; room], vec![0; room], vec![0; workspace]);
         let figures = format(&mut text, &mut list, &mut work)?;
         text.truncate(figures.text);
         Ok(Self {

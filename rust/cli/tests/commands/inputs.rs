@@ -25,6 +25,7 @@ pub fn write(folder: &Path) {
         ("cy.store", sheet(Locale::Cy, embedded::CY.to_vec())),
         ("deep.store", deep()),
         ("small.store", small(FluentResource::builder())),
+        ("kinds.store", kinds()),
         (
             "no-line.store",
             store(Locale::En, &[built(short_messages())]),
@@ -176,6 +177,21 @@ fn short_messages() -> ResourceBuilder {
             Pattern::from(chosen.variant("Small", "chosen").default("x", "y")),
         )
         .message("who", variable("observer"))
+}
+
+/// The store of the README: a message that needs as many bytes of the workspace
+/// as the species has.
+pub fn kinds() -> Vec<u8> {
+    let seen = select(message("kind"))
+        .variant("minke", "a minke whale")
+        .default("other", "an animal");
+    let messages = FluentResource::builder()
+        .message("kind", variable("species"))
+        .message("seen", Pattern::from(seen));
+    let mut bundle = FluentBundle::new(vec![Locale::En]);
+    bundle.set_use_isolating(false);
+    bundle.add_resource(built(messages)).expect("no id twice");
+    bundle.store().to_vec()
 }
 
 /// The store of these messages, with changes.

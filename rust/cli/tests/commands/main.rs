@@ -103,7 +103,7 @@ fn compare(name: &str, before: &[&[u8]], is_run: impl Fn(&Stored) -> bool) -> us
 #[test]
 fn every_stored_command_line() {
     let count = compare("named", &[b"sheet"], |_| true);
-    assert!(count >= 300, "{count} command lines are stored");
+    assert!(count >= 336, "{count} command lines are stored");
 }
 
 /// `sheet` can be left out. A first word without a `-` is then a command's
@@ -116,6 +116,19 @@ fn sheet_is_the_command_where_none_is_named() {
             .first()
             .is_none_or(|word| word.starts_with(b"-") && word != b"--help")
     });
+}
+
+/// The README makes one of the stores, with `printf`.
+#[test]
+fn the_store_of_the_readme() {
+    let readme = include_str!("../../../../README.md");
+    let readme = readme.replace("' >/tmp/kinds.store\n    printf '", "");
+    let escaped = |byte: u8| match byte {
+        b' ' | b'A'..=b'Z' | b'a'..=b'z' => char::from(byte).to_string(),
+        _ => format!("\\{byte:o}"),
+    };
+    let bytes: String = inputs::kinds().into_iter().map(escaped).collect();
+    assert!(readme.contains(&format!("printf '{bytes}' >>/tmp/kinds.store")));
 }
 
 #[test]
