@@ -8,6 +8,7 @@ pub mod figures;
 pub mod formats;
 pub mod sheet;
 pub mod sheets;
+pub mod workspace;
 
 use harness::random::Random;
 use std::fmt::Debug;

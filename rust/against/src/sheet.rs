@@ -10,27 +10,27 @@ use harness::sheets;
 use std::path::Path;
 use weszlagyo::FluentBundle;
 
-fn id(name: impl Into<String>) -> Identifier<String> {
+pub(crate) fn id(name: impl Into<String>) -> Identifier<String> {
     Identifier { name: name.into() }
 }
 
-fn text(value: &str) -> PatternElement<String> {
+pub(crate) fn text(value: &str) -> PatternElement<String> {
     PatternElement::TextElement {
         value: value.into(),
     }
 }
 
-fn inline(inline: InlineExpression<String>) -> PatternElement<String> {
+pub(crate) fn inline(inline: InlineExpression<String>) -> PatternElement<String> {
     PatternElement::Placeable {
         expression: Expression::Inline(inline),
     }
 }
 
-fn variable(name: &str) -> InlineExpression<String> {
+pub(crate) fn variable(name: &str) -> InlineExpression<String> {
     InlineExpression::VariableReference { id: id(name) }
 }
 
-fn pattern(elements: Vec<PatternElement<String>>) -> Pattern<String> {
+pub(crate) fn pattern(elements: Vec<PatternElement<String>>) -> Pattern<String> {
     Pattern { elements }
 }
 

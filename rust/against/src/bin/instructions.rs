@@ -1,12 +1,15 @@
 //! Formats one message of the benchmarks' store of 60 entries so many times, or
-//! a sheet of 30, and does nothing else, so that `tools/instructions` can count
-//! what one formatting costs; or calls for a sheet with a list of 4 bytes, which
-//! is refused once store and sheet are checked.
+//! a sheet of 30, or the message with three texts in the workspace, and does
+//! nothing else, so that `tools/instructions` can count what one formatting
+//! costs; or calls for a sheet with a list of 4 bytes, which is refused once
+//! store and sheet are checked.
 #![forbid(unsafe_code)]
 
 use against::convert;
 use against::sheet::{self, Printed};
-use weszlagyo::{operations, Refusal, Sheet};
+use against::workspace;
+use harness::case::Value;
+use weszlagyo::{operations, FluentBundle, Refusal, Sheet};
 
 fn main() {
     let mut words = std::env::args().skip(1);
@@ -14,26 +17,36 @@ fn main() {
         words.next().and_then(|word| word.parse::<usize>().ok()),
         words.next(),
     ) else {
-        eprintln!("usage: instructions TIMES (ID | --sheet | --sightings) [--checks]");
+        eprintln!(
+            "usage: instructions TIMES (ID | (--sheet | --sightings) [--checks] | --workspace [--long])"
+        );
         std::process::exit(2);
     };
-    let list = match words.next().as_deref() {
+    let how = words.next();
+    let list = match how.as_deref() {
         Some("--checks") => 4,
         _ => 256,
     };
     match what.as_str() {
         "--sheet" => format_sheet(times, &sheet::parts(), list),
         "--sightings" => format_sheet(times, &sheet::sightings(), list),
-        id => format(times, id),
+        "--workspace" => {
+            let printed = workspace::printed();
+            let work = match how.as_deref() {
+                Some("--long") => workspace::LONG,
+                _ => workspace::figure(&printed),
+            };
+            let (id, given) = &printed.messages[0];
+            format(times, &printed.made(), id, given, work);
+        }
+        id => format(times, &sheet::parts().made(), id, &sheet::arguments(), 256),
     }
 }
 
-/// Formats a message of the 60 entries.
-fn format(times: usize, id: &str) {
-    let bundle = sheet::parts().made();
-    let given = sheet::arguments();
-    let image = convert::arguments(&given).image().expect("they fit");
-    let (mut text, mut list, mut work) = ([0; 256], [0; 256], [0; 256]);
+/// Formats a message with a workspace of that length.
+fn format(times: usize, bundle: &FluentBundle, id: &str, given: &[(String, Value)], work: usize) {
+    let image = convert::arguments(given).image().expect("they fit");
+    let (mut text, mut list, mut work) = ([0; 256], [0; 256], vec![0; work]);
     for _ in 0..times {
         let figures = operations::format(
             bundle.store(),

@@ -5,6 +5,7 @@
 mod large;
 mod sheets;
 mod timed;
+mod work;
 
 use against::{convert, sheet};
 use harness::case::Item;
@@ -34,6 +35,7 @@ fn main() {
     head();
     sheets::rows("a sheet of 30 messages", &sightings);
 
+    work::table();
     large::table();
 }
 

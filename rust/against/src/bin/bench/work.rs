@@ -1,0 +1,73 @@
+//! A message with three texts in the workspace: with a long workspace, and with
+//! one of exactly its figure.
+
+use crate::check_of;
+use crate::sheets::{format_theirs, Theirs};
+use crate::timed::{head, race, row, Timed};
+use against::{convert, workspace};
+use harness::rust;
+use std::hint::black_box;
+use weszlagyo::{operations, Buffers};
+
+/// Room for the text and the list.
+const ROOM: usize = 256;
+
+/// Times it.
+pub fn table() {
+    let printed = workspace::printed();
+    let (id, given) = &printed.messages[0];
+    let figure = workspace::figure(&printed);
+    let original = rust::bundle(&printed.bundle);
+    let theirs: Theirs = (id, rust::arguments(given));
+    let bundle = printed.made();
+    let store = bundle.store();
+    let args = convert::arguments(given);
+    let image = args.image().expect("they fit");
+    let ours = bundle.format(id, None, Some(&args)).expect("formatted");
+    assert_eq!(ours.text, format_theirs(&original, &theirs));
+    println!(
+        "\nA store of {} bytes: a message with three texts in the workspace, which needs {figure} bytes of it.\n",
+        store.len()
+    );
+    head();
+
+    let mut target = vec![0; store.len()];
+    let timed = |work: usize| {
+        let (mut text, mut list, mut work) = ([0; ROOM], [0; ROOM], vec![0; work]);
+        let (id, image) = (id.as_bytes(), &image);
+        Timed::new(move || {
+            let (text, list, work) = (&mut text, &mut list, &mut work);
+            let answer = operations::format(store, id, None, image, text, list, work);
+            black_box(answer.expect("formatted"));
+        })
+    };
+    let mut buffers = Buffers::fixed(ROOM, ROOM, figure);
+    let [long, exact, fixed, check, theirs, copy] = race([
+        timed(workspace::LONG),
+        timed(figure),
+        Timed::new(|| {
+            let answer = bundle.format_in(&mut buffers, id, None, Some(&args));
+            black_box(answer.expect("formatted"));
+        }),
+        Timed::new(|| check_of(store)),
+        Timed::new(|| {
+            black_box(format_theirs(&original, &theirs).len());
+        }),
+        Timed::new(|| black_box(&mut target).copy_from_slice(black_box(store))),
+    ]);
+    row(
+        "one message, a workspace of 65,536 bytes",
+        long,
+        theirs,
+        copy,
+    );
+    let name = format!("the same, a workspace of {figure} bytes");
+    row(&name, exact, theirs, copy);
+    row(
+        "the same, `format_in` with fixed buffers",
+        fixed,
+        theirs,
+        copy,
+    );
+    row("of which the store's check", check, theirs, copy);
+}
