@@ -2,7 +2,7 @@
 //! is where every id was found. Where one was not, and after an overriding
 //! addition, it may be another.
 
-use crate::asked::{hold, Asked, Left, Lengths};
+use crate::asked::{hold, hold_edge, Asked, Left, Lengths};
 use crate::cases::{arguments, bundle, by, CASES};
 use crate::sheets::sheet;
 use weszlagyo::operations;
@@ -84,10 +84,10 @@ fn additions() -> Vec<Addition> {
 }
 
 /// That a formatting finishes as it did, with the workspace of the figure it
-/// had, and with nothing less.
+/// had, and with no byte less.
 fn hold_unchanged(slice: &[u8], asked: &Asked, before: &Left) {
     let (figures, text, list) = before.written();
-    assert_eq!(hold(slice, asked, figures.work), figures);
+    assert_eq!(hold_edge(slice, asked, figures.work), figures);
     let now = asked.finished(slice);
     assert_eq!(now.written(), (figures, text, list));
 }

@@ -123,6 +123,16 @@ impl Left {
 /// refused; with a text and a list that just fit, and with longer ones of any
 /// contents.
 pub fn hold(store: &[u8], asked: &Asked, figure: usize) -> Figures {
+    hold_from(store, asked, figure, 0)
+}
+
+/// The same, of the shorter ones only with that of one byte less.
+pub fn hold_edge(store: &[u8], asked: &Asked, figure: usize) -> Figures {
+    hold_from(store, asked, figure, figure.saturating_sub(1))
+}
+
+/// The same, of the shorter ones only from that length on.
+fn hold_from(store: &[u8], asked: &Asked, figure: usize, shortest: usize) -> Figures {
     let first = asked.finished(store);
     let (figures, text, list) = first.written();
     assert_eq!(figures.work, figure);
@@ -141,7 +151,7 @@ pub fn hold(store: &[u8], asked: &Asked, figure: usize) -> Figures {
         }
     }
     for (text, list) in [(text, list), (LONG, LONG)] {
-        for work in 0..figure {
+        for work in shortest..figure {
             let left = asked.call(store, Lengths::new(text, list, work), 0xAA);
             assert!(left.is_short(), "{text} {list} {work}: {left:?}");
         }

@@ -3,7 +3,8 @@
 use crate::asked::Asked;
 use crate::cases::{arguments, bundle, CASES};
 use crate::sheets::sheet;
-use weszlagyo::{Buffers, FluentError, Refusal, ResolverError};
+use weszlagyo::syntax::message;
+use weszlagyo::{builtins, Buffers, FluentError, FluentResource, Refusal, ResolverError};
 
 /// What is formatted: `three` has 1 byte of text and needs 13 of the workspace,
 /// `by-bare` lists an error, with which the list has 14 bytes.
@@ -77,6 +78,29 @@ fn fixed_buffers_are_used_again() {
     assert_eq!(format("second"), Ok("3".into()));
     assert_eq!(format("nowhere"), Err(Refusal::NO_MESSAGE));
     assert_eq!(format("by-message"), Ok("x".into()));
+}
+
+/// Buffers that were chosen once do for as long as nothing is overridden.
+#[test]
+fn fixed_buffers_are_kept_through_additions() {
+    let (mut bundle, given) = (bundle(true), arguments());
+    let mut long = Buffers::default();
+    let needed = bundle.format_in(&mut long, "by-inner", None, Some(&given));
+    let needed = needed.expect("formatted");
+    let mut buffers = Buffers::fixed(needed.text, 5, needed.work);
+    let again = FluentResource::builder()
+        .message("name", "a humpback whale")
+        .message("inner", "in a longer text than it was")
+        .message("later", message("inner"));
+    let again = again.build().expect("well-formed");
+    assert_eq!(bundle.add_resource(&again).map_err(|e| e.len()), Err(2));
+    assert_eq!(bundle.add_function("OTHER", builtins::NUMBER), Ok(()));
+    assert!(bundle.add_builtins().is_err());
+    let done = bundle.format_in(&mut buffers, "by-inner", None, Some(&given));
+    assert_eq!((done, buffers.text(needed)), (Ok(needed), "x".into()));
+    bundle.add_resource_overriding(&again).expect("room");
+    let refused = bundle.format_in(&mut buffers, "by-inner", None, Some(&given));
+    assert_eq!(refused, Err(Refusal::SHORT_WORKSPACE));
 }
 
 /// Those that are not fixed grow, and the figure does not go by their lengths.

@@ -108,7 +108,7 @@ fn no_workspace_where_the_figure_is_0() {
 #[test]
 fn text_and_list_must_be_as_long() {
     let bundle = bundle(false);
-    // the text of 1 byte comes behind the selector, its error before
+    // the text, of 1 byte, is written when the selector has been made
     let asked = Asked::message("by-message", None, &arguments());
     let refusals = [
         (Lengths::new(1, 5, 5), None),
@@ -120,6 +120,7 @@ fn text_and_list_must_be_as_long() {
         let left = asked.call(bundle.store(), lengths, 7);
         assert_eq!(left.answer.err(), refusal);
     }
+    // an error is listed before its text is written
     let asked = Asked::message("lost", None, &arguments());
     let left = asked.call(bundle.store(), Lengths::new(9, 5, 8), 7);
     assert_eq!(left.answer, Err(Refusal::SHORT_LIST));

@@ -6,7 +6,8 @@
 //! `sheet: ` at the start of a line of standard error stands for `weszlagyo: `.
 //! It formatted each message of a sheet by itself. Since a sheet is one call,
 //! the same errors stand together below it, the figures are its own, and the
-//! stores have the message `line`; `sheets.txt` is of that time.
+//! stores have the message `line`; `sheets.txt` is of that time. `workspace.txt`
+//! came with `--workspace`.
 #![forbid(unsafe_code)]
 
 mod inputs;
@@ -103,7 +104,7 @@ fn compare(name: &str, before: &[&[u8]], is_run: impl Fn(&Stored) -> bool) -> us
 #[test]
 fn every_stored_command_line() {
     let count = compare("named", &[b"sheet"], |_| true);
-    assert!(count >= 336, "{count} command lines are stored");
+    assert!(count >= 362, "{count} command lines are stored");
 }
 
 /// `sheet` can be left out. A first word without a `-` is then a command's
