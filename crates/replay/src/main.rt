@@ -115,7 +115,8 @@ fn show(counts: Counts, rows: &[u8], count: u8) {
 fn main() {
     let a = replayed(no_counts(), b"numbers.vec");
     let b = replayed(a, b"images.vec");
-    let c = counted(replayed(b, b"additions.vec"), 33, limit::limit());
+    let f = replayed(replayed(b, b"additions.vec"), b"figure_additions.vec");
+    let c = counted(f, 33, limit::limit());
     show(
         c,
         b"\x01\x00\x0B literals, \x02\x00\x0F number texts, \x03\x00\x0D categories, \x04\x00\x12 calls of NUMBER, \x05\x00\x0D equalities, \x06\x00\x11 category words, \x14\x00\x09 stores, \x15\x00\x12 resource images, \x16\x00\x13 arguments images, \x17\x00\x12 string literals, \x18\x00\x17 arguments looked for, \x19\x00\x11 damaged images, \x33\x00\x0F sheet images, \x34\x00\x17 damaged sheet images, \x1E\x00\x0E new bundles, \x1F\x00\x15 resource additions, \x20\x00\x15 function additions, \x00\x00\x0A unknown, ",

@@ -17,7 +17,27 @@ use vectors::flag;
 use vectors::part;
 use vectors::string;
 
-// == The ways: 0 as the case lends, 1 ample, 2 just fitting, 3 a text, 4 a list, 5 a workspace one byte short.
+// == The ways: 0 as the case lends, 1 ample, 2 just fitting, 3 a text, 4 a list, 5 a workspace one byte short; with text and list as the case lends them, 6 a
+// workspace of the figure, 7 one byte less.
+
+fn fitting(s: &[u8], told: &[u8], way: u8) -> Lengths {
+    let f = figures(byte(s, 0), told);
+    Lengths {
+        text: wrapping_sub_usize(f.text, (way == 3) as usize),
+        list: wrapping_sub_usize(second(told).len(), (way == 4) as usize),
+        work: wrapping_sub_usize(f.work, (way == 5) as usize),
+    }
+}
+
+fn with_figure(s: &[u8], told: &[u8], way: u8) -> Lengths {
+    let f = figures(byte(s, 0), told);
+    let n = lent(s);
+    Lengths {
+        text: n.text,
+        list: n.list,
+        work: wrapping_sub_usize(f.work, (way == 7) as usize),
+    }
+}
 
 fn lengths(s: &[u8], told: &[u8], way: u8) -> Lengths {
     match way {
@@ -27,14 +47,8 @@ fn lengths(s: &[u8], told: &[u8], way: u8) -> Lengths {
             list: 8192,
             work: 8192,
         },
-        _ => {
-            let f = figures(byte(s, 0), told);
-            Lengths {
-                text: wrapping_sub_usize(f.text, (way == 3) as usize),
-                list: wrapping_sub_usize(second(told).len(), (way == 4) as usize),
-                work: wrapping_sub_usize(f.work, (way == 5) as usize),
-            }
-        }
+        6 | 7 => with_figure(s, told, way),
+        _ => fitting(s, told, way),
     }
 }
 
@@ -43,7 +57,7 @@ pub(crate) fn is_tried(op: u8, told: &[u8], way: u8) -> bool {
     let f = figures(op, told);
     match way {
         3 => 0 < f.text,
-        5 => 0 < f.work,
+        5 | 7 => 0 < f.work,
         _ => true,
     }
 }
@@ -53,7 +67,7 @@ fn wanted(told: &[u8], way: u8) -> u8 {
         0 => byte(told, 0),
         3 => 15,
         4 => 7,
-        5 => 16,
+        5 | 7 => 16,
         _ => 0,
     }
 }
