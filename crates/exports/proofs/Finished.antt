@@ -40,12 +40,12 @@ finished-figure {n = n} h is = subst (λ (c : Answer). FigureIs (answerOf c) n) 
 not-zero : (o : Formatted) (c : formatting.Answer) → FormatTold (o .answer) → o .answer ≡ c → FormatTold c
 not-zero o c h q = subst (λ (x : formatting.Answer). FormatTold x) q h
 
-pub refused-figure : {r : Answer} {c k n : ℕ} {x l w : Bytes} {o : Formatted} → gave r x l w ≡ o → FormatTold (o .answer) → r ≡ answer.Refused c → c ≡ 0 → k ≡ n
+pub refused-figure : (r : Answer) (c k n : ℕ) (x l w : Bytes) (o : Formatted) → gave r x l w ≡ o → FormatTold (o .answer) → r ≡ answer.Refused c → c ≡ 0 → k ≡ n
 unfolding gave answerOf
-refused-figure {r} {c} {x = x} {l = l} {w = w} {o = o} h t is z =
+refused-figure r c k n x l w o h t is z =
     absurd (not-zero o (formatting.refusedBefore c) t (sym (ap (λ (y : Formatted). y .answer) h) ∙ ap answerOf is) z)
 
-pub cleared-figure : {r : Answer} {c k n : ℕ} {x l w : Bytes} {o : Formatted} → gave r x l w ≡ o → FormatTold (o .answer) → r ≡ answer.Cleared c → c ≡ 0 → k ≡ n
+pub cleared-figure : (r : Answer) (c k n : ℕ) (x l w : Bytes) (o : Formatted) → gave r x l w ≡ o → FormatTold (o .answer) → r ≡ answer.Cleared c → c ≡ 0 → k ≡ n
 unfolding gave answerOf
-cleared-figure {r} {c} {x = x} {l = l} {w = w} {o = o} h t is z =
+cleared-figure r c k n x l w o h t is z =
     absurd (not-zero o (formatting.refusedRunning c) t (sym (ap (λ (y : Formatted). y .answer) h) ∙ ap answerOf is) z)

@@ -96,7 +96,7 @@ pub extern "C" fn weszlagyo_format<'a>(
           figures = record { written = now (written .exit); errors = now (errors .exit); begun = now (begun .exit); unfound = now (unfound .exit); used = now (used .exit) };
           buffers = record { text = now (text .exit); list = now (list .exit); work = now (work .exit) };
         } ⌝ }
-    ensures { λ r. ⌜ r ≡ 0 → now (used .exit) ≡ highestUse (now (store .entry)) (now (id .entry)) (optionOf has (now (attribute .entry))) (now (arguments .entry)) ⌝ }
+    ensures { λ r. ⌜ (r ≡ 0 → now (used .exit) ≡ highestUse (now (store .entry)) (now (id .entry)) (optionOf has (now (attribute .entry))) (now (arguments .entry))) ⌝ }
 {
     match resolver::format::format(store, id, has, attribute, arguments, text, list, work) {
         Formatted::Finished(f) => {
@@ -135,7 +135,7 @@ pub extern "C" fn weszlagyo_format_sheet<'a>(
           figures = record { written = now (written .exit); errors = now (errors .exit); begun = now (begun .exit); unfound = now (unfound .exit); used = now (used .exit) };
           buffers = record { text = now (text .exit); list = now (list .exit); work = now (work .exit) };
         } ⌝ }
-    ensures { λ r. ⌜ r ≡ 0 → now (used .exit) ≡ sheetHighestUse (now (store .entry)) (now (sheet .entry)) ⌝ }
+    ensures { λ r. ⌜ (r ≡ 0 → now (used .exit) ≡ sheetHighestUse (now (store .entry)) (now (sheet .entry))) ⌝ }
 {
     match sheet_format::format_sheet(store, sheet, text, list, work) {
         Formatted::Finished(sums) => {

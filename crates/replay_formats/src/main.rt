@@ -120,7 +120,10 @@ fn main() {
     replay(b"formats.vec", b" formattings\n");
     replay(b"sentences.vec", b" formattings\n");
     replay(b"sheets.vec", b" sheets\n");
-    replay(b"figures.vec", b" formattings and sheets by their figures\n");
+    replay(
+        b"figures.vec",
+        b" formattings and sheets by their figures\n",
+    );
     let c = counted(no_counts(), 0, limit::limit());
     line(c, 0, b" differ at the longest arguments image\n");
     let d = sheet_limit::limits(no_counts());

@@ -18,7 +18,7 @@ enum-told-2 : tie.Need-enum-told-2
 enum-told-2 c = search needs
 
 returns : tie.Need-returns
-returns c = with-figure _ _ _ _ _ _ (refused-store _ _ _ _ _ (next-bad _ (sym (c .enum-told2 .given .1) ∙ c .before .before .check-store .ensures)))
+returns c = with-figure _ _ _ _ _ _ _ (refused-store _ _ _ _ _ (next-bad _ (sym (c .enum-told2 .given .1) ∙ c .before .before .check-store .ensures)))
 
 check-sheet-requires : tie.Need-check-sheet-requires
 check-sheet-requires c κs = search needs
@@ -30,10 +30,10 @@ enum-told-4 : tie.Need-enum-told-4
 enum-told-4 c = search needs
 
 returns-2 : tie.Need-returns-2
-returns-2 c = with-figure _ _ _ _ _ _ (refused-sheet _ _ _ _ _ (next-at _ (sym (c .before .before .before .enum-told .given .1) ∙ c .before .before .before .before .before .check-store .ensures) .1) (next-bad _ (sym (c .enum-told4 .given .1) ∙ c .before .before .check-sheet .ensures)))
+returns-2 c = with-figure _ _ _ _ _ _ _ (refused-sheet _ _ _ _ _ (next-at _ (sym (c .before .before .before .enum-told .given .1) ∙ c .before .before .before .before .before .check-store .ensures) .1) (next-bad _ (sym (c .enum-told4 .given .1) ∙ c .before .before .check-sheet .ensures)))
 
 returns-3 : tie.Need-returns-3
-returns-3 c = with-figure _ _ _ _ _ _ (refused-header _ _ _ _ _ (checked-both (next-at _ (sym (c .before .before .before .before .enum-told .given .1) ∙ c .before .before .before .before .before .before .check-store .ensures) .1) (next-at _ (sym (c .before .enum-told3 .given .1) ∙ c .before .before .before .check-sheet .ensures) .1)) (c .if1 .taken))
+returns-3 c = with-figure _ _ _ _ _ _ _ (refused-header _ _ _ _ _ (checked-both (next-at _ (sym (c .before .before .before .before .enum-told .given .1) ∙ c .before .before .before .before .before .before .check-store .ensures) .1) (next-at _ (sym (c .before .enum-told3 .given .1) ∙ c .before .before .before .check-sheet .ensures) .1)) (c .if1 .taken))
 
 start-requires : tie.Need-start-requires
 start-requires c κs = search needs
@@ -57,7 +57,7 @@ returns-4 : tie.Need-returns-4
 returns-4 c =
     let store-octets = octets-of (c .before .before .before .before .before .before .before .before .before .before .before .before .before .before .before .before .before .before .before .before .before .before .before .before .before .before .before .before .before .before .before .before .before .before .before .before .args .store .now) (λ i _. omega (arith, c .before .before .before .before .before .before .before .before .before .before .before .before .before .before .before .before .before .before .before .before .before .before .before .before .before .before .before .before .before .before .before .before .before .before .before .shared-slice-known .given i)) in
     let sheet-octets = octets-of (c .before .before .before .before .before .before .before .before .before .before .before .before .before .before .before .before .before .before .before .before .before .before .before .before .before .before .before .before .before .before .before .before .before .before .before .before .args .sheet .now) (λ i _. omega (arith, c .before .before .before .before .before .before .before .before .before .before .before .before .before .before .before .before .before .before .before .before .before .before .before .before .before .before .before .before .before .before .before .before .before .before .shared-slice-known2 .given i)) in
-    with-figure _ _ _ _ _ _ (sheet-closed _ _ _ _ _ store-octets sheet-octets (omega (arith, c .before .before .before .before .before .before .before .before .before .before .before .before .before .before .before .before .before .before .before .before .before .before .before .before .if1 .left)) (c .before .before .before .before .before .before .before .before .before .before .before .before .before .before .before .before .before .run-messages .kept .1 .1 .0) (c .before .before .before .before .before .before .before .before .before .before .before .before .before .before .before .before .before .run-messages .kept .1 .1 .1 .0) (c .before .before .before .before .before .before .before .before .before .before .before .before .before .before .before .before .before .run-messages .kept .1 .1 .1 .1 .0) (c .before .before .before .before .before .before .before .before .before .before .before .before .before .before .before .before .before .run-messages .ensures) (c .before .before .before .before .before .before .finish .ensures))
+    with-figure _ _ _ _ _ _ _ (sheet-closed _ _ _ _ _ store-octets sheet-octets (omega (arith, c .before .before .before .before .before .before .before .before .before .before .before .before .before .before .before .before .before .before .before .before .before .before .before .before .if1 .left)) (c .before .before .before .before .before .before .before .before .before .before .before .before .before .before .before .before .before .run-messages .kept .1 .1 .0) (c .before .before .before .before .before .before .before .before .before .before .before .before .before .before .before .before .before .run-messages .kept .1 .1 .1 .0) (c .before .before .before .before .before .before .before .before .before .before .before .before .before .before .before .before .before .run-messages .kept .1 .1 .1 .1 .0) (c .before .before .before .before .before .before .before .before .before .before .before .before .before .before .before .before .before .run-messages .ensures) (c .before .before .before .before .before .before .finish .ensures))
 
 pub format-sheet-spec : {M : Type 1} → statement M
 format-sheet-spec = tie.close (tie.spec check-store-requires enum-told enum-told-2 returns check-sheet-requires enum-told-3 enum-told-4 returns-2 returns-3 start-requires run-messages-requires finish-requires same-length same-length-2 same-length-3 returns-4)
