@@ -153,9 +153,10 @@ uint8_t weszlagyo_format_sheet(const uint8_t *store, size_t store_length,
  *    they change nothing else of the formatting.
  * So format once with a long workspace, keep *used, and lend that from then on.
  *
- * Another message, other arguments, and weszlagyo_add_resource_overriding may
- * need another one. For a device take the largest over the messages and
- * arguments that it prints: one by one, or *used of a sheet of them all. */
+ * Another message, other arguments, and additions by
+ * weszlagyo_add_resource_overriding may need a longer workspace. For a device
+ * take the largest over the messages and arguments that it prints: one by one,
+ * or *used of a sheet of them all. */
 
 #ifdef __cplusplus
 }

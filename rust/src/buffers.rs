@@ -27,13 +27,14 @@ pub(crate) fn lengthen(buffer: &mut Vec<u8>) {
 ///
 /// Format once, with buffers that may grow, and keep
 /// [`Figures::work`](crate::operations::Figures::work): it is exactly what the
-/// formatting needs, whatever the buffers were. It is proved that a workspace of
-/// that length, or a longer one, gives the same text, errors and figures, that
-/// any shorter one is refused with [`Refusal::SHORT_WORKSPACE`], and that no
-/// plain addition to the bundle changes the figure where `unfound` was 0. So it
-/// can be kept for as long as nothing overriding is added. Another message,
-/// attribute or other arguments may need more: take the largest of all that the
-/// device prints, or the figure of a sheet of them, which is that.
+/// formatting needs, whatever the buffers were. It is proved that, with a text
+/// and a list at least as long, a workspace of that length, or a longer one,
+/// gives the same text, errors and figures, and that any shorter one is refused
+/// with [`Refusal::SHORT_WORKSPACE`]. Where `unfound` was 0, no plain additions to
+/// the bundle change the figure: then it can be kept for as long as nothing
+/// overriding is added. Another message, attribute or other arguments may need
+/// more: take the largest of all that the device prints, or the figure of a sheet
+/// of them, which is that.
 ///
 /// ```
 /// use weszlagyo::syntax::{message, select, variable, Pattern};

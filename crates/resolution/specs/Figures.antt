@@ -40,7 +40,7 @@ unfoldable pub either : Inline → Elements → Elements
 either x es = choice x (default "o" (say "y" no-more) no-variant) es
 
 pub record Figures : Type 0 where
-  -- what goes there: as selector or argument, a message, a term, an inline placeable, a string literal with a backslash
+  -- what goes there: as selector or argument, a message, a term (the last two), an inline placeable, a string literal with a backslash
   pub message : figure (either (ref "c") no-more) (three ∷ []) [] ≡ some 3
   pub argument : figure (put (call "NUMBER" (and (ref "c") no-inline) []) no-more) (three ∷ []) [] ≡ some 3
   pub inline-placeable : figure (either (nested (inline (var "n"))) no-more) [] (whole "n" 1234 ∷ []) ≡ some 4
@@ -57,8 +57,9 @@ pub record Figures : Type 0 where
   pub selector-freed : figure (choice (ref "b") (default "o" (either (ref "c") no-more) no-variant) no-more) (two ∷ three ∷ []) [] ≡ some 3
   -- "a function's arguments once its result, or that it is missing, is known": bb are gone when ccc are made
   pub call-freed : figure (put (call "NUMBER" (and (call "NUMBER" (and (ref "b") no-inline) []) (and (ref "c") no-inline)) []) no-more) (two ∷ three ∷ []) [] ≡ some 3
-  -- "a term's when all its text is written": Ab is alive while ttt is made
-  pub term-freed : figure (either (Inline.term (ascii "t") none (with-args no-inline ((ascii "n", Literal.string escaped) ∷ []))) no-more) (a-term "t" (say "ttt" no-more) ∷ []) [] ≡ some 5
+  -- "a term's when all its text is written": Ab, or bb, is alive while ttt is made, and a positional argument stays too
+  pub term-keeps : figure (either (Inline.term (ascii "t") none (with-args no-inline ((ascii "n", Literal.string escaped) ∷ []))) no-more) (a-term "t" (say "ttt" no-more) ∷ []) [] ≡ some 5
+  pub positional : figure (either (Inline.term (ascii "t") none (with-args (and (ref "b") no-inline) [])) no-more) (a-term "t" (say "ttt" no-more) ∷ two ∷ []) [] ≡ some 5
 
 pub figures : Figures
 unfolding computed figureOf figure two three escaped either
@@ -74,5 +75,6 @@ figures = record {
   together = refl;
   selector-freed = refl;
   call-freed = refl;
-  term-freed = refl;
+  term-keeps = refl;
+  positional = refl;
 }

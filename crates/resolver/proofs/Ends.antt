@@ -21,7 +21,7 @@ use Rattle.layout.specs.Exact.{Octets}
 use Rattle.theorems.specs.HighestUse.{highestUse}
 use Rattle.theorems.specs.Figures.{FigureIs}
 use Rattle.theorems.proofs.Formattings.{few-unfound}
-use Rattle.theorems.proofs.Figures.{figure-highest}
+use Rattle.theorems.proofs.Figures.{answers-highest}
 use Rattle.state.specs.Progress.{Progress}
 use Rattle.resolver.specs.Relations.Meets.{Env, env, Setup, settingOf, findOf}
 use Rattle.state.specs.Setters.{maxUnfound, newS}
@@ -100,4 +100,4 @@ figured r x l w o n h = subst (λ (a : Answer). FigureIs a n) (sym (ap (λ (y : 
 -- both parts of a formatting's contract from the first
 pub with-figure : (r : code-answer.Answer) (x l w s id : Bytes) (a : Option Bytes) (image : Bytes) (b : Buffers) → gave r x l w ≡ format s id a image b
     → (gave r x l w ≡ format s id a image b) × FigureIs (answerOf r) (highestUse s id a image)
-with-figure r x l w s id a image b h = (h, figured r x l w (format s id a image b) (highestUse s id a image) h (figure-highest s id a image b))
+with-figure r x l w s id a image b h = (h, figured r x l w (format s id a image b) (highestUse s id a image) h (answers-highest s id a image b))

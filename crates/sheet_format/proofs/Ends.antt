@@ -20,7 +20,7 @@ use Rattle.sheet_theorems.proofs.Messages.{sheet-malformed-store, sheet-malform
 use Rattle.theorems.specs.Figures.{FigureIs}
 use Rattle.sheet_theorems.specs.HighestUse.{sheetHighestUse}
 use Rattle.sheet_theorems.proofs.Answers.{sheet-sums}
-use Rattle.sheet_theorems.proofs.Figures.{sheet-figure-highest}
+use Rattle.sheet_theorems.proofs.Figures.{sheet-answers-highest}
 use Rattle.state.specs.Progress.{Progress}
 use Rattle.state.specs.Setters.{newS}
 use Rattle.resolver.specs.declared.format.Answer as code-answer
@@ -70,4 +70,4 @@ refused-sheet s sheet x l w h b = gave-refused _ x l w 18 (sheet-malformed s she
 -- both parts of a sheet's contract from the first
 pub with-figure : (r : code-answer.Answer) (x l w s sheet : Bytes) (b : Buffers) → gave r x l w ≡ formatSheet s sheet b
     → (gave r x l w ≡ formatSheet s sheet b) × FigureIs (answerOf r) (sheetHighestUse s sheet)
-with-figure r x l w s sheet b h = (h, figured r x l w (formatSheet s sheet b) (sheetHighestUse s sheet) h (sheet-figure-highest s sheet b))
+with-figure r x l w s sheet b h = (h, figured r x l w (formatSheet s sheet b) (sheetHighestUse s sheet) h (sheet-answers-highest s sheet b))

@@ -15,14 +15,14 @@ use Rattle.entries.specs.Lookup.{findIn, partOf}
 use Rattle.resolution.specs.Effect.{Bytes, Trace}
 use Rattle.resolution.specs.Resolve.{asMessage}
 use Rattle.resolution.specs.Exec.{Machine, Limits, Ran, ran, refused, exec, start}
-use Rattle.resolution.specs.Format.{Answer, finished, refusedBefore, refusedRunning, Buffers, Formatted, limitsOf, refuse, ended}
+use Rattle.resolution.specs.Format.{finished, refusedRunning, Buffers, Formatted, limitsOf, refuse, ended}
 use Rattle.theorems.specs.Finished.{traceOf, settingOf, Says}
 use Rattle.theorems.specs.Steadiness.{Same, slicesAfter}
 use Rattle.theorems.specs.HighestUse.{argumentsUse, partUse, entryUse, messageUse}
 use Rattle.theorems.specs.Figures.{FigureIs, AsLong, FinishesAlike}
-use Rattle.theorems.proofs.Runs.{same-machine}
+use Rattle.theorems.proofs.Runs.{same-machine, same-refusal}
 use Rattle.theorems.proofs.Work.{AsWide, exec-high, work-enough, work-short}
-use Rattle.theorems.proofs.Highest.{same-number, Resting, Message-run, message-highest, message-starved}
+use Rattle.theorems.proofs.Highest.{Resting, Message-run, message-highest, message-starved}
 use Rattle.theorems.proofs.Figures.{message-use, start-rests, figure-is, as-wide, header-again, alike-end, decides-again, as-itself, not-refused-before}
 use Rattle.requests.specs.Image.{Request, sheetOf}
 use Rattle.sheets.specs.Sheet.{runArguments, runPart, runEntry, runMessage, runSheet, formatSheet}
@@ -39,6 +39,12 @@ use Rattle.sheet_theorems.proofs.Refusals.{sheet-answers}
 -- the trace of a message that ran
 abbrev traced : {v : Store} {L : Limits} {r : Request} {n n′ : Machine} → Ran-on v L r n n′ → Trace
 traced {v = v} g = traceOf (settingOf v (g .arguments)) (findIn (v .items)) (g .part)
+
+-- the highest use of one of several messages
+one-of-use : (v : Store) (before after : List Request) (r : Request) → messageUse v (r .id) (r .attribute) (r .image) ≤ largestUse v (before ++ (r ∷ after))
+unfolding largestUse
+one-of-use v [] after r = omega arith
+one-of-use v (x ∷ before) after r = omega (arith, one-of-use v before after r)
 
 module _ (v : Store) (L : Limits) where
   -- after messages from a machine at rest: at rest again, and the highest use the largest
@@ -60,17 +66,17 @@ module _ (v : Store) (L : Limits) where
   module _ (n : Machine) (z : Resting n) where
     arguments-starved : (p : Pattern) (g : Got (List (Bytes × Argument))) → runArguments v L p g n ≡ refused 16 → L .workLen < argumentsUse v p g
     unfolding runArguments argumentsUse
-    arguments-starved p bad h = absurd (omega (arith, same-number 13 16 h))
+    arguments-starved p bad h = absurd (omega (arith, same-refusal 13 16 h))
     arguments-starved p (got l e) h = message-starved L (settingOf v l) (findIn (v .items)) p n z h
 
     part-starved : (o : Option Pattern) (image : Bytes) → runPart v L o image n ≡ refused 16 → L .workLen < partUse v o image
     unfolding runPart partUse
-    part-starved none image h = absurd (omega (arith, same-number 12 16 h))
+    part-starved none image h = absurd (omega (arith, same-refusal 12 16 h))
     part-starved (some p) image h = arguments-starved p (argumentsOf image) h
 
     entry-starved : (o : Option Entry) (a : Option Bytes) (image : Bytes) → runEntry v L o a image n ≡ refused 16 → L .workLen < entryUse v o a image
     unfolding runEntry entryUse
-    entry-starved none a image h = absurd (omega (arith, same-number 11 16 h))
+    entry-starved none a image h = absurd (omega (arith, same-refusal 11 16 h))
     entry-starved (some e) a image h = part-starved (partOf a e) image h
 
     request-starved : (r : Request) → runMessage v L r n ≡ refused 16 → L .workLen < messageUse v (r .id) (r .attribute) (r .image)
@@ -85,12 +91,6 @@ module _ (v : Store) (L : Limits) where
       let o : First v L r rs n n′ = first-ran v L r rs n n′ h in
       let g : Ran-on v L r n (o .mid) = message-ran v L n (o .mid) r (o .first) in
       omega (arith, exec-high L (traced g) n (o .mid) (g .runs), sheet-high rs (o .mid) n′ (o .rest))
-
-  -- one of several messages
-  pub one-of-use : (before after : List Request) (r : Request) → messageUse v (r .id) (r .attribute) (r .image) ≤ largestUse v (before ++ (r ∷ after))
-  unfolding largestUse
-  one-of-use [] after r = omega arith
-  one-of-use (x ∷ before) after r = omega (arith, one-of-use before after r)
 
 module _ (v : Store) (L L′ : Limits) (wide : AsWide L L′) where
   -- a message in other buffers
@@ -137,8 +137,8 @@ sheet-figures-highest s image b t e k u w h =
     omega (arith, sheet-says s image b t e k u w f h .work, l .high, sheet-use s image (f .store) (f .storeEnd) (f .stored) (f .requests) (f .requestsEnd) (f .read))
 
 -- so of every answer
-pub sheet-figure-highest : (s image : Bytes) (b : Buffers) → FigureIs (formatSheet s image b .answer) (sheetHighestUse s image)
-sheet-figure-highest s image b = figure-is (formatSheet s image b .answer) (sheetHighestUse s image) (sheet-figures-highest s image b)
+pub sheet-answers-highest : (s image : Bytes) (b : Buffers) → FigureIs (formatSheet s image b .answer) (sheetHighestUse s image)
+sheet-answers-highest s image b = figure-is (formatSheet s image b .answer) (sheetHighestUse s image) (sheet-figures-highest s image b)
 
 module _ (s image : Bytes) (b : Buffers) (t e k u w : ℕ) (h : formatSheet s image b .answer ≡ finished t e k u w) (b′ : Buffers) (l : AsLong b b′) where
   enough : w ≤ length (b′ .work) → FinishesAlike t (formatSheet s image b) b′ (formatSheet s image b′)
@@ -196,7 +196,7 @@ refused-starved : (s image : Bytes) (b : Buffers) → FirstRefusal s image b 16 
 unfolding limitsOf
 refused-starved s image b f =
     let l : Largest (f .bundle) (limitsOf b) (f .before) start (f .machine) = messages-highest (f .bundle) (limitsOf b) (f .before) start (f .machine) start-rests (f .ran-before) in
-    omega (arith, request-starved (f .bundle) (limitsOf b) (f .machine) (l .rest) (f .refusing) (f .is-refused), one-of-use (f .bundle) (limitsOf b) (f .before) (f .after) (f .refusing), sheet-use s image (f .bundle) (f .bundleEnd) (f .stored) (f .before ++ (f .refusing ∷ f .after)) (f .requestsEnd) (f .read))
+    omega (arith, request-starved (f .bundle) (limitsOf b) (f .machine) (l .rest) (f .refusing) (f .is-refused), one-of-use (f .bundle) (f .before) (f .after) (f .refusing), sheet-use s image (f .bundle) (f .bundleEnd) (f .stored) (f .before ++ (f .refusing ∷ f .after)) (f .requestsEnd) (f .read))
 
 -- 16 only where the workspace is shorter than the highest use
 pub sheet-short-workspaces : SheetShortWorkspaces

@@ -3,7 +3,6 @@ use mathlib.Core.Path.{_≡_, refl, ap, sym, subst, _∙_}
 use mathlib.Core.List.{List, [], _∷_, _++_}
 use Prim.Native.Nat.{ℕ}
 use lib.ListN.{length, take}
-use lib.Seq.{take-append-seam}
 use Rattle.decimals.specs.Bytes.{run}
 use Rattle.rules.specs.Rules.{isUtf8}
 use Rattle.records.specs.Got.{got}
@@ -14,7 +13,6 @@ use Rattle.texts.specs.ErrorList.{Brief}
 use Rattle.layout.specs.Exact.{Octets}
 use Rattle.layout.proofs.Theorems.{store-sound, arguments-sound}
 use Rattle.entries.specs.Lookup.{Find, findIn}
-use Rattle.growth.specs.Items.{atFront}
 use Rattle.resolution.specs.Effect.{Bytes, Out, Done}
 use Rattle.resolution.specs.Resolve.{Setting, bytesOf, resolve}
 use Rattle.resolution.specs.Exec.{Machine, Limits, ran, start}
@@ -25,6 +23,7 @@ use Rattle.theorems.proofs.Net.{outward, Netted, netted}
 use Rattle.theorems.proofs.Every.{all-append}
 use Rattle.theorems.proofs.WalkLeaves.{Any}
 use Rattle.theorems.proofs.Written.{Good}
+use Rattle.theorems.proofs.Figures.{front-taken}
 use Rattle.theorems.proofs.ReadBack.{Utf8, utf8-append, resolves-good}
 use Rattle.requests.specs.Image.{Request}
 use Rattle.requests.proofs.Exact.{RequestOk, requests-ok}
@@ -75,8 +74,8 @@ sheet-fine s os image oi b f =
     start-fine (f .runs)
 
 front-text : (m : Machine) (b : Buffers) → take (length (m .written)) (ended (ran m) b .buffers .text) ≡ m .written
-unfolding ended atFront
-front-text m b = take-append-seam (m .written) _
+unfolding ended
+front-text m b = front-taken (m .written) (b .text)
 
 -- the text of every finished sheet is well-formed
 pub sheet-text-well-formed : SheetTextWellFormed

@@ -4,7 +4,6 @@ use mathlib.Core.List.{List, [], _∷_, _++_}
 use mathlib.Core.Bool.{Bool, true, false}
 use mathlib.Core.Option.{Option, none, some}
 use Prim.Native.Nat.{ℕ, _≤_}
-use native.Mathlib.Omega.{arith}
 use lib.ListN.{length, length-replicate}
 use lib.Dec.{leb}
 use borrow.Author.Tests.{leb-true}
@@ -18,7 +17,7 @@ use Rattle.resolution.specs.Resolve.{asMessage}
 use Rattle.resolution.specs.Exec.{Machine, Limits, Ran, ran, refused, start}
 use Rattle.resolution.specs.Format.{Buffers, Formatted, limitsOf, zeros, refuse, ended}
 use Rattle.theorems.specs.Finished.{traceOf, settingOf, Sized}
-use Rattle.theorems.proofs.Runs.{same-machine}
+use Rattle.theorems.proofs.Runs.{not-refused, same-machine, same-refusal}
 use Rattle.theorems.proofs.Within.{Within}
 use Rattle.theorems.proofs.Formattings.{front-length, sized-same}
 use Rattle.theorems.proofs.Refusals.{exec-refused}
@@ -28,12 +27,6 @@ use Rattle.sheets.specs.Sheet.{runMessage, runSheet, formatSheet}
 use Rattle.sheet_theorems.specs.ClaimsRefusals.{SheetBefore, SheetRunning, SheetAnswers, AllSheetAnswers, FirstRefusals, AllSheetsSized}
 use Rattle.sheet_theorems.proofs.Messages.{sheet-malformed-store, sheet-malformed, sheet-header, sheet-runs, message-none, message-part, message-arguments, message-runs, sheet-none, sheet-next, sheet-stops, First, first-ran}
 use Rattle.sheet_theorems.proofs.Parts.{Finishes, finishes, sheet-ends, sheet-within}
-
-same-refusal : (c d : ℕ) → refused c ≡ refused d → c ≡ d
-same-refusal c d h = cc
-
-not-ran : (m : Machine) (c : ℕ) → ran m ≡ refused c → ⊥
-not-ran m c h = let z : _≡_ {A = ℕ} 0 1 = cc in omega arith
 
 -- the numbers of a message's refusals
 module _ (v : Store) (L : Limits) (r : Request) (m : Machine) (c : ℕ) (h : runMessage v L r m ≡ refused c) where
@@ -69,7 +62,7 @@ record Refusing (v : Store) (L : Limits) (rs : List Request) (m : Machine) (c : 
 
 module _ (v : Store) (L : Limits) where
   refusing : (rs : List Request) (m : Machine) (c : ℕ) → runSheet v L rs m ≡ refused c → Refusing v L rs m c
-  refusing [] m c h = absurd (not-ran m c (sym (sheet-none v L m) ∙ h))
+  refusing [] m c h = absurd (not-refused c m (sym h ∙ sheet-none v L m))
   refusing (r ∷ rs) m c h = go (runMessage v L r m) refl (λ n. refusing rs n c)
     where
       go : (x : Ran) → runMessage v L r m ≡ x → ((n : Machine) → runSheet v L rs n ≡ refused c → Refusing v L rs n c) → Refusing v L (r ∷ rs) m c

@@ -74,7 +74,8 @@ pub data NothingOr (w : ℕ) (ms : List Machine) : Type 0 where
   nothing : w ≡ 0 → NothingOr w ms
   one : OneOf w ms → NothingOr w ms
 
--- "the sheet's figure is at least every message's highest use"; and it is no more than the largest: it is 0 or one of them
+-- Card 1: "the sheet's figure is at least every message's highest use"; and it is no more than the largest: it is 0 or one of them. This is of the machines with
+-- which the messages finish alone; ClaimsFigures has it of the definition of the highest use.
 pub record SheetFigure (w : ℕ) (ms : List Machine) : Type 0 where
   pub every : All (λ (m : Machine). m .high ≤ w) ms
   pub largest : NothingOr w ms

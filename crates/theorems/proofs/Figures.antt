@@ -1,5 +1,5 @@
 -- The workspace figure of a formatting: it is the highest use, it decides which workspace is enough, and additions do not change it.
-use mathlib.Core.Path.{_≡_, refl, ap, sym, subst, _∙_}
+use mathlib.Core.Path.{_≡_, refl, ap, sym, _∙_}
 use mathlib.Core.List.{List}
 use mathlib.Core.Bool.{true}
 use mathlib.Core.Option.{Option, some}
@@ -11,22 +11,21 @@ use lib.Seq.{take-append-seam}
 use borrow.Author.Tests.{leb-true, le-leb}
 use Rattle.records.specs.Got.{got}
 use Rattle.records.specs.Tree.{Pattern}
-use Rattle.records.specs.Images.{Entry, Store, Argument, storeOf, argumentsOf}
+use Rattle.records.specs.Images.{Entry, Store, Argument, argumentsOf}
 use Rattle.records.specs.Errors.{encErrors, listHeader}
 use Rattle.entries.specs.Lookup.{Find, findIn, partOf}
 use Rattle.growth.specs.Items.{atFront}
-use Rattle.layout.specs.Exact.{Octets}
 use Rattle.resolution.specs.Effect.{Bytes}
 use Rattle.resolution.specs.Resolve.{Setting, asMessage}
-use Rattle.resolution.specs.Exec.{Machine, Limits, Ran, ran, refused, start}
+use Rattle.resolution.specs.Exec.{Machine, Ran, ran, refused, start}
 use Rattle.resolution.specs.Format.{Answer, finished, refusedBefore, refusedRunning, Buffers, Formatted, limitsOf, refuse, ended, runPattern, format}
-use Rattle.theorems.specs.Finished.{listOf, traceOf, settingOf, Reached, Finished, Says}
-use Rattle.theorems.specs.Steadiness.{Addition, AllInBytes, slicesAfter, Longer, Same}
+use Rattle.theorems.specs.Finished.{traceOf, settingOf, Reached, Finished}
+use Rattle.theorems.specs.Steadiness.{slicesAfter, Longer, Same}
 use Rattle.theorems.specs.HighestUse.{empty, highest, argumentsUse, partUse, entryUse, messageUse, storeUse, highestUse}
 use Rattle.theorems.specs.Figures.{FigureIs, FiguresHighest, AsLong, FinishesAlike, Decides, FiguresExact, FiguresUnchanged, ShortWorkspaces}
 use Rattle.theorems.proofs.Work.{AsWide, work-enough, work-short}
 use Rattle.theorems.proofs.Within.{within}
-use Rattle.theorems.proofs.Highest.{same-number, Resting, Message-run, message-highest, message-starved}
+use Rattle.theorems.proofs.Highest.{Resting, Message-run, message-highest, message-starved}
 use Rattle.theorems.proofs.Lists.{list-of-front}
 use Rattle.theorems.proofs.Judged.{Judged, runOf, reached-ends, judged}
 use Rattle.theorems.proofs.Parts.{parts, finish, says}
@@ -66,8 +65,8 @@ figure-is (refusedBefore c) n h = tt
 figure-is (refusedRunning c) n h = tt
 
 -- so of every answer
-pub figure-highest : (s id : Bytes) (a : Option Bytes) (image : Bytes) (b : Buffers) → FigureIs (format s id a image b .answer) (highestUse s id a image)
-figure-highest s id a image b = figure-is (format s id a image b .answer) (highestUse s id a image) (figures-highest s id a image b)
+pub answers-highest : (s id : Bytes) (a : Option Bytes) (image : Bytes) (b : Buffers) → FigureIs (format s id a image b .answer) (highestUse s id a image)
+answers-highest s id a image b = figure-is (format s id a image b .answer) (highestUse s id a image) (figures-highest s id a image b)
 
 -- text and list as long, as lengths
 pub as-wide : (b b′ : Buffers) → AsLong b b′ → AsWide (limitsOf b) (limitsOf b′)
@@ -94,7 +93,7 @@ reached-again s id a image b b′ l r = record {
   header = header-again b b′ l (r .header);
 }
 
-front-taken : (x l : Bytes) → take (length x) (atFront x l) ≡ x
+pub front-taken : (x l : Bytes) → take (length x) (atFront x l) ≡ x
 unfolding atFront
 front-taken x l = take-append-seam x _
 
@@ -169,7 +168,7 @@ pub not-refused-before : (n c : ℕ) → refusedBefore n ≡ refusedRunning c �
 not-refused-before n c h = let z : _≡_ {A = ℕ} 0 1 = cc in omega arith
 
 -- a run that ended in a refusal was refused with it
-pub ended-refused : (r : Ran) (b : Buffers) (c : ℕ) → ended r b .answer ≡ refusedRunning c → r ≡ refused c
+ended-refused : (r : Ran) (b : Buffers) (c : ℕ) → ended r b .answer ≡ refusedRunning c → r ≡ refused c
 unfolding ended
 ended-refused (ran m) b c h = absurd (let z : _≡_ {A = ℕ} 0 1 = cc in omega arith)
 ended-refused (refused n) b c h = cc

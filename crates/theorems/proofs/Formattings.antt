@@ -1,9 +1,9 @@
 -- What is so of every finished formatting.
-use mathlib.Core.Path.{_≡_, refl, ap, sym, _∙_}
+use mathlib.Core.Path.{_≡_, refl, ap, _∙_}
 use mathlib.Core.List.{List}
 use mathlib.Core.Bool.{Bool, true, false}
 use mathlib.Core.Option.{Option, none, some}
-use Prim.Native.Nat.{ℕ, _≤_, _<_}
+use Prim.Native.Nat.{ℕ, _≤_}
 use native.Mathlib.Omega.{arith}
 use lib.ListN.{length, drop, length-append, length-drop, length-replicate}
 use lib.Dec.{leb}
@@ -17,7 +17,7 @@ use Rattle.growth.specs.Items.{atFront}
 use Rattle.resolution.specs.Effect.{Bytes}
 use Rattle.resolution.specs.Resolve.{Setting}
 use Rattle.resolution.specs.Exec.{Ran, ran, refused, start}
-use Rattle.resolution.specs.Format.{finished, refusedRunning, Buffers, Formatted, limitsOf, zeros, refuse, orRefuse, ended, runPattern, formatWith, formatArguments, formatPart, formatEntry, formatStore, format}
+use Rattle.resolution.specs.Format.{finished, Buffers, Formatted, limitsOf, zeros, refuse, orRefuse, ended, runPattern, formatWith, formatArguments, formatPart, formatEntry, formatStore, format}
 use Rattle.theorems.specs.Finished.{listOf, traceOf, settingOf, Finished, Sound, Sized}
 use Rattle.layout.specs.Exact.{Octets}
 use Rattle.layout.proofs.Theorems.{store-sound}

@@ -4,17 +4,14 @@ use mathlib.Core.List.{List, [], _∷_, _++_, append-assoc, append-nil}
 use Prim.Native.Nat.{ℕ, zero, suc, _+_, _-_, _≤_, _<_, max}
 use native.Mathlib.Omega.{arith}
 use lib.ListN.{length}
-use lib.Dec.{leb}
-use mathlib.Core.Bool.{Bool, true, false}
-use borrow.Author.Tests.{leb-false}
 use Rattle.records.specs.Tree.{Pattern}
 use Rattle.entries.specs.Lookup.{Find}
 use Rattle.resolution.specs.Effect.{Bytes, Effect, put, report, begin, expand, unfound, open-text, keep-text, free, merged, Trace}
 use Rattle.resolution.specs.Resolve.{Setting}
-use Rattle.resolution.specs.Exec.{Machine, Limits, Ran, ran, refused, allowIf, allow, putText, putWork, putAt, step, andThen, exec}
+use Rattle.resolution.specs.Exec.{Machine, Limits, Ran, ran, refused, putText, putWork, putAt, step, andThen, exec}
 use Rattle.theorems.specs.Finished.{traceOf}
 use Rattle.theorems.specs.HighestUse.{Workspace, empty, total, useOf, longer, moved, workspaceAfter, highest}
-use Rattle.theorems.proofs.Runs.{not-refused, same-machine, allowed, Onward, onward}
+use Rattle.theorems.proofs.Runs.{not-refused, same-machine, allowed, refused-fits, Onward, onward}
 use Rattle.theorems.proofs.Spaces.{spaceAfter, Freeable, AllFreeable, outTo, putOut, textOut, Empties, traces-empty}
 
 -- a machine holds a workspace: as many texts are open, and as many bytes are in use
@@ -24,26 +21,14 @@ pub record Holds (m : Machine) (w : Workspace) : Type 0 where
 
 -- From one machine to another: the second holds the workspace w and has so much text more; where the highest use was no less than the use, it is the higher of
 -- what it was and n, and so again.
-pub record Held (m m′ : Machine) (w : Workspace) (b : Bytes) (n : ℕ) : Type 0 where
+pub record Follows (m m′ : Machine) (w : Workspace) (b : Bytes) (n : ℕ) : Type 0 where
   pub holds : Holds m′ w
   pub made : m′ .written ≡ m .written ++ b
   pub high : m .used ≤ m .high → (m′ .used ≤ m′ .high) × (m′ .high ≡ max (m .high) n)
 
-pub same-number : (a b : ℕ) → refused a ≡ refused b → a ≡ b
-same-number a b h = cc
-
--- what was refused did not fit
-refused-fits : (n k r c : ℕ) (m : Machine) → allow n k r m ≡ refused c → (r ≡ c) × (k < n)
-unfolding allow allowIf
-refused-fits n k r c m = go (leb n k) refl
-  where
-    go : (b : Bool) → leb n k ≡ b → allowIf b r m ≡ refused c → (r ≡ c) × (k < n)
-    go true q h = absurd (not-refused c m (sym h))
-    go false q h = (same-number r c h, leb-false n k q)
-
 -- after one effect: the higher use is that of the workspace then
 abbrev Stepped : Machine → Machine → Workspace → Bytes → Type 0
-Stepped m m′ w b = Held m m′ w b (useOf w)
+Stepped m m′ w b = Follows m m′ w b (useOf w)
 
 -- an effect that changes neither nesting nor use, and writes nothing
 still : (m n : Machine) (w : Workspace) → Holds m w → n .nest ≡ m .nest → n .used ≡ m .used → n .high ≡ m .high → n .written ≡ m .written → Stepped m n w []
@@ -101,14 +86,14 @@ module _ (L : Limits) where
   use-highest (e ∷ t) w = omega arith
 
   -- a run that ends holds the workspace that the trace leaves; its highest use is the higher of the one before and the trace's
-  pub exec-held : (t : Trace) (m m′ : Machine) (w : Workspace) → AllFreeable t w → Holds m w → exec L t m ≡ ran m′ → Held m m′ (spaceAfter t w) (textOut t w) (highest t w)
+  pub exec-held : (t : Trace) (m m′ : Machine) (w : Workspace) → AllFreeable t w → Holds m w → exec L t m ≡ ran m′ → Follows m m′ (spaceAfter t w) (textOut t w) (highest t w)
   unfolding exec highest
   exec-held [] m m′ w f h q = subst (λ x. Stepped m x w []) (same-machine m m′ q) (still m m w h refl refl refl refl)
   exec-held (e ∷ t) m m′ w f h q =
       let o : Onward L e t m m′ = onward L e t m m′ q in
       let v : Workspace = workspaceAfter e w in
       let a : Stepped m (o .mid) v (putOut e (w .front)) = step-held e m (o .mid) w (f .0) h (o .first) in
-      let r : Held (o .mid) m′ (spaceAfter t v) (textOut t v) (highest t v) = exec-held t (o .mid) m′ v (f .1) (a .holds) (o .rest) in
+      let r : Follows (o .mid) m′ (spaceAfter t v) (textOut t v) (highest t v) = exec-held t (o .mid) m′ v (f .1) (a .holds) (o .rest) in
       record {
         holds = r .holds;
         made = r .made ∙ ap (λ (x : Bytes). x ++ textOut t v) (a .made) ∙ append-assoc (m .written) (putOut e (w .front)) (textOut t v);
@@ -138,7 +123,7 @@ module _ (L : Limits) where
   step-starved (merged n) m w h q = absurd (omega (arith, refused-fits _ _ _ _ _ q .0))
 
   -- a run is refused with 16 only where the workspace is shorter than the trace's highest use
-  pub exec-starved : (t : Trace) (m : Machine) (w : Workspace) → AllFreeable t w → Holds m w → exec L t m ≡ refused 16 → L .workLen < highest t w
+  exec-starved : (t : Trace) (m : Machine) (w : Workspace) → AllFreeable t w → Holds m w → exec L t m ≡ refused 16 → L .workLen < highest t w
   unfolding exec highest andThen
   exec-starved [] m w f h q = absurd (not-refused 16 m (sym q))
   exec-starved (e ∷ t) m w f h q = go (step L e m) refl q (exec-starved t)
@@ -169,7 +154,7 @@ module _ (L : Limits) (st : Setting) (find : Find) (p : Pattern) (m : Machine) (
   message-highest m′ q =
       let t : Trace = traceOf st find p in
       let e : Empties t = traces-empty st find p in
-      let h : Held m m′ (spaceAfter t empty) (textOut t empty) (highest t empty) = exec-held L t m m′ empty (e .frees) (rests m r) q in
+      let h : Follows m m′ (spaceAfter t empty) (textOut t empty) (highest t empty) = exec-held L t m m′ empty (e .frees) (rests m r) q in
       let z : Holds m′ empty = subst (λ (w : Workspace). Holds m′ w) (e .leaves) (h .holds) in
       record { rest = record { nest = z .nest; used = z .used }; high = h .high (omega (arith, r .used)) .1 }
 

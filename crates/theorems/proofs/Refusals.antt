@@ -1,53 +1,41 @@
 -- The numbers of a formatting's refusals, before the run and in it.
-use mathlib.Core.Path.{_≡_, refl, subst, _∙_}
+use mathlib.Core.Path.{_≡_, refl, subst, _∙_, sym}
 use mathlib.Core.List.{List, [], _∷_}
 use mathlib.Core.Bool.{Bool, true, false}
 use mathlib.Core.Option.{Option, none, some}
 use Prim.Native.Nat.{ℕ, zero, suc}
-use native.Mathlib.Omega.{arith}
-use lib.Dec.{leb}
 use Rattle.records.specs.Got.{Got, got, bad}
 use Rattle.records.specs.Tree.{Pattern}
 use Rattle.records.specs.Images.{Entry, Store, Argument, storeOf}
 use Rattle.entries.specs.Lookup.{Find, findIn}
 use Rattle.resolution.specs.Effect.{Bytes, Effect, put, report, begin, expand, unfound, open-text, keep-text, free, merged, Trace}
 use Rattle.resolution.specs.Resolve.{Setting}
-use Rattle.resolution.specs.Exec.{Machine, Limits, Ran, ran, refused, allowIf, allow, putText, putWork, putAt, step, andThen, exec, start}
+use Rattle.resolution.specs.Exec.{Machine, Limits, Ran, ran, refused, putText, putWork, putAt, step, andThen, exec, start}
 use Rattle.resolution.specs.Format.{Buffers, Formatted, limitsOf, refuse, orRefuse, ended, runPattern, formatWith, formatArguments, formatPart, formatEntry, formatStore, format}
 use Rattle.theorems.specs.Finished.{traceOf, settingOf, Before, Running, Numbered}
-
-not-ran : (m : Machine) (c : ℕ) → ran m ≡ refused c → ⊥
-not-ran m c h = let z : _≡_ {A = ℕ} 0 1 = cc in omega arith
-
-allow-refused : (n k r : ℕ) (m : Machine) (c : ℕ) → allow n k r m ≡ refused c → r ≡ c
-unfolding allow allowIf
-allow-refused n k r m c = go (leb n k)
-  where
-    go : (b : Bool) → allowIf b r m ≡ refused c → r ≡ c
-    go true h = absurd (not-ran m c h)
-    go false h = cc
+use Rattle.theorems.proofs.Runs.{not-refused, refused-fits}
 
 module _ (L : Limits) where
   put-refused : (b : Bytes) (n : ℕ) (m : Machine) (c : ℕ) → putAt L b m n ≡ refused c → Running c
   unfolding putAt putText putWork
-  put-refused b zero m c h = subst Running (allow-refused _ _ 15 _ c h) Running.text
-  put-refused b (suc n) m c h = subst Running (allow-refused _ _ 16 _ c h) Running.work
+  put-refused b zero m c h = subst Running (refused-fits _ _ 15 c _ h .0) Running.text
+  put-refused b (suc n) m c h = subst Running (refused-fits _ _ 16 c _ h .0) Running.work
 
   step-refused : (e : Effect) (m : Machine) (c : ℕ) → step L e m ≡ refused c → Running c
   unfolding step
   step-refused (put b) m c h = put-refused b (m .nest) m c h
-  step-refused (report e) m c h = subst Running (allow-refused _ _ 7 _ c h) Running.list
-  step-refused begin m c h = absurd (not-ran _ c h)
-  step-refused expand m c h = absurd (not-ran _ c h)
-  step-refused unfound m c h = absurd (not-ran _ c h)
-  step-refused open-text m c h = absurd (not-ran _ c h)
-  step-refused keep-text m c h = absurd (not-ran _ c h)
-  step-refused (free n) m c h = absurd (not-ran _ c h)
-  step-refused (merged n) m c h = subst Running (allow-refused _ _ 17 _ c h) Running.merge
+  step-refused (report e) m c h = subst Running (refused-fits _ _ 7 c _ h .0) Running.list
+  step-refused begin m c h = absurd (not-refused c _ (sym h))
+  step-refused expand m c h = absurd (not-refused c _ (sym h))
+  step-refused unfound m c h = absurd (not-refused c _ (sym h))
+  step-refused open-text m c h = absurd (not-refused c _ (sym h))
+  step-refused keep-text m c h = absurd (not-refused c _ (sym h))
+  step-refused (free n) m c h = absurd (not-refused c _ (sym h))
+  step-refused (merged n) m c h = subst Running (refused-fits _ _ 17 c _ h .0) Running.merge
 
   pub exec-refused : (t : Trace) (m : Machine) (c : ℕ) → exec L t m ≡ refused c → Running c
   unfolding exec andThen
-  exec-refused [] m c h = absurd (not-ran m c h)
+  exec-refused [] m c h = absurd (not-refused c m (sym h))
   exec-refused (e ∷ t) m c h = go (step L e m) refl (λ n. exec-refused t n c) h
     where
       go : (r : Ran) → step L e m ≡ r → ((n : Machine) → exec L t n ≡ refused c → Running c) → andThen r (λ n. exec L t n) ≡ refused c → Running c

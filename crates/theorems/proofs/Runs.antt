@@ -2,9 +2,10 @@
 use mathlib.Core.Path.{_≡_, refl, ap, sym, _∙_, subst}
 use mathlib.Core.List.{[], _∷_, _++_, append-assoc, append-nil}
 use mathlib.Core.Bool.{Bool, true, false}
-use Prim.Native.Nat.{ℕ, zero, suc, _+_}
+use Prim.Native.Nat.{ℕ, zero, suc, _+_, _<_}
 use native.Mathlib.Omega.{arith}
 use lib.Dec.{leb}
+use borrow.Author.Tests.{leb-false}
 use Rattle.resolution.specs.Effect.{Bytes, Effect, put, report, begin, expand, unfound, open-text, keep-text, free, merged, Trace}
 use Rattle.resolution.specs.Exec.{Machine, Limits, Ran, ran, refused, allowIf, allow, putText, putWork, putAt, listed, step, andThen, exec}
 use Rattle.theorems.specs.Finished.{reported, reports}
@@ -16,6 +17,9 @@ not-refused r m h = let z : _≡_ {A = ℕ} 0 1 = cc in omega arith
 pub same-machine : (m m′ : Machine) → ran m ≡ ran m′ → m ≡ m′
 same-machine m m′ h = cc
 
+pub same-refusal : (c d : ℕ) → refused c ≡ refused d → c ≡ d
+same-refusal c d h = cc
+
 pub allowed : (n k r : ℕ) (m m′ : Machine) → allow n k r m ≡ ran m′ → m ≡ m′
 unfolding allow allowIf
 allowed n k r m m′ = go (leb n k)
@@ -23,6 +27,15 @@ allowed n k r m m′ = go (leb n k)
     go : (b : Bool) → allowIf b r m ≡ ran m′ → m ≡ m′
     go true h = same-machine m m′ h
     go false h = absurd (not-refused r m′ h)
+
+-- what was refused did not fit
+pub refused-fits : (n k r c : ℕ) (m : Machine) → allow n k r m ≡ refused c → (r ≡ c) × (k < n)
+unfolding allow allowIf
+refused-fits n k r c m = go (leb n k) refl
+  where
+    go : (b : Bool) → leb n k ≡ b → allowIf b r m ≡ refused c → (r ≡ c) × (k < n)
+    go true q h = absurd (not-refused c m (sym h))
+    go false q h = (same-refusal r c h, leb-false n k q)
 
 -- a run of two traces
 pub exec-append : (L : Limits) (a b : Trace) (m : Machine) → exec L (a ++ b) m ≡ andThen (exec L a m) (λ n. exec L b n)

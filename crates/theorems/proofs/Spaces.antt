@@ -1,10 +1,10 @@
 -- What a trace makes of the workspace, and writes to the text buffer: nothing is freed that is not at the workspace's back; in the end the newest text is longer by
 -- what was written, or the text buffer has it where no text is open, and the back is longer by what was kept.
-use mathlib.Core.Path.{_≡_, refl, ap, sym, subst, _∙_}
+use mathlib.Core.Path.{_≡_, refl, ap, sym, _∙_}
 use mathlib.Core.List.{List, [], _∷_, _++_, append-assoc, append-nil}
 use mathlib.Core.Bool.{Bool, true, false}
 use mathlib.Core.Option.{Option, none, some}
-use Prim.Native.Nat.{ℕ, zero, suc, _+_, _-_, _≤_}
+use Prim.Native.Nat.{ℕ, _+_, _-_, _≤_}
 use native.Mathlib.Omega.{arith}
 use lib.ListN.{length, length-append}
 use lib.Dec.{ltb}
@@ -122,8 +122,8 @@ both a b w x y j k p q =
     record {
       frees = frees-append a b w (p .frees) (q v .frees);
       leaves =
-      after-append a b w ∙ q v .leaves ∙ ap (λ (u : Workspace). grown (length y) k u) (p .leaves) ∙ grown-twice (length x) (length y) j k w
-      ∙ ap (λ (n : ℕ). grown n (j + k) w) (sym (length-append x y));
+          after-append a b w ∙ q v .leaves ∙ ap (λ (u : Workspace). grown (length y) k u) (p .leaves) ∙ grown-twice (length x) (length y) j k w
+          ∙ ap (λ (n : ℕ). grown n (j + k) w) (sym (length-append x y));
       writes = out-append a b w ∙ ap (λ (z : Bytes). z ++ textOut b v) (p .writes) ∙ ap (λ (z : Bytes). outTo (w .front) x ++ z) (q v .writes ∙ same) ∙ out-both (w .front) x y;
     }
 
@@ -161,8 +161,8 @@ spaces-capture x h s w =
     record {
       frees = (tt, frees-append (r .trace) (keep-text ∷ []) v (p .frees) (tt, tt));
       leaves =
-      after-append (r .trace) (keep-text ∷ []) v ∙ ap (λ (u : Workspace). workspaceAfter keep-text u) (p .leaves)
-      ∙ same-space _ _ _ _ (sym (longer-none (w .front))) (omega arith);
+          after-append (r .trace) (keep-text ∷ []) v ∙ ap (λ (u : Workspace). workspaceAfter keep-text u) (p .leaves)
+          ∙ same-space _ _ _ _ (sym (longer-none (w .front))) (omega arith);
       writes = out-append (r .trace) (keep-text ∷ []) v ∙ append-nil _ ∙ p .writes ∙ sym (out-none (w .front));
     }
 
@@ -175,8 +175,8 @@ spaces-release x h s w =
     record {
       frees = frees-append (r .trace) (free (r .kept) ∷ []) w (p .frees) (omega (arith, back), tt);
       leaves =
-      after-append (r .trace) (free (r .kept) ∷ []) w ∙ ap (λ (u : Workspace). workspaceAfter (free (r .kept)) u) (p .leaves)
-      ∙ same-space _ _ _ _ refl (omega arith);
+          after-append (r .trace) (free (r .kept) ∷ []) w ∙ ap (λ (u : Workspace). workspaceAfter (free (r .kept)) u) (p .leaves)
+          ∙ same-space _ _ _ _ refl (omega arith);
       writes = out-append (r .trace) (free (r .kept) ∷ []) w ∙ append-nil _ ∙ p .writes;
     }
 

@@ -30,7 +30,7 @@ total (n ∷ ns) = n + total ns
 unfoldable pub useOf : Workspace → ℕ
 useOf w = total (w .front) + w .back
 
--- n bytes more of the newest text; where none is being made they go to the text buffer
+-- the newest text, n bytes longer; where none is being made the bytes go to the text buffer
 unfoldable pub longer : ℕ → List ℕ → List ℕ
 longer n [] = []
 longer n (k ∷ ks) = (k + n) ∷ ks
@@ -52,12 +52,12 @@ workspaceAfter keep-text w = moved (w .front) (w .back)
 workspaceAfter (free n) w = record { front = w .front; back = w .back - n }
 workspaceAfter (merged n) w = w
 
--- the most bytes in use at any moment of a trace
+-- the most bytes in use at any moment of a trace, to its end; a run that is refused ends before that
 unfoldable pub highest : Trace → Workspace → ℕ
 highest [] w = useOf w
 highest (e ∷ t) w = max (useOf w) (highest t (workspaceAfter e w))
 
--- Of a message of a bundle, its value or an attribute, with an arguments image: that of its trace, from an empty workspace. Where one of these is not there,
+-- Of a message of a bundle, its value or an attribute, with an arguments image: the highest use of its trace, from an empty workspace. Where one of these is not there,
 -- nothing is resolved.
 unfoldable pub argumentsUse : Store → Pattern → Got (List (Bytes × Argument)) → ℕ
 argumentsUse v p bad = 0

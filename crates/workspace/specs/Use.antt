@@ -8,11 +8,11 @@ use lib.Dec.{leb}
 unfoldable pub useAt : ℕ → ℕ → ℕ → ℕ
 useAt front back n = front + (n - back)
 
--- the higher of the use so far and the use now, where there is one
+-- where there is a use now, the higher of it and the use so far; else the use so far
 unfoldable pub higherIf : Bool → ℕ → ℕ → ℕ
 higherIf true high used = max high used
 higherIf false high used = high
 
--- the front is not past the back, nor the back past the end
+-- the same by the places: there is a use now where the front is not past the back, nor the back past the end
 unfoldable pub highestNow : ℕ → ℕ → ℕ → ℕ → ℕ
 highestNow high front back n = higherIf (leb front back && leb back n) high (useAt front back n)

@@ -41,13 +41,9 @@ pub fn compare_sheet(seed: u64, counts: &mut Counts) -> Result<(), String> {
 fn of_some_figure(made: impl Iterator<Item = (Vec<u8>, Asked)>) -> Call {
     let mut last = None;
     for (store, asked) in made {
-        let model = asked.prepare(&store);
-        let above = model.need().is_some_and(|(_, need)| need.workspace > 0);
-        last = Some(Call {
-            store,
-            asked,
-            model,
-        });
+        let call = Call::new(store, asked);
+        let above = call.model.need().is_some_and(|(_, need)| need.workspace > 0);
+        last = Some(call);
         if above {
             break;
         }

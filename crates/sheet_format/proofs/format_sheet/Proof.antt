@@ -1,4 +1,4 @@
--- `sheet_format::format_sheet` meets its contract: 4, 18 and 7 in their order, and then the messages; its figure is the definition's, and so the largest of their highest uses.
+-- `sheet_format::format_sheet` meets its contract: 4, 18 and 7 in their order, and then the messages; its figure is the definition's.
 use Rattle.layout.proofs.Stands.{octets-of}
 use Rattle.records.proofs.Laws.{next-at, next-bad}
 use Rattle.sheet_format.proofs.Ends.{checked-both, refused-header, refused-sheet, refused-store, sheet-closed, with-figure}

@@ -3,7 +3,7 @@
 
 /// Without isolation marks.
 pub(super) const PLAIN: [(usize, &str); 105] = [
-    // F1: use is the bytes of the texts being made and of the finished ones.
+    // Use is the bytes of the texts being made and of the finished ones.
     // p.
     (1, "a = { p -> *[o] x }"),
     // кит, six bytes, counted once though it moves to the back.
@@ -26,7 +26,7 @@ pub(super) const PLAIN: [(usize, &str); 105] = [
     (8, "a = { NUMBER(1, w, b) }\nb = b{ p -> *[o] c }"),
     // b + (p and кит) | b1: finished texts above an interrupted one.
     (8, "a = { b -> *[o] x }\nb = b{ NUMBER(1, p, w) }"),
-    // F2: what goes there, as a selector.
+    // What goes there, as a selector.
     // The text itself is written to the text buffer.
     (0, "a = Hello { p }, { w }, { -t }"),
     (0, "a = { { p } }{ { { w } } }"),
@@ -56,7 +56,7 @@ pub(super) const PLAIN: [(usize, &str); 105] = [
     (0, "a = { $n -> [two] x *[o] y }"),
     (0, "a = { $q -> *[o] x }"),
     (0, "a = { NUMBER(5, x: \"y\") -> *[o] x }"),
-    // F2: as a positional argument of a function.
+    // As a positional argument of a function.
     (1, "a = { NUMBER(1, p) }"),
     (3, "a = { NUMBER(1, -t) }"),
     (3, "a = { NUMBER(1, { $n }) }"),
@@ -64,7 +64,7 @@ pub(super) const PLAIN: [(usize, &str); 105] = [
     // The first one too, though NUMBER then has no number.
     (6, "a = { NUMBER(w) }"),
     (0, "a = { NUMBER(1, \"plain\", 2.0, $n, $q, NUMBER(3)) }"),
-    // F2: as a named argument of a function: ordinal, seven bytes; an option that
+    // As a named argument of a function: ordinal, seven bytes; an option that
     // NUMBER does not know; one of the wrong kind.
     (
         7,
@@ -76,13 +76,13 @@ pub(super) const PLAIN: [(usize, &str); 105] = [
         0,
         "a = { NUMBER(1, type: \"ordinal\", minimumFractionDigits: 2) }",
     ),
-    // F2: as an argument of a term, positional ones too, which it never sees.
+    // As an argument of a term, positional ones too, which it never sees.
     (1, "a = { -t(p) }"),
     (6, "a = { -t(w) }"),
     (3, "a = { -t({ $n }, \"plain\", 5, $k) }"),
     (2, "a = { -v(n: \"\\u0041B\") }"),
     (0, "a = { -v(n: \"AB\") }{ -v(n: 5) }"),
-    // F3: an escaped literal counts what it reads as: A, 🐋, U+FFFD twice, a\b"c.
+    // An escaped literal counts what it reads as: A, 🐋, U+FFFD twice, a\b"c.
     (1, "a = { \"\\u0041\" -> [A] x *[o] y }"),
     (4, "a = { \"\\U01F40B\" -> *[o] x }"),
     (3, "a = { \"\\uD800\" -> *[o] x }"),
@@ -90,7 +90,7 @@ pub(super) const PLAIN: [(usize, &str); 105] = [
     (5, "a = { \"a\\\\b\\\"c\" -> *[o] x }"),
     // xéy.
     (4, "a = { \"x\\u00e9y\" -> *[o] x }"),
-    // F4: a term's arguments live until all its text is written.
+    // A term's arguments live until all its text is written.
     // кит and p, the text elsewhere.
     (7, "a = { -t(w, p) }"),
     // кит, p and then ttt.
@@ -101,7 +101,7 @@ pub(super) const PLAIN: [(usize, &str); 105] = [
     (9, "a = { -b(w) }\n-b = { { \"two\" } -> *[o] x }"),
     // The next placeable finds them gone: кит | ttt.
     (6, "a = { -t(w) }{ -t -> *[o] x }"),
-    // F5: a missing term keeps its arguments until {-zz} is written.
+    // A missing term keeps its arguments until {-zz} is written.
     (6, "a = { -zz(w) }"),
     // кит and {-zz}.
     (11, "a = { -zz(w) -> *[o] x }"),
@@ -109,7 +109,7 @@ pub(super) const PLAIN: [(usize, &str); 105] = [
     (8, "a = { -t.no(p) -> *[o] x }"),
     // p and {-p}: p is a message.
     (5, "a = { -p(p) -> *[o] x }"),
-    // F6: an inner term clears the arguments for variables, not their bytes.
+    // An inner term clears the arguments for variables, not their bytes.
     // p and \ | p, \ and кит.
     (8, "a = { -b(p, n: \"\\\\\") }\n-b = { -t }{ w -> *[o] x }"),
     // \ | \ and A, the inner term's | \ and two, by the formatting's own n.
@@ -119,7 +119,7 @@ pub(super) const PLAIN: [(usize, &str); 105] = [
     ),
     // кит, then p with it, then ttt with both.
     (10, "a = { -b(w) }\n-b = { -t(p) -> *[o] x }"),
-    // F7: a selector's text is gone before its variant begins: кит | ttt.
+    // A selector's text is gone before its variant begins: кит | ttt.
     (6, "a = { w -> *[o] { -t -> *[o] x } }"),
     // ttt | кит: the other way round.
     (6, "a = { -t -> *[o] { w -> *[o] x } }"),
@@ -138,7 +138,7 @@ pub(super) const PLAIN: [(usize, &str); 105] = [
         7,
         "a = { -b(n: \"\\u0041\") }\n-b = { $n -> [A] y *[o] x }{ w -> *[o] x }",
     ),
-    // F8: a function's arguments are gone before its result is written.
+    // A function's arguments are gone before its result is written.
     // p | 55555.
     (5, "a = { { NUMBER(55555, p) } -> *[o] x }"),
     // кит | 5.
@@ -163,13 +163,13 @@ pub(super) const PLAIN: [(usize, &str); 105] = [
         7,
         "a = { b -> *[o] x }\nb = 1{ NUMBER(5, w) }{ -t -> *[o] y }",
     ),
-    // F9: a term as argument: кит and ttt | ttt, whose arguments are gone | ttt and p.
+    // A term as argument: кит and ttt | ttt, whose arguments are gone | ttt and p.
     (9, "a = { NUMBER(1, -t(w), p) }"),
     // p and ttt | ttt | ttt and кит.
     (9, "a = { NUMBER(1, -t(p), w) }"),
     // p and ttt | ttt | ttt and кит | with them ttt: of a term.
     (12, "a = { -t(-t(p), w) -> *[o] x }"),
-    // F10: a variable that names a term's argument shares its bytes.
+    // A variable that names a term's argument shares its bytes.
     // AB, and AB written from it.
     (4, "a = { -v(n: \"\\u0041\\u0042\") -> [AB] x *[o] y }"),
     // A, and AAA.

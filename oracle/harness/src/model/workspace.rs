@@ -4,8 +4,8 @@
 //! one it interrupts; once made, it moves to the back, below those still alive
 //! there. Use is the bytes of both."
 //!
-//! No byte is counted as it comes or goes: use is where the front ends and where
-//! the back begins.
+//! No byte is counted as it comes or goes: use is read off the places, the bytes
+//! before the front's end and from the back's start on.
 
 use super::effects::Effect;
 use super::resolve::Resolution;
@@ -83,7 +83,7 @@ impl Workspace {
     }
 
     /// The bytes of both parts.
-    pub fn used(&self) -> usize {
+    fn used(&self) -> usize {
         self.front() + (self.bytes.len() - self.back())
     }
 

@@ -218,7 +218,8 @@ impl Writer {
         }
     }
 
-    /// A sheet from this slice, with a workspace of each kind.
+    /// A sheet from this slice, with a workspace of each kind. What is too long is
+    /// left out by `write`.
     fn sheet_with(&mut self, e: &ExpectedSheet, held: &Held, need: Lengths, kinds: &[Kind]) {
         let bytes = (&held.slice[..], &e.sheet[..]);
         for kind in kinds {

@@ -74,7 +74,7 @@ impl Page<'_> {
         let message = Formatted::new(ROOM, self.workspace(), |text, list, work| {
             operations::format(self.store, id, attribute, self.arguments, text, list, work)
         });
-        let message = message.map_err(|refusal| self.short(refusal))?;
+        let message = message.map_err(|refusal| self.failure(refusal))?;
         match self.options.lines {
             true => message.put_line(out, self.language, id),
             false => message.put(out, self.options.figures),
@@ -103,7 +103,7 @@ impl Page<'_> {
                     format!("{refusal}: {id} (a sheet needs sheet, line, seen, away and who)");
                 Failure::line(&[words.as_bytes()])
             }
-            _ => self.short(refusal),
+            _ => self.failure(refusal),
         }
     }
 
@@ -112,9 +112,9 @@ impl Page<'_> {
         self.options.workspace.unwrap_or(ROOM)
     }
 
-    /// A refusal; where the workspace that was asked for is too short, with its
-    /// length.
-    fn short(&self, refusal: Refusal) -> Failure {
+    /// The failure that a refusal is; where the workspace that was asked for is too
+    /// short, with its length.
+    fn failure(&self, refusal: Refusal) -> Failure {
         match self.options.workspace {
             Some(lent) if refusal == Refusal::SHORT_WORKSPACE => {
                 let words = match lent {

@@ -1,4 +1,4 @@
--- `resolver::format::format` meets its contract: the refusals in their order, and the run; its figure is the definition's, and so the highest use.
+-- `resolver::format::format` meets its contract: the refusals in their order, and the run; its figure is the definition's.
 use Rattle.layout.proofs.Stands.{octets-of}
 use Rattle.records.proofs.Laws.{next-at, next-bad}
 use Rattle.resolver.proofs.Ends.{format-arguments, format-header, format-refused, format-run, with-figure}
