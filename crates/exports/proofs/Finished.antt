@@ -1,7 +1,7 @@
 -- What a formatting's answer says of the number and the figures that are exported: one law for each of its three cases.
 -- Assumes nothing.
-use mathlib.Core.Path.{_≡_, sym, ap, subst, _∙_}
-use Prim.Native.Nat.{ℕ}
+use mathlib.Core.Path.{_≡_, refl, sym, ap, subst, _∙_}
+use Prim.Native.Nat.{ℕ, zero, suc}
 use Rattle.resolution.specs.Effect.{Bytes}
 use Rattle.resolution.specs.Format as formatting
 use Rattle.resolution.specs.Format.{Formatted}
@@ -10,7 +10,7 @@ use Rattle.resolver.specs.Formats.{answerOf, gave}
 use Rattle.resolver.specs.declared.format.Answer.{Answer}
 use Rattle.resolver.specs.declared.format.Answer.the-variants as answer
 use Rattle.resolver.specs.declared.format.Figures.{Figures}
-use Rattle.exports.specs.Numbers.{Lent, formatNumberOf, handed, lentAfter}
+use Rattle.exports.specs.Numbers.{Lent, formatNumberOf, handed, lentAfter, usedAfter}
 use Rattle.exports.specs.Zero.{FormatTold}
 
 abbrev lentOf : Figures → Lent
@@ -31,21 +31,24 @@ pub cleared-told : {r : Answer} {n : ℕ} {x l w : Bytes} {o : Formatted} (k : L
 unfolding gave answerOf handed formatNumberOf lentAfter
 cleared-told {x = x} {l = l} {w = w} k h is = ap (λ (o : Formatted). handed o k) (sym h ∙ ap (λ (c : Answer). gave c x l w) is)
 
--- the figure of a finished one; of a refused one there is none, as its number is not 0
-pub finished-figure : {r : Answer} {f : Figures} {n : ℕ} → FigureIs (answerOf r) n → r ≡ answer.Finished f → f .work ≡ n
-unfolding answerOf
-finished-figure {n = n} h is = subst (λ (c : Answer). FigureIs (answerOf c) n) is h
+-- the fifth lent number: the figure of a finished one
+pub finished-figure : {r : Answer} {f : Figures} (n k : ℕ) → FigureIs (answerOf r) n → r ≡ answer.Finished f → f .work ≡ usedAfter 0 n k
+unfolding answerOf usedAfter
+finished-figure n k h is = subst (λ (c : Answer). FigureIs (answerOf c) n) is h
 
--- a refusal's number is not 0
-not-zero : (o : Formatted) (c : formatting.Answer) → FormatTold (o .answer) → o .answer ≡ c → FormatTold c
-not-zero o c h q = subst (λ (x : formatting.Answer). FormatTold x) q h
+-- and as before where the number is a refusal's, which is not 0
+as-before : (c n k : ℕ) → (c ≡ 0 → ⊥) → k ≡ usedAfter c n k
+unfolding usedAfter
+as-before zero n k h = absurd (h refl)
+as-before (suc c) n k h = refl
 
-pub refused-figure : (r : Answer) (c k n : ℕ) (x l w : Bytes) (o : Formatted) → gave r x l w ≡ o → FormatTold (o .answer) → r ≡ answer.Refused c → c ≡ 0 → k ≡ n
+told-of : (o : Formatted) (c : formatting.Answer) → FormatTold (o .answer) → o .answer ≡ c → FormatTold c
+told-of o c h q = subst (λ (x : formatting.Answer). FormatTold x) q h
+
+pub refused-figure : (r : Answer) (c n k : ℕ) (x l w : Bytes) (o : Formatted) → gave r x l w ≡ o → FormatTold (o .answer) → r ≡ answer.Refused c → k ≡ usedAfter c n k
 unfolding gave answerOf
-refused-figure r c k n x l w o h t is z =
-    absurd (not-zero o (formatting.refusedBefore c) t (sym (ap (λ (y : Formatted). y .answer) h) ∙ ap answerOf is) z)
+refused-figure r c n k x l w o h t is = as-before c n k (told-of o (formatting.refusedBefore c) t (sym (ap (λ (y : Formatted). y .answer) h) ∙ ap answerOf is))
 
-pub cleared-figure : (r : Answer) (c k n : ℕ) (x l w : Bytes) (o : Formatted) → gave r x l w ≡ o → FormatTold (o .answer) → r ≡ answer.Cleared c → c ≡ 0 → k ≡ n
+pub cleared-figure : (r : Answer) (c n k : ℕ) (x l w : Bytes) (o : Formatted) → gave r x l w ≡ o → FormatTold (o .answer) → r ≡ answer.Cleared c → k ≡ usedAfter c n k
 unfolding gave answerOf
-cleared-figure r c k n x l w o h t is z =
-    absurd (not-zero o (formatting.refusedRunning c) t (sym (ap (λ (y : Formatted). y .answer) h) ∙ ap answerOf is) z)
+cleared-figure r c n k x l w o h t is = as-before c n k (told-of o (formatting.refusedRunning c) t (sym (ap (λ (y : Formatted). y .answer) h) ∙ ap answerOf is))

@@ -1,5 +1,5 @@
 -- What an exported function answers: 0 or a refusal's number, and the figures that it writes into the lent numbers.
-use Prim.Native.Nat.{ℕ}
+use Prim.Native.Nat.{ℕ, zero, suc}
 use Rattle.bundle.specs.Additions as additions
 use Rattle.bundle.specs.Additions.{done, refused}
 use Rattle.resolution.specs.Format as formatting
@@ -44,3 +44,8 @@ pub record Handed : Type 0 where
 -- of the definition's formatting, over the numbers as they were
 unfoldable pub handed : Formatted → Lent → Handed
 handed f k = record { number = formatNumberOf (f .answer); figures = lentAfter (f .answer) k; buffers = f .buffers }
+
+-- the fifth lent number by itself, where the answer is r: the highest use n where that is 0, else as before
+unfoldable pub usedAfter : ℕ → ℕ → ℕ → ℕ
+usedAfter zero n k = n
+usedAfter (suc r) n k = k

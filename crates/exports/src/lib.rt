@@ -10,7 +10,7 @@ ghost use Rattle.resolution.specs.Format.{format};
 ghost use Rattle.theorems.specs.HighestUse.{highestUse};
 ghost use Rattle.sheets.specs.Sheet.{formatSheet};
 ghost use Rattle.sheet_theorems.specs.HighestUse.{sheetHighestUse};
-ghost use Rattle.exports.specs.Numbers.{numberOf, countOf, handed};
+ghost use Rattle.exports.specs.Numbers.{numberOf, countOf, handed, usedAfter};
 
 // A new bundle at the front of a slice. Refusals: 1, 2, 3.
 #[no_mangle]
@@ -96,7 +96,7 @@ pub extern "C" fn weszlagyo_format<'a>(
           figures = record { written = now (written .exit); errors = now (errors .exit); begun = now (begun .exit); unfound = now (unfound .exit); used = now (used .exit) };
           buffers = record { text = now (text .exit); list = now (list .exit); work = now (work .exit) };
         } ⌝ }
-    ensures { λ r. ⌜ (r ≡ 0 → now (used .exit) ≡ highestUse (now (store .entry)) (now (id .entry)) (optionOf has (now (attribute .entry))) (now (arguments .entry))) ⌝ }
+    ensures { λ r. ⌜ now (used .exit) ≡ usedAfter r (highestUse (now (store .entry)) (now (id .entry)) (optionOf has (now (attribute .entry))) (now (arguments .entry))) (now (used .entry)) ⌝ }
 {
     match resolver::format::format(store, id, has, attribute, arguments, text, list, work) {
         Formatted::Finished(f) => {
@@ -135,7 +135,7 @@ pub extern "C" fn weszlagyo_format_sheet<'a>(
           figures = record { written = now (written .exit); errors = now (errors .exit); begun = now (begun .exit); unfound = now (unfound .exit); used = now (used .exit) };
           buffers = record { text = now (text .exit); list = now (list .exit); work = now (work .exit) };
         } ⌝ }
-    ensures { λ r. ⌜ (r ≡ 0 → now (used .exit) ≡ sheetHighestUse (now (store .entry)) (now (sheet .entry))) ⌝ }
+    ensures { λ r. ⌜ now (used .exit) ≡ usedAfter r (sheetHighestUse (now (store .entry)) (now (sheet .entry))) (now (used .entry)) ⌝ }
 {
     match sheet_format::format_sheet(store, sheet, text, list, work) {
         Formatted::Finished(sums) => {

@@ -27,7 +27,7 @@ same-length-3 : tie.Need-same-length-3
 same-length-3 c = search needs
 
 returns : tie.Need-returns
-returns c = (finished-told _ (c .before .before .before .before .before .before .before .before .before .format-sheet .ensures .0) (c .before .sums .given .1), λ z. finished-figure (c .before .before .before .before .before .before .before .before .before .format-sheet .ensures .1) (c .before .sums .given .1))
+returns c = (finished-told _ (c .before .before .before .before .before .before .before .before .before .format-sheet .ensures .0) (c .before .sums .given .1), finished-figure _ _ (c .before .before .before .before .before .before .before .before .before .format-sheet .ensures .1) (c .before .sums .given .1))
 
 same-length-4 : tie.Need-same-length-4
 same-length-4 c = search needs
@@ -39,7 +39,7 @@ same-length-6 : tie.Need-same-length-6
 same-length-6 c = search needs
 
 returns-2 : tie.Need-returns-2
-returns-2 c = (refused-told _ (c .before .before .before .before .before .before .before .before .before .format-sheet .ensures .0) (c .before .n .given .1), λ z. refused-figure _ _ _ _ _ _ _ _ (c .before .before .before .before .before .before .before .before .before .format-sheet .ensures .0) (sheet-told _ _ _) (c .before .n .given .1) z)
+returns-2 c = (refused-told _ (c .before .before .before .before .before .before .before .before .before .format-sheet .ensures .0) (c .before .n .given .1), refused-figure _ _ _ _ _ _ _ _ (c .before .before .before .before .before .before .before .before .before .format-sheet .ensures .0) (sheet-told _ _ _) (c .before .n .given .1))
 
 same-length-7 : tie.Need-same-length-7
 same-length-7 c = search needs
@@ -51,7 +51,7 @@ same-length-9 : tie.Need-same-length-9
 same-length-9 c = search needs
 
 returns-3 : tie.Need-returns-3
-returns-3 c = (cleared-told _ (c .before .before .before .before .before .before .before .before .before .format-sheet .ensures .0) (c .before .n2 .given .1), λ z. cleared-figure _ _ _ _ _ _ _ _ (c .before .before .before .before .before .before .before .before .before .format-sheet .ensures .0) (sheet-told _ _ _) (c .before .n2 .given .1) z)
+returns-3 c = (cleared-told _ (c .before .before .before .before .before .before .before .before .before .format-sheet .ensures .0) (c .before .n2 .given .1), cleared-figure _ _ _ _ _ _ _ _ (c .before .before .before .before .before .before .before .before .before .format-sheet .ensures .0) (sheet-told _ _ _) (c .before .n2 .given .1))
 
 pub weszlagyo-format-sheet-spec : {M : Type 1} → statement M
 weszlagyo-format-sheet-spec = tie.close (tie.spec format-sheet-requires enum-known-sums enum-known-n enum-known-n-2 same-length same-length-2 same-length-3 returns same-length-4 same-length-5 same-length-6 returns-2 same-length-7 same-length-8 same-length-9 returns-3)
