@@ -45,7 +45,7 @@ pub record Handed : Type 0 where
 unfoldable pub handed : Formatted → Lent → Handed
 handed f k = record { number = formatNumberOf (f .answer); figures = lentAfter (f .answer) k; buffers = f .buffers }
 
--- the fifth lent number by itself, where the answer is r: the highest use n where that is 0, else as before
+-- the fifth lent number by itself: r is the number that is answered, n the highest use, k the lent number before; it is n where r is 0, else k
 unfoldable pub usedAfter : ℕ → ℕ → ℕ → ℕ
 usedAfter zero n k = n
 usedAfter (suc r) n k = k

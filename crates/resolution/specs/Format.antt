@@ -40,7 +40,7 @@ fresh = record { begun = 0; dirty = false; locals = none }
 unfoldable pub runPattern : Setting → Find → Limits → Pattern → Ran
 runPattern st find L p = exec L (resolve st find maxPatterns p (bytesOf p ∷ []) fresh .trace) start
 
--- "A formatting's carries text length, error count, placeables begun (0 to 101), unfound and a workspace figure" (here exactly the highest use). A
+-- "A formatting's carries text length, error count, placeables begun (0 to 101), unfound and a workspace figure" (exactly the highest use: document 02, Card 8). A
 -- refusal before the run changes nothing, one in the run clears the three buffers.
 pub data Answer : Type 0 where
   finished : (text errors begun unfound work : ℕ) → Answer

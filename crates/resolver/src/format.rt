@@ -154,7 +154,7 @@ pub fn finish(
     })
 }
 
-// Formats the message `id`, or its attribute where `has` is set, with an arguments image.
+// Formats the message `id`, or its attribute where `has` is set, with an arguments image. The workspace figure is the highest use, whatever buffers are lent.
 pub fn format<'a>(
     store: &'a [u8],
     id: &[u8],

@@ -28,12 +28,11 @@ use Rattle.requests.specs.Image.{Request, sheetOf}
 use Rattle.sheets.specs.Sheet.{runArguments, runPart, runEntry, runMessage, runSheet, formatSheet}
 use Rattle.sheets.specs.Refused.{cleared}
 use Rattle.sheet_theorems.specs.HighestUse.{largestUse, requestsUse, sheetUse, sheetHighestUse}
-use Rattle.sheet_theorems.specs.ClaimsSteadiness.{SheetUnchanged}
 use Rattle.sheet_theorems.specs.ClaimsRefusals.{FirstRefusal, SheetAnswers}
 use Rattle.sheet_theorems.specs.ClaimsFigures.{SheetFiguresHighest, SheetFiguresExact, SheetFiguresUnchanged, SheetShortWorkspaces}
 use Rattle.sheet_theorems.proofs.Messages.{sheet-runs, message-runs, sheet-next, sheet-stops, Ran-on, message-ran, First, first-ran}
 use Rattle.sheet_theorems.proofs.Parts.{Finishes, sheet-ends, finishes, sheet-says, sheet-within}
-use Rattle.sheet_theorems.proofs.Steadiness.{sheet-steadiness}
+use Rattle.sheet_theorems.proofs.Steadiness.{sheet-same}
 use Rattle.sheet_theorems.proofs.Refusals.{sheet-answers}
 
 -- the trace of a message that ran
@@ -174,15 +173,14 @@ sheet-figures-exact s image b t e k u w h = record { enough = enough s image b t
 
 -- "The exact figure joins what additions can't change"
 pub sheet-figures-unchanged : SheetFiguresUnchanged
-sheet-figures-unchanged s oct xs bytes image oi b t e k w h =
-    let f : Finishes s image b = finishes s image b t e k 0 w h in
-    let x : SheetUnchanged s xs image b b t e k w = sheet-steadiness s oct (f .store, f .storeEnd, f .stored) xs bytes image oi b b (as-itself b) t e k w h in
-    let same : Same t (formatSheet s image b) (formatSheet (slicesAfter xs s) image b) = record { answer = x .answer ∙ sym h; text = x .text; list = x .list } in
+sheet-figures-unchanged s oct xs bytes image b t e k w h =
+    let same : Same t (formatSheet s image b) (formatSheet (slicesAfter xs s) image b) = sheet-same s oct xs bytes image b b (as-itself b) t e k w h in
+    let again : formatSheet (slicesAfter xs s) image b .answer ≡ finished t e k 0 w = same .answer ∙ h in
     let first : w ≡ sheetHighestUse s image = sheet-figures-highest s image b t e k 0 w h in
     record {
-      same = sym (sheet-figures-highest (slicesAfter xs s) image b t e k 0 w (x .answer)) ∙ first;
+      same = sym (sheet-figures-highest (slicesAfter xs s) image b t e k 0 w again) ∙ first;
       figure = first;
-      decides = decides-again (formatSheet s image) (formatSheet (slicesAfter xs s) image) b t w same (sheet-figures-exact (slicesAfter xs s) image b t e k 0 w (x .answer));
+      decides = decides-again (formatSheet s image) (formatSheet (slicesAfter xs s) image) b t w same (sheet-figures-exact (slicesAfter xs s) image b t e k 0 w again);
     }
 
 not-finished : (t e k u w c : ℕ) → finished t e k u w ≡ refusedRunning c → ⊥

@@ -95,13 +95,17 @@ module _ (s : Bytes) (oct : Octets s) (xs : List Addition) (bytes : AllInBytes x
       let second : formatSheet (slicesAfter xs s) image b′ ≡ ended (ran m) b′ = sheet-ends (slicesAfter xs s) image b′ (g .0) ∙ ap (λ (k : Machine). ended (ran k) b′) (g .1) in
       rw (first, second) (same-end m b b′ (sheet-within (f .store) (limitsOf b) (f .requests) m (f .runs) .stated))
 
+  -- the second sheet is the first's answer, text and list
+  pub sheet-same : (t e k w : ℕ) → formatSheet s image b .answer ≡ finished t e k 0 w → Same t (formatSheet s image b) (formatSheet (slicesAfter xs s) image b′)
+  sheet-same t e k w h =
+      let f : Finishes s image b = finishes s image b t e k 0 w h in
+      let y : Says (f .machine) t e k 0 w = sheet-says s image b t e k 0 w f h in
+      subst (λ (j : ℕ). Same j (formatSheet s image b) (formatSheet (slicesAfter xs s) image b′)) (sym (y .text)) (same-again f (sym (y .unfound)))
+
 -- "Steadiness under additions is wanted for whole sheets"
 pub sheet-steadiness : SheetSteadiness
 sheet-steadiness s oct formed xs bytes image oi b b′ longer t e k w h =
-    let f : Finishes s image b = finishes s image b t e k 0 w h in
-    let y : Says (f .machine) t e k 0 w = sheet-says s image b t e k 0 w f h in
-    let same : Same (length (f .machine .written)) (formatSheet s image b) (formatSheet (slicesAfter xs s) image b′) = same-again s oct xs bytes image b b′ longer f (sym (y .unfound)) in
-    let all : Same t (formatSheet s image b) (formatSheet (slicesAfter xs s) image b′) = subst (λ (j : ℕ). Same j (formatSheet s image b) (formatSheet (slicesAfter xs s) image b′)) (sym (y .text)) same in
+    let all : Same t (formatSheet s image b) (formatSheet (slicesAfter xs s) image b′) = sheet-same s oct xs bytes image b b′ longer t e k w h in
     let again : formatSheet (slicesAfter xs s) image b′ .answer ≡ finished t e k 0 w = all .answer ∙ h in
     record {
       size = slices-sized xs bytes s oct;

@@ -26,8 +26,7 @@ abbrev pub SheetFiguresUnchanged : Type 0
 SheetFiguresUnchanged =
     (s : Bytes) → Octets s
     → (xs : List Addition) → AllInBytes xs
-    → (image : Bytes) → Octets image
-    → (b : Buffers) (t e k w : ℕ) → formatSheet s image b .answer ≡ finished t e k 0 w
+    → (image : Bytes) (b : Buffers) (t e k w : ℕ) → formatSheet s image b .answer ≡ finished t e k 0 w
     → FigureUnchanged (formatSheet s image) (formatSheet (slicesAfter xs s) image) (sheetHighestUse s image) (sheetHighestUse (slicesAfter xs s) image) b t w
 
 -- 16 is answered only where the workspace is shorter than the highest use

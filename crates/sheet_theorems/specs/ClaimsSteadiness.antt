@@ -18,7 +18,8 @@ pub record SheetUnchanged (s : Bytes) (xs : List Addition) (image : Bytes) (b b�
   pub size : length (slicesAfter xs s) ≡ length s
   -- and at each of its additions: "an accepted one has put its item after the others, a refused one has changed nothing"
   pub each : EachAdded s xs
-  -- "it too ends in success"; equal are "the error count, placeables begun and unfound", the text's length and the workspace figure
+  -- "it too ends in success"; equal are "the error count, placeables begun and unfound", the text's length and the workspace figure (document 02, Card 8: it
+  -- "joins what additions can't change")
   pub answer : formatSheet (slicesAfter xs s) image b′ .answer ≡ finished t e k 0 w
   -- "Equal are the bytes of text": up to its length
   pub text : take t (formatSheet (slicesAfter xs s) image b′ .buffers .text) ≡ take t (formatSheet s image b .buffers .text)

@@ -37,8 +37,8 @@ pub record FinishesAlike (t : ℕ) (x : Formatted) (b′ : Buffers) (y : Formatt
   pub list : y .buffers .list ≡ atFront (listOf (x .buffers .list)) (b′ .list)
   pub work : y .buffers .work ≡ zeros (b′ .work)
 
--- F and G are a formatting, or a sheet's, as the three buffers are lent; F finished in b with a text of t bytes and the figure w. Then G, in any buffers whose
--- text and list are as long:
+-- F and G say what a formatting, or a sheet, gives in the three buffers that are lent; F finished in b with a text of t bytes and the figure w. Then G, in any
+-- buffers whose text and list are as long:
 pub record Decides (F G : Buffers → Formatted) (b : Buffers) (t w : ℕ) : Type 0 where
   -- "A workspace of that length finishes alike", and so does a longer one
   pub enough : (b′ : Buffers) → AsLong b b′ → w ≤ length (b′ .work) → FinishesAlike t (F b) b′ (G b′)

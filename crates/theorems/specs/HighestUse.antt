@@ -40,7 +40,8 @@ unfoldable pub moved : List ℕ → ℕ → Workspace
 moved [] back = record { front = []; back = back }
 moved (k ∷ ks) back = record { front = ks; back = back + k }
 
--- what an effect of resolution makes of the workspace
+-- What an effect of resolution makes of the workspace. Which texts go there, and when each is freed, is in the trace (`capture` and `release` in
+-- crates/resolution/specs/Resolve.antt, with cases in Figures.antt there). No trace frees more than is at the back (`traces-empty`), so the difference is never cut off at 0.
 unfoldable pub workspaceAfter : Effect → Workspace → Workspace
 workspaceAfter (put b) w = record { front = longer (length b) (w .front); back = w .back }
 workspaceAfter (report e) w = w

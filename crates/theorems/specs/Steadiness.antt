@@ -99,7 +99,8 @@ pub record Unchanged (s : Bytes) (xs : List Addition) (id : Bytes) (a : Option B
   pub size : length (slicesAfter xs s) ≡ length s
   -- and at each of its additions: "an accepted one has put its item after the others, a refused one has changed nothing"
   pub each : EachAdded s xs
-  -- "it too ends in success"; equal are "the error count, placeables begun and unfound", the text's length and the workspace figure
+  -- "it too ends in success"; equal are "the error count, placeables begun and unfound", the text's length and the workspace figure (document 02, Card 8: it
+  -- "joins what additions can't change")
   pub answer : format (slicesAfter xs s) id a image b′ .answer ≡ finished t e k 0 w
   -- "Equal are the bytes of text": up to its length
   pub text : take t (format (slicesAfter xs s) id a image b′ .buffers .text) ≡ take t (format s id a image b .buffers .text)
