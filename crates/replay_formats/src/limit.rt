@@ -13,10 +13,11 @@ fn room() -> [u8; 131058] {
     [0xAA; 131058]
 }
 
-// The message `a = { $n }{ $n }`, in English, isolating.
+// The message `a = { $n }{ $n }`, in English, isolating. Its figure is 0, and that is the workspace that it is lent.
 fn formatted(args: &[u8], text: &mut [u8]) -> Answer {
     let mut list = [0xAAu8; 5];
     let mut work = [0xAAu8; 1];
+    let zero = 0usize;
     let has = false;
     format(
         b"\x00\x00\x00\x28\x01\x00\x01\x00\x01\x01\x00\x00\x00\x1E\x01\x00\x01\x01\x00\x01a\x01\x00\x00\x00\x0C\x00\x02\x02\x06\x00\x01n\x02\x06\x00\x01n\x00\x00",
@@ -26,7 +27,7 @@ fn formatted(args: &[u8], text: &mut [u8]) -> Answer {
         args,
         text,
         &mut list,
-        &mut work,
+        &mut work[zero..zero],
     )
 }
 
