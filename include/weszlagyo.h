@@ -145,18 +145,19 @@ uint8_t weszlagyo_format_sheet(const uint8_t *store, size_t store_length,
  * It follows from store, id, attribute and arguments (from store and sheet),
  * and not from the buffers. It is proved that, text and list being as long,
  *  - with work_length *used, or more, all is the same: the answer, the five
- *    numbers, and every byte of text and list; where *used is 0, work_length
- *    may be 0;
+ *    numbers, and every byte written to text and list; where *used is 0,
+ *    work_length may be 0;
  *  - with any work_length below *used the call is refused with 16;
  *  - where *unfound is 0, no calls of weszlagyo_add_resource and
  *    weszlagyo_add_function on the store, done or refused, change *used, as
  *    they change nothing else of the formatting.
  * So format once with a long workspace, keep *used, and lend that from then on.
  *
- * Another message, other arguments, and additions by
- * weszlagyo_add_resource_overriding may need a longer workspace. For a device
- * take the largest over the messages and arguments that it prints: one by one,
- * or *used of a sheet of them all. */
+ * Another message or attribute, other arguments, additions by
+ * weszlagyo_add_resource_overriding and, where *unfound is above 0, any
+ * additions may need a longer workspace. For a device take the largest over the
+ * messages and arguments that it prints: one by one, or *used of a sheet of them
+ * all. */
 
 #ifdef __cplusplus
 }

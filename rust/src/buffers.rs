@@ -32,9 +32,9 @@ pub(crate) fn lengthen(buffer: &mut Vec<u8>) {
 /// gives the same text, errors and figures, and that any shorter one is refused
 /// with [`Refusal::SHORT_WORKSPACE`]. Where `unfound` was 0, no plain additions to
 /// the bundle change the figure: then it can be kept for as long as nothing
-/// overriding is added. Another message, attribute or other arguments may need
-/// more: take the largest of all that the device prints, or the figure of a sheet
-/// of them, which is that.
+/// overriding is added; else any addition may change it. Another message,
+/// attribute or other arguments may need more: take the largest of all that the
+/// device prints, or the figure of a sheet of them, which is that.
 ///
 /// ```
 /// use weszlagyo::syntax::{message, select, variable, Pattern};
@@ -97,8 +97,8 @@ impl Buffers {
     /// refused with [`Refusal::SHORT_TEXT`], [`Refusal::SHORT_LIST`] or
     /// [`Refusal::SHORT_WORKSPACE`]; they can be used again afterwards.
     ///
-    /// A list has 5 bytes at least, with which no error is allowed. A workspace
-    /// may have none.
+    /// A list needs 5 bytes; with just those no error has room. A workspace may have
+    /// none.
     pub fn fixed(text: usize, list: usize, work: usize) -> Self {
         Self {
             is_fixed: true,

@@ -46,11 +46,11 @@ pub struct Figures {
     /// definition, 0 where no text went there.
     ///
     /// It is a function of the store, the id, the attribute and the arguments (of
-    /// the store and the sheet), and of no buffer. A workspace of just this length,
-    /// or a longer one, gives the same in every byte and number; a shorter one,
-    /// text and list being as long, [`Refusal::SHORT_WORKSPACE`]. Where `unfound`
-    /// is 0, no list of plain additions and functions changes it, as it changes
-    /// nothing else. So it is the workspace to choose, see
+    /// the store and the sheet), and of no buffer. With a text and a list at least
+    /// as long, a workspace of just this length, or a longer one, gives the same
+    /// text, list and numbers, and a shorter one [`Refusal::SHORT_WORKSPACE`].
+    /// Where `unfound` is 0, no list of plain additions and functions changes it,
+    /// as it changes nothing else. So it is the workspace to choose, see
     /// [`Buffers`](crate::Buffers#choosing-a-workspace).
     pub work: usize,
 }

@@ -1,5 +1,5 @@
 //! Formattings and sheets whose workspace figures were worked out by hand from
-//! document 01's words, with the working beside each.
+//! document 01's words, with the workings.
 
 mod formattings;
 mod sheets;

@@ -83,7 +83,7 @@ pub fn by_lengths(
         0 => new(random, counts),
         1 => {
             counts.damaged += u64::from(damaged);
-            function(&slice, random, counts)
+            some_function(&slice, random, counts)
         }
         _ => {
             let trees = case.bundle.items.iter().filter_map(|item| match item {
@@ -113,7 +113,7 @@ fn new(random: &mut Random, counts: &mut Counts) -> Result<(), String> {
     same("new's slice", ours.held()?, &theirs)
 }
 
-fn function(slice: &[u8], random: &mut Random, counts: &mut Counts) -> Result<(), String> {
+fn some_function(slice: &[u8], random: &mut Random, counts: &mut Counts) -> Result<(), String> {
     let ids = ["NUMBER", "F", "a", "zz", "Q", "", "-a", "a b", "é", "n9_-"];
     let long = "x".repeat(254 + random.below(3));
     let id = match random.one_in(10) {
@@ -121,13 +121,24 @@ fn function(slice: &[u8], random: &mut Random, counts: &mut Counts) -> Result<()
         false => *random.pick(&ids),
     };
     let code = *random.pick(&[1, 1, 1, 1, 0, 2, 255]);
-    let mut ours = Lent::with(slice, random);
-    let mut theirs = slice.to_vec();
-    let answer = operations::add_function(ours.slice(), id.as_bytes(), code);
-    let wanted = model::add_function(&mut theirs, id.as_bytes(), code);
+    function(Lent::with(slice, random), id.as_bytes(), code, counts).map(drop)
+}
+
+/// A function's addition to a lent slice: the model's answer and slice. Gives the
+/// slice.
+pub(crate) fn function(
+    mut ours: Lent,
+    id: &[u8],
+    code: u8,
+    counts: &mut Counts,
+) -> Result<Vec<u8>, String> {
+    let mut theirs = ours.slice().to_vec();
+    let answer = operations::add_function(ours.slice(), id, code);
+    let wanted = model::add_function(&mut theirs, id, code);
     counts.call(wanted.err().unwrap_or(0));
     same("add_function", answer.map_err(|r| r.number()), wanted)?;
-    same("add_function's slice", ours.held()?, &theirs)
+    same("add_function's slice", ours.held()?, &theirs)?;
+    Ok(theirs)
 }
 
 fn resource(
@@ -137,8 +148,8 @@ fn resource(
     counts: &mut Counts,
 ) -> Result<(), String> {
     let mut ours = Lent::with(slice, random);
-    let mut theirs = slice.to_vec();
     if random.one_in(3) {
+        let mut theirs = slice.to_vec();
         let answer = operations::add_resource_overriding(ours.slice(), image);
         let wanted = model::add_resource(&mut theirs, image, None).map(|_| ());
         counts.call(wanted.err().unwrap_or(0));
@@ -146,12 +157,24 @@ fn resource(
         return same("overriding's slice", ours.held()?, &theirs);
     }
     let length = *random.pick(&[0, 4, 5, 6, 12, 13, 19, 20, 21, 200]);
-    let mut list = Lent::new(length, random);
+    let list = Lent::new(length, random);
+    plain([ours, list], image, counts).map(drop)
+}
+
+/// A plain addition to a lent slice, with a lent list: the model's answer, slice
+/// and list. Gives the slice.
+pub(crate) fn plain(
+    [mut ours, mut list]: [Lent; 2],
+    image: &[u8],
+    counts: &mut Counts,
+) -> Result<Vec<u8>, String> {
+    let mut theirs = ours.slice().to_vec();
     let mut wanted_list = list.slice().to_vec();
     let answer = operations::add_resource(ours.slice(), image, list.slice());
     let wanted = model::add_resource(&mut theirs, image, Some(&mut wanted_list));
     counts.call(wanted.err().unwrap_or(0));
     same("add_resource", answer.map_err(|r| r.number()), wanted)?;
     same("add_resource's slice", ours.held()?, &theirs)?;
-    same("add_resource's list", list.held()?, &wanted_list)
+    same("add_resource's list", list.held()?, &wanted_list)?;
+    Ok(theirs)
 }

@@ -4,15 +4,15 @@
 
 mod asked;
 
+use crate::additions::{function, plain};
 use crate::{hurt, same, Counts, Lent};
 use asked::{Asked, Model};
 use harness::figures::{formattings, sheets};
 use harness::model::effects::Lengths;
-use harness::model::operations as model;
 use harness::plain::{addition, Addition};
 use harness::random::Random;
 use harness::{encode, generator, sheet_generator, Maker};
-use weszlagyo::operations::{self, Figures};
+use weszlagyo::operations::Figures;
 
 /// Compares everything on a formatting of a seed, or says what differs.
 pub fn compare_formatting(seed: u64, counts: &mut Counts) -> Result<(), String> {
@@ -42,7 +42,8 @@ fn of_some_figure(made: impl Iterator<Item = (Vec<u8>, Asked)>) -> Call {
     let mut last = None;
     for (store, asked) in made {
         let call = Call::new(store, asked);
-        let above = call.model.need().is_some_and(|(_, need)| need.workspace > 0);
+        let need = call.model.need();
+        let above = need.is_some_and(|(_, need)| need.workspace > 0);
         last = Some(call);
         if above {
             break;
@@ -142,6 +143,7 @@ impl Call {
         let first = self.finished(ample, random, counts)?;
         same("figures", first.figures, figures)?;
         same("the figure", first.figures.work, need.workspace)?;
+        self.model.placed(need.workspace)?;
         let exact = self.finished(longer(need, random), random, counts)?;
         same("a workspace of the figure", &exact, &first)?;
         let mut more = longer(need, random);
@@ -233,10 +235,13 @@ impl Call {
                         hurt(random, &mut image);
                     }
                     counts.damaged += u64::from(image != encode::resource(&tree));
-                    slice = resource(&slice, &image, list, random, counts)?;
+                    let list = any(list, random);
+                    let lent = [&slice, &list].map(|bytes| Lent::with(bytes, random));
+                    slice = plain(lent, &image, counts)?;
                 }
                 Addition::Function { id, code } => {
-                    slice = function(&slice, id.as_bytes(), code, random, counts)?;
+                    let lent = Lent::with(&slice, random);
+                    slice = function(lent, id.as_bytes(), code, counts)?;
                 }
             }
         }
@@ -290,43 +295,4 @@ fn any(length: usize, random: &mut Random) -> Vec<u8> {
 /// The length that a list states.
 fn length_of(list: &[u8]) -> usize {
     list[..4].iter().fold(0, |n, b| n << 8 | usize::from(*b))
-}
-
-/// A plain addition: the model's answer, slice and list. Gives the slice.
-fn resource(
-    slice: &[u8],
-    image: &[u8],
-    length: usize,
-    random: &mut Random,
-    counts: &mut Counts,
-) -> Result<Vec<u8>, String> {
-    let mut theirs = slice.to_vec();
-    let mut wanted_list = any(length, random);
-    let mut ours = Lent::with(slice, random);
-    let mut list = Lent::with(&wanted_list, random);
-    let answer = operations::add_resource(ours.slice(), image, list.slice());
-    let wanted = model::add_resource(&mut theirs, image, Some(&mut wanted_list));
-    counts.call(wanted.err().unwrap_or(0));
-    same("add_resource", answer.map_err(|r| r.number()), wanted)?;
-    same("add_resource's slice", ours.held()?, &theirs)?;
-    same("add_resource's list", list.held()?, &wanted_list)?;
-    Ok(theirs)
-}
-
-/// A function's addition: the model's answer and slice. Gives the slice.
-fn function(
-    slice: &[u8],
-    id: &[u8],
-    code: u8,
-    random: &mut Random,
-    counts: &mut Counts,
-) -> Result<Vec<u8>, String> {
-    let mut theirs = slice.to_vec();
-    let mut ours = Lent::with(slice, random);
-    let answer = operations::add_function(ours.slice(), id, code);
-    let wanted = model::add_function(&mut theirs, id, code);
-    counts.call(wanted.err().unwrap_or(0));
-    same("add_function", answer.map_err(|r| r.number()), wanted)?;
-    same("add_function's slice", ours.held()?, &theirs)?;
-    Ok(theirs)
 }

@@ -13,7 +13,7 @@ fn main() {
         match (word.as_str(), &root) {
             ("--seed", _) => seed = number(words.next()).unwrap_or_else(|| usage()),
             ("--cases", _) => cases = number(words.next()).unwrap_or_else(|| usage()) as usize,
-            (_, None) => root = Some(word),
+            (folder, None) if !folder.starts_with('-') => root = Some(word),
             _ => usage(),
         }
     }

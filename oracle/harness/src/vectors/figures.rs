@@ -10,6 +10,7 @@ use crate::case::{Bundle, Case, Item, Sheet};
 use crate::figures;
 use crate::model::effects::Lengths;
 use crate::model::reader;
+use crate::model::workspace::{self, formatting, Stopped};
 use crate::plain::{addition, Addition};
 use crate::random::Random;
 use crate::{
@@ -56,6 +57,15 @@ pub fn make(seed: u64, cases: usize) -> (File, File) {
     let longest = w.figures.longest().max(w.additions.longest());
     assert!(longest <= LONGEST, "a case of {longest} bytes");
     (w.figures, w.additions)
+}
+
+/// The second model, which places the bytes: a workspace of the figure is just
+/// enough for it, and one byte less is too short.
+fn placed(figure: usize, with: impl Fn(usize) -> Result<usize, Stopped>) {
+    assert_eq!(with(figure), Ok(figure));
+    if let Some(less) = figure.checked_sub(1) {
+        assert_eq!(with(less), Err(Stopped::Full));
+    }
 }
 
 impl Writer {
@@ -140,9 +150,9 @@ impl Writer {
     }
 
     /// The kind for a call after additions.
-    fn after(&self) -> Kind {
+    fn after(&self, figure: usize) -> Kind {
         match self.turn % 3 {
-            0 => Kind::Less,
+            0 if figure > 0 => Kind::Less,
             _ => Kind::Exact,
         }
     }
@@ -154,6 +164,8 @@ impl Writer {
             list: done.list.len(),
             workspace: done.highest,
         };
+        let resolution = e.prepared.as_ref().expect("it has effects");
+        placed(need.workspace, |length| formatting(resolution, length));
         let held = self.held(&case.bundle, &e.store);
         self.format_with(case, e, &held, need, kinds);
         if done.unfound == 0 {
@@ -165,7 +177,7 @@ impl Writer {
             let again = expected(&later).unwrap_or_else(|d| panic!("{later:?}: {d}"));
             assert_eq!(again.answer, e.answer, "additions change nothing");
             assert!(held.slice.starts_with(&again.store));
-            self.format_with(&later, &again, &held, need, &[self.after()]);
+            self.format_with(&later, &again, &held, need, &[self.after(need.workspace)]);
         }
     }
 
@@ -203,6 +215,9 @@ impl Writer {
             list: done.list.len(),
             workspace: done.figures.highest,
         };
+        placed(need.workspace, |length| {
+            workspace::sheet(&e.prepared, length).expect("it has effects")
+        });
         let held = self.held(&sheet.bundle, &e.store);
         self.sheet_with(e, &held, need, kinds);
         if done.figures.unfound == 0 {
@@ -214,7 +229,7 @@ impl Writer {
             let again = expected_sheet(&later).unwrap_or_else(|d| panic!("{later:?}: {d}"));
             assert_eq!(again.answer, e.answer, "additions change nothing");
             assert!(held.slice.starts_with(&again.store));
-            self.sheet_with(&again, &held, need, &[self.after()]);
+            self.sheet_with(&again, &held, need, &[self.after(need.workspace)]);
         }
     }
 

@@ -26,38 +26,23 @@ fn main() {
     if words.len() > 5 {
         usage();
     }
-    let count = words.first().copied().unwrap_or(1_000_000);
-    let first = words.get(1).copied().unwrap_or(1);
+    let word = |at: usize, usual: u64| words.get(at).copied().unwrap_or(usual);
     let processors = std::thread::available_parallelism().map_or(1, |n| n.get() as u64);
-    let threads = words.get(2).copied().unwrap_or(processors).max(1);
-    let sheets = words.get(3).copied().unwrap_or(count.div_ceil(10));
-    let figures = words.get(4).copied().unwrap_or(count.div_ceil(10));
-
+    let count = word(0, 1_000_000);
     let cases = Run {
         what: "cases",
         compare,
         count,
-        first,
-        threads,
+        first: word(1, 1),
+        threads: word(2, processors).max(1),
     };
-    let sheets = Run {
-        what: "sheets",
-        compare: compare_sheet,
-        count: sheets,
-        ..cases
-    };
-    let of_formattings = Run {
-        what: "formattings by their figures",
-        compare: figures::compare_formatting,
-        count: figures,
-        ..cases
-    };
-    let of_sheets = Run {
-        what: "sheets by their figures",
-        compare: figures::compare_sheet,
-        count: figures.div_ceil(2),
-        ..cases
-    };
+    let tenth = count.div_ceil(10);
+    let sheets = cases.of("sheets", compare_sheet, word(3, tenth));
+    let figures = word(4, tenth);
+    let what = "formattings by their figures";
+    let of_formattings = cases.of(what, figures::compare_formatting, figures);
+    let what = "sheets by their figures";
+    let of_sheets = cases.of(what, figures::compare_sheet, figures.div_ceil(2));
     let same = cases.run(Counts::default(), 0)
         & (sheets.count == 0 || sheets.with_fixed(sheets::fixed::all))
         & (figures == 0 || of_formattings.with_fixed(figures::by_hand))
@@ -68,13 +53,25 @@ fn main() {
 /// Seeds to be compared.
 struct Run {
     what: &'static str,
-    compare: fn(u64, &mut Counts) -> Result<(), String>,
+    compare: Compare,
     count: u64,
     first: u64,
     threads: u64,
 }
 
+type Compare = fn(u64, &mut Counts) -> Result<(), String>;
+
 impl Run {
+    /// As many seeds of something else.
+    fn of(&self, what: &'static str, compare: Compare, count: u64) -> Self {
+        Self {
+            what,
+            compare,
+            count,
+            ..*self
+        }
+    }
+
     /// Compares what is always the same, then the seeds.
     fn with_fixed(&self, fixed: fn(&mut Counts) -> Result<(), String>) -> bool {
         let (counts, answer) = std::thread::scope(|scope| {

@@ -1,12 +1,13 @@
 //! A formatting or a sheet: the crate's operation, and the model's.
 
-use crate::{formats, sheets};
+use crate::{formats, same, sheets};
 use harness::case::Case;
 use harness::encode;
 use harness::model::effects::Lengths;
 use harness::model::operations as model;
 use harness::model::resolve::Resolution;
 use harness::model::sheet::{self, Prepared};
+use harness::model::workspace::{self, Stopped};
 use weszlagyo::operations::{self, Figures};
 
 /// What is asked of a store.
@@ -103,5 +104,20 @@ impl Model {
             workspace: figures.work,
         };
         Some((figures, need))
+    }
+
+    /// The second model, which places the bytes: a workspace of the figure is just
+    /// enough for it, with the same figure, and one byte less is too short.
+    pub fn placed(&self, figure: usize) -> Result<(), String> {
+        let with = |length| match self {
+            Self::Message(Ok(resolution)) => Some(workspace::formatting(resolution, length)),
+            Self::Message(Err(_)) => None,
+            Self::Sheet(prepared) => workspace::sheet(prepared, length),
+        };
+        same("the places' figure", with(figure), Some(Ok(figure)))?;
+        match figure.checked_sub(1) {
+            Some(less) => same("the places", with(less), Some(Err(Stopped::Full))),
+            None => Ok(()),
+        }
     }
 }

@@ -20,7 +20,8 @@ Prints the sheet of a sighting in English, Danish, Russian and Welsh.
   --isolate         put isolation marks around what is filled in
   --figures         add the figures: placeables begun, ids unfound, errors, bytes of
                     text, and the bytes of workspace that are needed
-  --workspace BYTES lend a workspace of just so many bytes, in place of 65536
+  --workspace BYTES lend a workspace of just so many bytes, in place of 65536;
+                    at most 16777216
   --lines           a line for each message, its parts set apart by tabs:
                     language, message, begun, unfound, errors, text, each error
 

@@ -125,11 +125,12 @@ const HELP: &[u8] = b"; --help says how to use it";
 
 /// Says what an option needs.
 fn needs(word: &[u8], option: Valued) -> Failure {
-    let what: &[u8] = match option {
-        Valued::No => b" needs a field (species, count, calves, distance, leg or observer)",
-        Valued::Language => b" needs a language (en, da, ru or cy)",
-        Valued::Workspace => b" needs a number of bytes (0 to 16777216)",
-        _ => b" needs a value",
+    let bytes = format!("a number of bytes (0 to {MAX_WORKSPACE})");
+    let what = match option {
+        Valued::No => "a field (species, count, calves, distance, leg or observer)",
+        Valued::Language => "a language (en, da, ru or cy)",
+        Valued::Workspace => &bytes,
+        _ => "a value",
     };
-    Failure::line(&[word, what, HELP])
+    Failure::line(&[word, b" needs ", what.as_bytes(), HELP])
 }

@@ -112,19 +112,18 @@ impl Page<'_> {
         self.options.workspace.unwrap_or(ROOM)
     }
 
-    /// The failure that a refusal is; where the workspace that was asked for is too
-    /// short, with its length.
+    /// The failure that a refusal is; where the workspace is too short, with its
+    /// length, and how another is lent.
     fn failure(&self, refusal: Refusal) -> Failure {
-        match self.options.workspace {
-            Some(lent) if refusal == Refusal::SHORT_WORKSPACE => {
-                let words = match lent {
-                    1 => format!("{refusal}: 1 byte was lent"),
-                    _ => format!("{refusal}: {lent} bytes were lent"),
-                };
-                Failure::line(&[words.as_bytes()])
-            }
-            _ => refusal.into(),
+        if refusal != Refusal::SHORT_WORKSPACE {
+            return refusal.into();
         }
+        let words = match self.options.workspace {
+            None => format!("{refusal}: {ROOM} bytes were lent; --workspace lends another"),
+            Some(1) => format!("{refusal}: 1 byte was lent"),
+            Some(lent) => format!("{refusal}: {lent} bytes were lent"),
+        };
+        Failure::line(&[words.as_bytes()])
     }
 
     /// The first message of the sheet that the store has not, or not with a

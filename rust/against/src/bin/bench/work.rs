@@ -32,19 +32,10 @@ pub fn table() {
     head();
 
     let mut target = vec![0; store.len()];
-    let timed = |work: usize| {
-        let (mut text, mut list, mut work) = ([0; ROOM], [0; ROOM], vec![0; work]);
-        let (id, image) = (id.as_bytes(), &image);
-        Timed::new(move || {
-            let (text, list, work) = (&mut text, &mut list, &mut work);
-            let answer = operations::format(store, id, None, image, text, list, work);
-            black_box(answer.expect("formatted"));
-        })
-    };
     let mut buffers = Buffers::fixed(ROOM, ROOM, figure);
-    let [long, exact, fixed, check, theirs, copy] = race([
-        timed(workspace::LONG),
-        timed(figure),
+    let best = race([
+        timed(store, id, &image, workspace::LONG),
+        timed(store, id, &image, figure),
         Timed::new(|| {
             let answer = bundle.format_in(&mut buffers, id, None, Some(&args));
             black_box(answer.expect("formatted"));
@@ -55,19 +46,27 @@ pub fn table() {
         }),
         Timed::new(|| black_box(&mut target).copy_from_slice(black_box(store))),
     ]);
-    row(
-        "one message, a workspace of 65,536 bytes",
-        long,
-        theirs,
-        copy,
-    );
-    let name = format!("the same, a workspace of {figure} bytes");
-    row(&name, exact, theirs, copy);
-    row(
-        "the same, `format_in` with fixed buffers",
-        fixed,
-        theirs,
-        copy,
-    );
-    row("of which the store's check", check, theirs, copy);
+    rows(best, figure);
+}
+
+/// The operation, with a workspace of that length.
+fn timed<'a>(store: &'a [u8], id: &'a str, image: &'a [u8], work: usize) -> Timed<'a> {
+    let (mut text, mut list, mut work) = ([0; ROOM], [0; ROOM], vec![0; work]);
+    Timed::new(move || {
+        let (text, list, work) = (&mut text, &mut list, &mut work);
+        let answer = operations::format(store, id.as_bytes(), None, image, text, list, work);
+        black_box(answer.expect("formatted"));
+    })
+}
+
+fn rows([long, exact, fixed, check, theirs, copy]: [f64; 6], figure: usize) {
+    let exactly = format!("the same, a workspace of {figure} bytes");
+    for (name, ours) in [
+        ("one message, a workspace of 65,536 bytes", long),
+        (&exactly, exact),
+        ("the same, `format_in` with fixed buffers", fixed),
+        ("of which the store's check", check),
+    ] {
+        row(name, ours, theirs, copy);
+    }
 }
