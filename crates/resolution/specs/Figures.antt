@@ -36,8 +36,8 @@ unfoldable pub escaped : Bytes
 escaped = 92 ∷ ascii "u0041b"
 
 -- `-t(n: "\u0041b")`
-unfoldable pub told : Inline
-told = Inline.term (ascii "t") none (with-args no-inline ((ascii "n", Literal.string escaped) ∷ []))
+unfoldable pub escaped-term : Inline
+escaped-term = Inline.term (ascii "t") none (with-args no-inline ((ascii "n", Literal.string escaped) ∷ []))
 
 -- `… -> *[o] y`
 unfoldable pub either : Inline → Elements → Elements
@@ -65,17 +65,17 @@ pub record Figures : Type 0 where
   -- "whether that is then written, chosen by or passed on": ccc are gone when {F()} is written into b's text
   pub call-written : figure (either (ref "b") no-more) (a-message "b" (put (call "F" (and (ref "c") no-inline) []) no-more) ∷ three ∷ []) [] ≡ some 5
   -- "a term's when all its text is written": Ab, or bb, is alive while ttt is made, and a positional argument stays too
-  pub term-keeps : figure (either told no-more) (a-term "t" (say "ttt" no-more) ∷ []) [] ≡ some 5
+  pub term-keeps : figure (either escaped-term no-more) (a-term "t" (say "ttt" no-more) ∷ []) [] ≡ some 5
   pub positional : figure (either (Inline.term (ascii "t") none (with-args (and (ref "b") no-inline) [])) no-more) (a-term "t" (say "ttt" no-more) ∷ two ∷ []) [] ≡ some 5
   -- and no longer: ccc with {-t}, the text of a term that is missing, then {-t} with bb
   pub lost-term : figure (put (call "NUMBER" (and (Inline.term (ascii "t") none (with-args (and (ref "c") no-inline) [])) (and (ref "b") no-inline)) []) no-more) (two ∷ three ∷ []) [] ≡ some 7
   -- of a term that is written out: Ab with bb, which is made in it, then ccc
-  pub term-written : figure (put told (either (ref "c") no-more)) (a-term "t" (either (ref "b") no-more) ∷ two ∷ three ∷ []) [] ≡ some 4
+  pub term-written : figure (put escaped-term (either (ref "c") no-more)) (a-term "t" (either (ref "b") no-more) ∷ two ∷ three ∷ []) [] ≡ some 4
   -- "A string value is not copied": a selector that names a term's argument has that text, and frees nothing: Ab, then y
-  pub shared : figure (either told no-more) (a-term "t" (either (var "n") no-more) ∷ []) [] ≡ some 3
+  pub shared : figure (either escaped-term no-more) (a-term "t" (either (var "n") no-more) ∷ []) [] ≡ some 3
 
 pub figures : Figures
-unfolding computed figureOf figure two three escaped told either
+unfolding computed figureOf figure two three escaped escaped-term either
 figures = record {
   message = refl;
   argument = refl;
