@@ -143,7 +143,11 @@ impl Call {
         let first = self.finished(ample, random, counts)?;
         same("figures", first.figures, figures)?;
         same("the figure", first.figures.work, need.workspace)?;
-        self.model.placed(need.workspace)?;
+        same(
+            "the figure by places",
+            self.model.is_placed(need.workspace),
+            true,
+        )?;
         let exact = self.finished(longer(need, random), random, counts)?;
         same("a workspace of the figure", &exact, &first)?;
         let mut more = longer(need, random);

@@ -194,6 +194,13 @@ pub fn sheet(prepared: &Prepared, length: usize) -> Option<Result<usize, Stopped
     Some(Ok(figures.into_iter().max().unwrap_or(0)))
 }
 
+/// Whether a workspace of the figure is just enough: it gives that figure, and
+/// one byte less is too short.
+pub fn is_exact(figure: usize, with: impl Fn(usize) -> Result<usize, Stopped>) -> bool {
+    let less = figure.checked_sub(1);
+    with(figure) == Ok(figure) && less.is_none_or(|less| with(less) == Err(Stopped::Full))
+}
+
 /// A length that is enough for every message of a sheet.
 pub fn enough_for_sheet(prepared: &Prepared) -> usize {
     let messages = prepared.as_ref().map_or(&[][..], |messages| messages);

@@ -10,7 +10,7 @@ use crate::case::{Bundle, Case, Item, Sheet};
 use crate::figures;
 use crate::model::effects::Lengths;
 use crate::model::reader;
-use crate::model::workspace::{self, formatting, Stopped};
+use crate::model::workspace::{self, is_exact};
 use crate::plain::{addition, Addition};
 use crate::random::Random;
 use crate::{
@@ -57,15 +57,6 @@ pub fn make(seed: u64, cases: usize) -> (File, File) {
     let longest = w.figures.longest().max(w.additions.longest());
     assert!(longest <= LONGEST, "a case of {longest} bytes");
     (w.figures, w.additions)
-}
-
-/// The second model, which places the bytes: a workspace of the figure is just
-/// enough for it, and one byte less is too short.
-fn placed(figure: usize, with: impl Fn(usize) -> Result<usize, Stopped>) {
-    assert_eq!(with(figure), Ok(figure));
-    if let Some(less) = figure.checked_sub(1) {
-        assert_eq!(with(less), Err(Stopped::Full));
-    }
 }
 
 impl Writer {
@@ -165,7 +156,8 @@ impl Writer {
             workspace: done.highest,
         };
         let resolution = e.prepared.as_ref().expect("it has effects");
-        placed(need.workspace, |length| formatting(resolution, length));
+        let with = |length| workspace::formatting(resolution, length);
+        assert!(is_exact(need.workspace, with), "{case:?}");
         let held = self.held(&case.bundle, &e.store);
         self.format_with(case, e, &held, need, kinds);
         if done.unfound == 0 {
@@ -215,9 +207,8 @@ impl Writer {
             list: done.list.len(),
             workspace: done.figures.highest,
         };
-        placed(need.workspace, |length| {
-            workspace::sheet(&e.prepared, length).expect("it has effects")
-        });
+        let with = |length| workspace::sheet(&e.prepared, length).expect("it has effects");
+        assert!(is_exact(need.workspace, with), "{sheet:?}");
         let held = self.held(&sheet.bundle, &e.store);
         self.sheet_with(e, &held, need, kinds);
         if done.figures.unfound == 0 {

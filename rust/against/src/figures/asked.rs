@@ -1,6 +1,6 @@
 //! A formatting or a sheet: the crate's operation, and the model's.
 
-use crate::{formats, same, sheets};
+use crate::{formats, sheets};
 use harness::case::Case;
 use harness::encode;
 use harness::model::effects::Lengths;
@@ -106,18 +106,13 @@ impl Model {
         Some((figures, need))
     }
 
-    /// The second model, which places the bytes: a workspace of the figure is just
-    /// enough for it, with the same figure, and one byte less is too short.
-    pub fn placed(&self, figure: usize) -> Result<(), String> {
-        let with = |length| match self {
-            Self::Message(Ok(resolution)) => Some(workspace::formatting(resolution, length)),
-            Self::Message(Err(_)) => None,
-            Self::Sheet(prepared) => workspace::sheet(prepared, length),
-        };
-        same("the places' figure", with(figure), Some(Ok(figure)))?;
-        match figure.checked_sub(1) {
-            Some(less) => same("the places", with(less), Some(Err(Stopped::Full))),
-            None => Ok(()),
-        }
+    /// Whether the second model, which places the bytes, has this figure.
+    pub fn is_placed(&self, figure: usize) -> bool {
+        let none = Err(Stopped::Wrong("it has no effects"));
+        workspace::is_exact(figure, |length| match self {
+            Self::Message(Ok(resolution)) => workspace::formatting(resolution, length),
+            Self::Message(Err(_)) => none,
+            Self::Sheet(prepared) => workspace::sheet(prepared, length).unwrap_or(none),
+        })
     }
 }
