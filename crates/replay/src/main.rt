@@ -6,15 +6,15 @@ mod limit;
 mod number_cases;
 mod number_fields;
 
+use libc::STDOUT_FILENO;
 use vectors::Counts;
 use vectors::byte;
 use vectors::case_count;
+use vectors::count_at;
 use vectors::counted;
 use vectors::differs;
-use vectors::line;
 use vectors::next_case;
 use vectors::no_counts;
-use vectors::open;
 use vectors::part;
 use vectors::past;
 use vectors::past_string;
@@ -84,13 +84,20 @@ fn all_cases(fd: i32, counts: Counts, count: u64) -> Counts {
 }
 
 fn replayed(counts: Counts, name: &[u8]) -> Counts {
-    let fd = open(name);
+    let fd = os::open_read(name);
     if fd < 0 {
+        os::fail(name);
         return counts;
     }
     let r = all_cases(fd, counts, case_count(fd));
     libc::close(fd);
     r
+}
+
+// The count at a place, and words.
+fn line(counts: Counts, place: usize, words: &[u8]) {
+    io::print_decimal(STDOUT_FILENO, count_at(counts, place));
+    io::write_all(STDOUT_FILENO, words);
 }
 
 // A line of what is printed: the count at a place, with its words, and that of the differences.

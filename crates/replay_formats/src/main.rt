@@ -11,12 +11,11 @@ use libc::STDOUT_FILENO;
 use vectors::Counts;
 use vectors::byte;
 use vectors::case_count;
+use vectors::count_at;
 use vectors::counted;
 use vectors::differs;
-use vectors::line;
 use vectors::next_case;
 use vectors::no_counts;
-use vectors::open;
 use vectors::part;
 use vectors::past_string;
 use vectors::string;
@@ -85,6 +84,12 @@ fn all_cases(fd: i32, count: u64) -> Counts {
     r
 }
 
+// The count at a place, and words.
+fn line(c: Counts, place: usize, words: &[u8]) {
+    io::print_decimal(STDOUT_FILENO, count_at(c, place));
+    io::write_all(STDOUT_FILENO, words);
+}
+
 // The counts at the places from 1 to 10, each with its words, a Str.
 fn show(c: Counts, words: &[u8]) {
     let mut at = 0usize;
@@ -98,8 +103,9 @@ fn show(c: Counts, words: &[u8]) {
 
 // The last line stands only where a case differs.
 fn replay(name: &[u8], words: &[u8]) {
-    let fd = open(name);
+    let fd = os::open_read(name);
     if fd < 0 {
+        os::fail(name);
         return;
     }
     io::write_all(STDOUT_FILENO, name);

@@ -32,3 +32,11 @@ countedIf false c place by = c
 
 unfoldable pub countedAt : List ℕ → ℕ → ℕ → List ℕ
 countedAt c place by = countedIf (ltb place 128) c place by
+
+-- the count at a place; 0 past the last one
+unfoldable pub countIf : Bool → List ℕ → ℕ → ℕ
+countIf true c place = getD c place 0
+countIf false c place = 0
+
+unfoldable pub countAt : List ℕ → ℕ → ℕ
+countAt c place = countIf (ltb place 128) c place

@@ -1,19 +1,9 @@
-// Files of vectors: WVEC, version 1, u32 count of cases, and the cases, each after its u32 length; and the counts that are printed.
+// Files of vectors: WVEC, version 1, u32 count of cases, and the cases, each after its u32 length; and the counts of what was compared.
 use crate::fields::u32_at;
-use libc::STDOUT_FILENO;
 ghost use mathlib.Core.Path.{_≡_};
 ghost use Prim.Native.Nat.{_<_, _≤_};
 ghost use lib.ListN.{length};
-ghost use Rattle.vectors.specs.Lendings.{noCounts, countedAt};
-
-// A descriptor; below 0, and said so, where there is no such file.
-pub fn open(name: &[u8]) -> i32 {
-    let fd = os::open_read(name);
-    if fd < 0 {
-        os::fail(name);
-    }
-    fd
-}
+ghost use Rattle.vectors.specs.Lendings.{noCounts, countedAt, countAt};
 
 // How many cases the file has that starts here.
 pub fn case_count(fd: i32) -> u64
@@ -67,10 +57,12 @@ pub fn counted(c: Counts, place: usize, by: u64) -> Counts
     r
 }
 
-// The count at a place, and words.
-pub fn line(c: Counts, place: usize, words: &[u8]) {
+// The count at a place; 0 where there is no such place.
+pub fn count_at(c: Counts, place: usize) -> u64
+    ensures { λ r. ⌜ r ≡ countAt (c .n) place ⌝ }
+{
     if place < 128 {
-        io::print_decimal(STDOUT_FILENO, c.n[place]);
-        io::write_all(STDOUT_FILENO, words);
+        return c.n[place];
     }
+    0
 }
