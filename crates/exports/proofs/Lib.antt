@@ -2,3 +2,4 @@
 mod Told
 mod Finished
 pub mod Zero
+pub mod Nesting

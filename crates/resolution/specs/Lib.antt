@@ -7,3 +7,4 @@ pub mod Case
 pub mod Sentences
 pub mod Misreadings
 pub mod Figures
+pub mod CutShort

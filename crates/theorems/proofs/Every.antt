@@ -10,7 +10,7 @@ use Rattle.records.specs.Images.{Attribute, Entry, Item}
 use Rattle.records.specs.Valid.{All, IfAny}
 use Rattle.entries.specs.Lookup.{Holder, firstEntry, lastEntry, holderAfter, findFrom, firstNamed, findIn, partOf}
 use Rattle.records.specs.Optional.{orElse, optionOf}
-use Rattle.theorems.proofs.Leaves.{InEntry, InItem}
+use Rattle.theorems.specs.Leaves.{InEntry, InItem}
 
 pub all-left : {A : Type 0} (Ok : A → Type 0) (a b : List A) → All Ok (a ++ b) → All Ok a
 all-left Ok [] b h = tt
@@ -27,6 +27,10 @@ all-append Ok (x ∷ a) b h k = (h .0, all-append Ok a b (h .1) k)
 pub all-map : {A : Type 0} (Ok Ok′ : A → Type 0) → ((a : A) → Ok a → Ok′ a) → (l : List A) → All Ok l → All Ok′ l
 all-map Ok Ok′ f [] h = tt
 all-map Ok Ok′ f (x ∷ l) h = (f x (h .0), all-map Ok Ok′ f l (h .1))
+
+pub all-both : {A : Type 0} (Ok Ok′ Both : A → Type 0) → ((a : A) → Ok a → Ok′ a → Both a) → (l : List A) → All Ok l → All Ok′ l → All Both l
+all-both Ok Ok′ Both f [] h k = tt
+all-both Ok Ok′ Both f (x ∷ l) h k = (f x (h .0) (k .0), all-both Ok Ok′ Both f l (h .1) (k .1))
 
 pub either-any : {A : Type 0} (Ok : A → Type 0) (o p : Option A) → IfAny Ok o → IfAny Ok p → IfAny Ok (orElse o p)
 unfolding orElse
@@ -82,3 +86,20 @@ module _ (G : Pattern → Type 0) where
   -- and so of the part that a reference names
   pub in-part : (a : Option (List ℕ)) (e : Entry) (p : Pattern) → InEntry G e → partOf a e ≡ some p → G p
   in-part a e p h q = subst (IfAny G) q (in-any a e h)
+
+-- what follows of each pattern follows of all patterns of the items
+module _ (G G′ : Pattern → Type 0) (f : (p : Pattern) → G p → G′ p) where
+  any-map : (o : Option Pattern) → IfAny G o → IfAny G′ o
+  any-map none h = tt
+  any-map (some p) h = f p h
+
+  entry-map : (e : Entry) → InEntry G e → InEntry G′ e
+  entry-map e h = (any-map (e .value) (h .0), all-map (λ (a : Attribute). G (a .1)) (λ (a : Attribute). G′ (a .1)) (λ a k. f (a .1) k) (e .attributes) (h .1))
+
+  item-map : (x : Item) → InItem G x → InItem G′ x
+  item-map (Item.plain es) h = all-map (InEntry G) (InEntry G′) entry-map es h
+  item-map (Item.overriding es) h = all-map (InEntry G) (InEntry G′) entry-map es h
+  item-map (Item.function i) h = tt
+
+  pub items-map : (xs : List Item) → All (InItem G) xs → All (InItem G′) xs
+  items-map xs h = all-map (InItem G) (InItem G′) item-map xs h

@@ -1,11 +1,12 @@
 -- What is so of every finished formatting.
-use mathlib.Core.Path.{_≡_, refl, ap, _∙_}
+use mathlib.Core.Path.{_≡_, refl, ap, sym, _∙_}
 use mathlib.Core.List.{List}
 use mathlib.Core.Bool.{Bool, true, false}
 use mathlib.Core.Option.{Option, none, some}
 use Prim.Native.Nat.{ℕ, _≤_}
 use native.Mathlib.Omega.{arith}
-use lib.ListN.{length, drop, length-append, length-drop, length-replicate}
+use lib.ListN.{length, take, drop, length-append, length-drop, length-replicate}
+use lib.Seq.{take-at}
 use lib.Dec.{leb}
 use borrow.Author.Tests.{leb-true}
 use Rattle.records.specs.Got.{Got, got, bad}
@@ -18,7 +19,7 @@ use Rattle.resolution.specs.Effect.{Bytes}
 use Rattle.resolution.specs.Resolve.{Setting}
 use Rattle.resolution.specs.Exec.{Ran, ran, refused, start}
 use Rattle.resolution.specs.Format.{finished, Buffers, Formatted, limitsOf, zeros, refuse, orRefuse, ended, runPattern, formatWith, formatArguments, formatPart, formatEntry, formatStore, format}
-use Rattle.theorems.specs.Finished.{listOf, traceOf, settingOf, Finished, Sound, Sized}
+use Rattle.theorems.specs.Finished.{listOf, traceOf, settingOf, Finished, outOf, Sound, Sized}
 use Rattle.layout.specs.Exact.{Octets}
 use Rattle.layout.proofs.Theorems.{store-sound}
 use Rattle.theorems.proofs.Runs.{exec-tallied}
@@ -50,6 +51,15 @@ module _ (s id : Bytes) (a : Option Bytes) (image : Bytes) (b : Buffers) where
         errors = r;
         placeables = placeables st find (f .reached .part) (limitsOf b) (f .machine) (f .runs);
       }
+
+  -- its text, up to its length, is what resolution wrote
+  pub text-taken : (t e k u w : ℕ) (r : Sound s id a image b t e k u w) → take t (format s id a image b .buffers .text) ≡ outOf (r .parts) .text
+  unfolding atFront
+  text-taken t e k u w r =
+      let f : Finished s id a image b = r .parts in
+      let left = nothing-left (settingOf (f .reached .store) (f .reached .arguments)) (findIn (f .reached .store .items)) (f .reached .part) (limitsOf b) (f .machine) (f .runs) in
+      let size : length (outOf f .text) ≡ t = sym (r .says .text ∙ ap length (left .0)) in
+      ap (take t) (r .text) ∙ take-at (outOf f .text) _ t size
 
   -- no more than 20 million of its lookups find nothing
   pub few-unfound : Octets s → (t e k u w : ℕ) → format s id a image b .answer ≡ finished t e k u w → u ≤ 20000000

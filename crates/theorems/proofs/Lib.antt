@@ -23,11 +23,11 @@ pub mod Formattings
 pub mod Refusals
 pub mod Steadiness
 pub mod Figures
-pub mod Leaves
 pub mod Every
 pub mod Ascii
 pub mod Valid
 pub mod WalkLeaves
 pub mod Written
+pub mod Resolves
 pub mod ReadBack
 pub mod Unlimited

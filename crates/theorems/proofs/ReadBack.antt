@@ -6,53 +6,42 @@ use mathlib.Core.Option.{Option, none, some}
 use Prim.Native.Nat.{ℕ, _≤_, _<_, min}
 use native.Mathlib.Omega.{arith}
 use lib.ListN.{length, take}
-use lib.Seq.{take-at}
 use lib.Dec.{ltb, leb, eqb}
 use borrow.Author.Tests.{eqb-true, eq-eqb, leb-true, leb-false, lt-ltb}
 use Rattle.decimals.specs.Bytes.{run}
-use Rattle.rules.specs.Rules.{idStep, isId, utf8First, utf8Low, utf8High, utf8Rest, utf8Step, isUtf8, escapeStep, isText, isString}
-use Rattle.numbers.specs.Value.{Value}
+use Rattle.rules.specs.Rules.{utf8First, utf8Low, utf8High, utf8Rest, utf8Step, isUtf8, escapeStep, isText, isString}
 use Rattle.decimals.proofs.Run.{run-append}
+use Rattle.unescape.specs.Unescape.{unescape}
 use Rattle.unescape.proofs.WellFormed.{unescape-utf8}
 use Rattle.records.specs.Tree.{Pattern}
 use Rattle.records.specs.Images.{Entry, Store, Argument}
-use Rattle.records.specs.Errors.{Error, Referred, reference, noValue, missingDefault, cyclic, tooManyPlaceables, encErrors}
-use Rattle.records.specs.Valid.{All, IfAny, ValidId, ValidEntryPattern, ValidArgument, ValidNamedArgument, ValidArgumentsImage, ValidStore}
+use Rattle.records.specs.Errors.{Error, encErrors}
+use Rattle.records.specs.Valid.{All, ValidArgument, ValidNamedArgument, ValidArgumentsImage, ValidStore}
 use Rattle.texts.specs.ErrorList.{errorsOf, Recordable, Listable, Brief}
 use Rattle.texts.proofs.ErrorList.{recordable, errors-read}
 use Rattle.layout.specs.Exact.{Octets}
 use Rattle.layout.proofs.Octets.{and-right}
 use Rattle.layout.proofs.Theorems.{store-sound, arguments-sound}
-use Rattle.entries.specs.Lookup.{Holder, findIn, partOf}
-use Rattle.growth.specs.Items.{atFront}
+use Rattle.entries.specs.Lookup.{findIn, partOf}
 use Rattle.resolution.specs.Effect.{Bytes}
 use Rattle.resolution.specs.Resolve.{fsi, pdi, bytesOf, asMessage, resolve}
 use Rattle.resolution.specs.Exec.{Machine}
 use Rattle.resolution.specs.Format.{finished, Buffers, limitsOf, valueOf, valuesOf, maxPatterns, fresh, format}
 use Rattle.theorems.specs.Finished.{reports, tooManyIn, Placeables, settingOf, Finished, Sound, outOf}
 use Rattle.theorems.specs.Written.{TextWellFormed, ReadBack, ListReadBack, PlaceablesListed, AllPlaceablesListed}
-use Rattle.theorems.proofs.Held.{message-held, term-held}
-use Rattle.theorems.proofs.Whole.{nothing-left}
 use Rattle.theorems.proofs.Within.{within}
-use Rattle.theorems.proofs.Formattings.{sound}
-use Rattle.theorems.proofs.Leaves.{Leaf, leavesOf, ValidLeaf}
-use Rattle.theorems.proofs.Every.{all-map, in-found, in-part}
+use Rattle.theorems.proofs.Formattings.{sound, text-taken}
+use Rattle.theorems.specs.Leaves.{Leaf}
+use Rattle.theorems.proofs.Every.{all-map}
 use Rattle.theorems.proofs.Ascii.{Ascii}
-use Rattle.theorems.proofs.Valid.{leaves-valid, valid-ascii, valid-any-ascii, store-patterns}
-use Rattle.theorems.proofs.WalkLeaves.{Any, GoodLeaf, Fine, FineNamed, kResolve}
-use Rattle.theorems.proofs.Written.{Joins, Good, Goods, goods-closed, goods-look}
+use Rattle.theorems.proofs.Valid.{ValidLeaf, store-leaves}
+use Rattle.theorems.proofs.WalkLeaves.{Any, Fine, FineNamed}
+use Rattle.theorems.proofs.Written.{Joins, Good}
+use Rattle.theorems.proofs.Resolves.{Keeps, values-fine, resolves}
 
 -- well-formed texts
 abbrev pub Utf8 : Bytes → Type 0
 Utf8 t = isUtf8 t ≡ true
-
-text-utf8 : (t : Bytes) → isText t ≡ true → Utf8 t
-unfolding isText
-text-utf8 t h = and-right (ltb 0 (length t)) (isUtf8 t) h
-
-string-utf8 : (t : Bytes) → isString t ≡ true → Utf8 t
-unfolding isString
-string-utf8 t h = and-right (eqb (run escapeStep 0 t) 0) (isUtf8 t) h
 
 ascii-run : (t : Bytes) → Ascii t → run utf8Step 0 t ≡ 0
 unfolding run utf8Step utf8First
@@ -69,71 +58,36 @@ utf8-append a b h k = eq-eqb _ _ (run-append utf8Step 0 a b ∙ ap (λ (q : ℕ)
 
 utf8-joins : Joins Utf8
 unfolding isUtf8 run utf8Step utf8First utf8Low utf8High utf8Rest fsi pdi
-utf8-joins = record { none = refl; both = utf8-append; opens = refl; closes = refl }
+utf8-joins = record { none = refl; both = utf8-append; isolated = λ a h. utf8-append fsi (a ++ pdi) refl (utf8-append a pdi h refl) }
 
--- errors whose Ids are Ids
-id-brief : (i : Bytes) → ValidId i → length i ≤ 255
-unfolding isId
-id-brief i h = leb-true _ _ (and-right (eqb (run idStep 0 i) 1) (leb (length i) 255) (h .1))
+-- a valid text, and what a valid literal reads as
+pub text-utf8 : (t : Bytes) → ValidLeaf (Leaf.text t) → Utf8 t
+unfolding isText
+text-utf8 t h = and-right (ltb 0 (length t)) (isUtf8 t) (h .1)
 
-reference-brief : (k : Referred) (i : Bytes) (a : Option Bytes) → ValidId i → IfAny ValidId a → Brief (reference k i a)
-unfolding Brief
-reference-brief k i none h g = id-brief i h
-reference-brief k i (some a) h g = (id-brief i h, id-brief a g)
+pub string-utf8 : (s : Bytes) → ValidLeaf (Leaf.string s) → Utf8 (unescape s)
+unfolding isString
+string-utf8 s h = unescape-utf8 s (and-right (eqb (run escapeStep 0 s) 0) (isUtf8 s) (h .1))
 
-no-value-brief : (i : Bytes) → ValidId i → Brief (noValue i)
-unfolding Brief
-no-value-brief i h = id-brief i h
-
-plain-brief : Brief missingDefault × Brief cyclic × Brief tooManyPlaceables
-unfolding Brief
-plain-brief = (tt, tt, tt)
-
-module _ (v : Store) (valid : ValidStore v) where
-  found-valid : (i : Bytes) (a : Option Bytes) (e : Entry) (q : Pattern) → findIn (v .items) i ≡ some (Holder.entry e) → partOf a e ≡ some q → ValidEntryPattern q
-  found-valid i a e q h k = in-part ValidEntryPattern a e q (in-found ValidEntryPattern (v .items) (store-patterns v valid) i e h) k
-
-  module _ (l : List (Bytes × Value)) where
-    abbrev Leafy : Leaf → Type 0
-    Leafy x = GoodLeaf Utf8 Brief l (findIn (v .items)) ValidEntryPattern x
-
-    leaf-good : (x : Leaf) → ValidLeaf x → Leafy x
-    leaf-good (Leaf.text t) h = text-utf8 t (h .1)
-    leaf-good (Leaf.string s) h = unescape-utf8 s (string-utf8 s (h .1))
-    leaf-good (Leaf.variable i) h = (valid-ascii i h, λ e. reference-brief Referred.variable i none h tt)
-    leaf-good (Leaf.function i) h = (valid-ascii i h, reference-brief Referred.function i none h tt)
-    leaf-good (Leaf.message i a) h =
-        (valid-ascii i (h .0), valid-any-ascii a (h .1), reference-brief Referred.message i a (h .0) (h .1), no-value-brief i (h .0), λ e q f k. found-valid i a e q (message-held _ e f) k)
-    leaf-good (Leaf.term i a) h =
-        (valid-ascii i (h .0), valid-any-ascii a (h .1), reference-brief Referred.term i a (h .0) (h .1), λ e q f k. found-valid i a e q (term-held _ e f) k)
-
-    pattern-good : (q : Pattern) → ValidEntryPattern q → All Leafy (leavesOf q)
-    pattern-good q h = all-map ValidLeaf Leafy leaf-good (leavesOf q) (leaves-valid q h)
+pub utf8-keeps : Keeps Utf8 ValidLeaf
+utf8-keeps = record { joins = utf8-joins; ascii = ascii-utf8; texts = λ t h k. text-utf8 t h; strings = λ s h k. string-utf8 s h }
 
 -- string arguments
-value-fine : (x : Argument) → ValidArgument x → Fine Utf8 (valueOf x)
-unfolding valueOf ValidArgument
-value-fine (Argument.string t) h = h .1
-value-fine (Argument.number f d k) h = tt
-value-fine Argument.nothing h = tt
+value-fine : (e : Bytes × Argument) → ValidNamedArgument e → Fine Utf8 (valueOf (e .1))
+unfolding valueOf ValidNamedArgument ValidArgument
+value-fine (i, Argument.string t) h = h .1 .1
+value-fine (i, Argument.number f d k) h = tt
+value-fine (i, Argument.nothing) h = tt
 
-values-fine : (l : List (Bytes × Argument)) → All ValidNamedArgument l → All (FineNamed Utf8) (valuesOf l)
-unfolding valuesOf ValidNamedArgument
-values-fine [] h = tt
-values-fine (e ∷ l) h = (value-fine (e .1) (h .0 .1), values-fine l (h .1))
-
-image-fine : (l : List (Bytes × Argument)) → ValidArgumentsImage l → All (FineNamed Utf8) (valuesOf l)
+pub image-fine : (l : List (Bytes × Argument)) → ValidArgumentsImage l → All (FineNamed Utf8) (valuesOf l)
 unfolding ValidArgumentsImage
-image-fine l h = values-fine l (h .0 .0)
+image-fine l h = values-fine Utf8 ValidNamedArgument value-fine l (h .0 .0)
 
 -- what resolution writes and reports in a valid bundle, given valid arguments
 pub resolves-good : (v : Store) → ValidStore v → (l : List (Bytes × Argument)) → ValidArgumentsImage l
     → (id : Bytes) (a : Option Bytes) (e : Entry) (p : Pattern) → asMessage (findIn (v .items) id) ≡ some e → partOf a e ≡ some p
     → Good Utf8 Brief Any (resolve (settingOf v l) (findIn (v .items)) maxPatterns p (bytesOf p ∷ []) fresh)
-unfolding fresh
-resolves-good v valid l vl id a e p f k =
-    kResolve Utf8 Brief (Goods Utf8 Brief) (goods-closed Utf8 Brief utf8-joins (plain-brief .2)) ascii-utf8 (plain-brief .1) (plain-brief .0) (valuesOf l) (image-fine l vl) (findIn (v .items)) ValidEntryPattern (goods-look Utf8 Brief utf8-joins (plain-brief .2) (findIn (v .items)))
-    (pattern-good v valid (valuesOf l)) (v .locale) (v .isolating) maxPatterns p (found-valid v valid id a e p (message-held _ e f) k) (bytesOf p ∷ []) fresh tt
+resolves-good v valid l vl id a e p f k = resolves Utf8 ValidLeaf utf8-keeps v valid (store-leaves v valid) l (image-fine l vl) id a e p f k
 
 -- where TooManyPlaceables is listed, a 101st was begun
 pub begun-over : (m : Machine) → Placeables m → 0 < tooManyIn (m .errors) → m .begun ≡ 101
@@ -149,15 +103,9 @@ module _ (s : Bytes) (os : Octets s) (id : Bytes) (a : Option Bytes) (image : By
 
   module _ (t e k u w : ℕ) (h : format s id a image b .answer ≡ finished t e k u w) where
     utf8-finished : Utf8 (take t (format s id a image b .buffers .text))
-    unfolding atFront
     utf8-finished =
         let r : Sound s id a image b t e k u w = sound s id a image b t e k u w h in
-        let f : Finished s id a image b = r .parts in
-        let x : Bytes = outOf f .text in
-        let left = nothing-left (settingOf (f .reached .store) (f .reached .arguments)) (findIn (f .reached .store .items)) (f .reached .part) (limitsOf b) (f .machine) (f .runs) in
-        let size : length x ≡ t = sym (r .says .text ∙ ap length (left .0)) in
-        let same : take t (format s id a image b .buffers .text) ≡ x = ap (take t) (r .text) ∙ take-at x _ t size in
-        subst Utf8 (sym same) (parts-good f .text)
+        subst Utf8 (sym (text-taken s id a image b t e k u w r)) (parts-good (r .parts) .text)
 
     -- the errors reported fit their records and their list
     listable : (f : Finished s id a image b) → f .machine .errors ≡ reports (outOf f .trace) → Listable (reports (outOf f .trace))

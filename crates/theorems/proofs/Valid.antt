@@ -3,12 +3,22 @@ use mathlib.Core.List.{List, [], _∷_}
 use mathlib.Core.Option.{Option, none, some}
 use Prim.Native.Nat.{ℕ, zero, suc}
 use Rattle.records.specs.Tree.{Literal, Named, Pattern, pattern, Elements, no-more, more, Element, text, placeable, Expression, inline, select, Inline, variable, nested, Arguments, without, with-args, Inlines, no-inline, and, Variants, no-variant, or, Variant, variant}
+use Rattle.rules.specs.Rules.{isText, isString}
 use Rattle.records.specs.Images.{Attribute, Entry, Item, Store}
 use Rattle.records.specs.Decode.{maxDepth}
-use Rattle.records.specs.Valid.{All, IfAny, ValidId, ValidLiteral, ValidNamed, ValidElement, ValidElements, PatternOver, ValidVariant, ValidVariants, ValidInlines, ValidArguments, InlineOver, ExpressionOver, ValidExpression, ValidInline, ValidPattern, ValidEntryPattern, ValidAttribute, ValidEntry, ValidResource, ValidItem, ValidStore}
-use Rattle.theorems.proofs.Leaves.{literalLeaves, namedLeaves, leavesOf, elementsLeaves, elementLeaves, expressionLeaves, inlineLeaves, argumentsLeaves, inlinesLeaves, variantsLeaves, variantLeaves, InEntry, InItem, ValidLeaf}
-use Rattle.theorems.proofs.Every.{all-append, all-map}
+use Rattle.records.specs.Valid.{All, IfAny, Ruled, ValidId, ValidLiteral, ValidNamed, ValidElement, ValidElements, PatternOver, ValidVariant, ValidVariants, ValidInlines, ValidArguments, InlineOver, ExpressionOver, ValidExpression, ValidInline, ValidPattern, ValidEntryPattern, ValidAttribute, ValidEntry, ValidResource, ValidItem, ValidStore}
+use Rattle.theorems.specs.Leaves.{Leaf, literalLeaves, namedLeaves, leavesOf, elementsLeaves, elementLeaves, expressionLeaves, inlineLeaves, argumentsLeaves, inlinesLeaves, variantsLeaves, variantLeaves, InEntry, InItem, InItems, InLeaves}
+use Rattle.theorems.proofs.Every.{all-append, all-map, items-map}
 use Rattle.theorems.proofs.Ascii.{Ascii, id-ascii}
+
+-- what a valid pattern has at its leaves
+abbrev pub ValidLeaf : Leaf → Type 0
+ValidLeaf (Leaf.text t) = Ruled isText t
+ValidLeaf (Leaf.string s) = Ruled isString s
+ValidLeaf (Leaf.variable i) = ValidId i
+ValidLeaf (Leaf.function i) = ValidId i
+ValidLeaf (Leaf.message i a) = ValidId i × IfAny ValidId a
+ValidLeaf (Leaf.term i a) = ValidId i × IfAny ValidId a
 
 abbrev Deep : ℕ → Expression → Type 0
 Deep d y = ValidExpression d y
@@ -106,3 +116,7 @@ item-patterns (Item.function i) h = tt
 pub store-patterns : (v : Store) → ValidStore v → All (InItem ValidEntryPattern) (v .items)
 unfolding ValidStore
 store-patterns v h = all-map ValidItem (InItem ValidEntryPattern) item-patterns (v .items) (h .1)
+
+-- and so is every leaf of all of them
+pub store-leaves : (v : Store) → ValidStore v → InItems ValidLeaf (v .items)
+store-leaves v h = items-map ValidEntryPattern (InLeaves ValidLeaf) leaves-valid (v .items) (store-patterns v h)

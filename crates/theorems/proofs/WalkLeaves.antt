@@ -19,7 +19,7 @@ use Rattle.records.specs.Optional.{orElse, optionOf}
 use Rattle.resolution.specs.Effect.{Bytes, report, merged, Locals, M, Done, ret, _>>=_, _>>_, emit, write, isDirty, getLocals, setLocals, onlyIf, entered, capture, release}
 use Rattle.resolution.specs.Resolve.{Setting, Trail, Given, dotted, errorText, errorOf, braced, bare, fsi, pdi, mark, cutShort, held, stringIf, stringValue, literalValue, namedValues, writeRefError, lookUp, asMessage, asTerm, trackIf, track, onPart, missingPart, messageFound, termFound, writeMessage, writeTerm, pushed, noteIf, noteOne, noteMerges, mergesOf, call, callFunction, writeResult, orWrong, foundOr, variableIn, getVariable, writeVariable, writePattern, writeElements, writeElement, writeExpression, writeNth, writeVariant, writeInline, resolveInline, termArguments, getArguments, resolve}
 use Rattle.records.specs.Names.{lastNamed}
-use Rattle.theorems.proofs.Leaves.{Leaf, literalLeaves, namedLeaves, leavesOf, elementsLeaves, elementLeaves, expressionLeaves, inlineLeaves, argumentsLeaves, inlinesLeaves, variantsLeaves, variantLeaves}
+use Rattle.theorems.specs.Leaves.{Leaf, literalLeaves, namedLeaves, leavesOf, elementsLeaves, elementLeaves, expressionLeaves, inlineLeaves, argumentsLeaves, inlinesLeaves, variantsLeaves, variantLeaves}
 use Rattle.theorems.proofs.Every.{all-left, all-right}
 use Rattle.unescape.proofs.Reading.{unescape-plain}
 use Rattle.theorems.proofs.Ascii.{Ascii, ascii-append, number-ascii}

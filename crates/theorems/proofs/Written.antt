@@ -1,5 +1,5 @@
 -- What every text that resolution writes and every error that it reports are, where joining texts keeps it.
-use mathlib.Core.Path.{_≡_, refl, sym}
+use mathlib.Core.Path.{_≡_, refl, ap, sym, subst}
 use mathlib.Core.List.{[], _∷_, _++_, append-assoc}
 use mathlib.Core.Bool.{Bool, true, false}
 use mathlib.Core.Option.{Option, none, some}
@@ -7,7 +7,7 @@ use lib.Dec.{ltb}
 use Rattle.records.specs.Errors.{Error, tooManyPlaceables}
 use Rattle.records.specs.Valid.{All}
 use Rattle.entries.specs.Lookup.{Holder, Find}
-use Rattle.resolution.specs.Effect.{Bytes, Trace, keep-text, free, expand, State, Out, M, Done, ret, _>>=_, _>>_, emit, write, isDirty, getLocals, setLocals, maxPlaceables, enterIf, enter, onlyIf, entered, capture, release}
+use Rattle.resolution.specs.Effect.{Bytes, put, Trace, keep-text, free, expand, State, Out, M, Done, ret, _>>=_, _>>_, emit, write, isDirty, getLocals, setLocals, maxPlaceables, enterIf, enter, onlyIf, entered, capture, release}
 use Rattle.resolution.specs.Resolve.{fsi, pdi, mark, lookFor, lookUp}
 use Rattle.theorems.specs.Finished.{reported, reports}
 use Rattle.theorems.proofs.Every.{all-append}
@@ -17,12 +17,11 @@ pub reports-append : (a b : Trace) → reports (a ++ b) ≡ reports a ++ reports
 reports-append [] b = refl
 reports-append (e ∷ a) b = rw (reports-append a b) (sym (append-assoc (reported e) (reports a) (reports b)))
 
--- what is asked of texts: nothing written will do, two that do make one that does, and the isolation marks do
+-- what is asked of texts: nothing written will do, two that do make one that does, and so do the isolation marks with one between them
 pub record Joins (T : Bytes → Type 0) : Type 0 where
   pub none : T []
   pub both : (a b : Bytes) → T a → T b → T (a ++ b)
-  pub opens : T fsi
-  pub closes : T pdi
+  pub isolated : (a : Bytes) → T a → T (fsi ++ (a ++ pdi))
 
 module _ (T : Bytes → Type 0) (E : Error → Type 0) where
   -- an action's text, its reports, its value and the term's arguments after it
@@ -60,11 +59,6 @@ module _ (T : Bytes → Type 0) (E : Error → Type 0) where
     unfolding _>>_
     next h k = bind h (λ a q. k)
 
-    marked : (c : Bool) (t : Bytes) → T t → Goods Done Any (mark c t)
-    unfolding mark write ret
-    marked true t h s l = record { text = h; listed = tt; value = tt; locals = l }
-    marked false t h s l = record { text = j .none; listed = tt; value = tt; locals = l }
-
     expanded : Goods Done Any (emit expand)
     unfolding emit
     expanded s l = record { text = j .none; listed = tt; value = tt; locals = l }
@@ -84,9 +78,24 @@ module _ (T : Bytes → Type 0) (E : Error → Type 0) where
     only-if true h = h
     only-if false h = quiet tt tt
 
+    -- a placeable that is expanded: the marks, if it has them, about what its expression and the cut write
+    inside : (c : Bool) {x y : M Done} → Goods Done Any x → Goods Done Any y → Goods Done Any (mark c fsi >> (emit expand >> (x >> (y >> mark c pdi))))
+    unfolding mark write ret emit _>>=_ _>>_
+    inside false h k s l = next (quiet tt tt) (next expanded (next h (next k (quiet tt tt)))) s l
+    inside true {x} {y} h k s l =
+        let r : Good Any (x s) = h s l in
+        let q : Good Any (y (x s .state)) = k (x s .state) (r .locals) in
+        let between : Bytes = x s .text ++ y (x s .state) .text in
+        record {
+          text = subst T (ap (λ (t : Bytes). fsi ++ t) (append-assoc (x s .text) (y (x s .state) .text) pdi)) (j .isolated between (j .both (x s .text) (y (x s .state) .text) (r .text) (q .text)));
+          listed = joined (x s .trace) _ (r .listed) (joined (y (x s .state) .trace) (put pdi ∷ []) (q .listed) tt);
+          value = tt;
+          locals = q .locals;
+        }
+
     placeable : (c : Bool) {x y : M Done} → Goods Done Any x → Goods Done Any y → Goods Done Any (entered (mark c fsi) (x >> (y >> mark c pdi)))
     unfolding entered
-    placeable c h k = bind enters (λ go q. only-if go (next (marked c fsi (j .opens)) (next expanded (next h (next k (marked c pdi (j .closes)))))))
+    placeable c h k = bind enters (λ go q. only-if go (inside c h k))
 
     captured : {m : M Done} → Goods Done Any m → Goods Bytes T (capture m)
     unfolding capture

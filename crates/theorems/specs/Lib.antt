@@ -4,3 +4,4 @@ pub mod Written
 pub mod Unlimited
 pub mod HighestUse
 pub mod Figures
+pub mod Leaves

@@ -1,11 +1,10 @@
 -- What stands in a pattern, in all its elements, variants, selectors and arguments: its texts, string literals, variables, functions called, and
--- references.
+-- references; and what it is for something to hold of every pattern of a bundle, whether it is found there or not.
 use mathlib.Core.List.{List, [], _∷_, _++_}
 use mathlib.Core.Option.{Option}
 use Prim.Native.Nat.{ℕ}
 use Rattle.records.specs.Tree.{Literal, Named, Pattern, pattern, Elements, no-more, more, Element, placeable, Expression, inline, select, Inline, nested, Arguments, without, with-args, Inlines, no-inline, and, Variants, no-variant, or, Variant, variant}
-use Rattle.rules.specs.Rules.{isText, isString}
-use Rattle.records.specs.Valid.{All, IfAny, Ruled, ValidId}
+use Rattle.records.specs.Valid.{All, IfAny}
 use Rattle.records.specs.Images.{Attribute, Entry, Item}
 
 pub data Leaf : Type 0 where
@@ -71,11 +70,10 @@ InItem G (Item.plain es) = All (InEntry G) es
 InItem G (Item.overriding es) = All (InEntry G) es
 InItem G (Item.function i) = Unit {0}
 
--- what a valid pattern has at its leaves
-abbrev pub ValidLeaf : Leaf → Type 0
-ValidLeaf (Leaf.text t) = Ruled isText t
-ValidLeaf (Leaf.string s) = Ruled isString s
-ValidLeaf (Leaf.variable i) = ValidId i
-ValidLeaf (Leaf.function i) = ValidId i
-ValidLeaf (Leaf.message i a) = ValidId i × IfAny ValidId a
-ValidLeaf (Leaf.term i a) = ValidId i × IfAny ValidId a
+-- of every leaf of a pattern
+abbrev pub InLeaves : (Leaf → Type 0) → Pattern → Type 0
+InLeaves U p = All U (leavesOf p)
+
+-- of every leaf of every pattern of all items of a bundle, whether or not an id leads there
+abbrev pub InItems : (Leaf → Type 0) → List Item → Type 0
+InItems U xs = All (InItem (InLeaves U)) xs

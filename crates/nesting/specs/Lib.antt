@@ -1,0 +1,3 @@
+pub mod Marks
+pub mod Claims
+pub mod Cases
