@@ -159,6 +159,24 @@ uint8_t weszlagyo_format_sheet(const uint8_t *store, size_t store_length,
  * messages and arguments that it prints: one by one, or *used of a sheet of them
  * all. */
 
+/* Isolation marks.
+ *
+ * A bundle that isolates sets what is filled in between U+2068 (E2 81 A8) and
+ * U+2069 (E2 81 A9), so that a name in another script does not turn the
+ * sentence around it. It is proved that they nest. Where no text element of the
+ * store's resources (the entries that nothing finds included), no string
+ * literal once its escapes are read, and no string argument contains either of
+ * them, the text of every call of weszlagyo_format and weszlagyo_format_sheet
+ * that answers 0 has them paired: no prefix of its *written bytes, or of the
+ * Unicode scalars that these are, has more closing than opening marks, and the
+ * whole has as many of each. That includes texts that are cut short at the
+ * 101st placeable, and whole sheets.
+ *
+ * So look at the strings that are to be filled in (the bytes E2 81 A8 and
+ * E2 81 A9 stand in UTF-8 for nothing else), and at a resource when it is made:
+ * a mark in either is written as it stands, and may close an isolate too early
+ * or leave one open. */
+
 #ifdef __cplusplus
 }
 #endif

@@ -69,7 +69,10 @@ impl FluentBundle {
         self.locale
     }
 
-    /// Whether placeables are set between U+2068 and U+2069.
+    /// Whether placeables are set between U+2068 and U+2069. These then nest in
+    /// every text, unless a text that goes in contains one: see [`isolation`].
+    ///
+    /// [`isolation`]: crate::isolation
     pub fn set_use_isolating(&mut self, value: bool) {
         // the Flag as a new bundle has it
         let mut header = [0; STORE_HEADER];

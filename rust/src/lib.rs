@@ -51,6 +51,7 @@ mod errors;
 // the one place that calls the linked functions
 #[allow(unsafe_code)]
 mod ffi;
+pub mod isolation;
 mod locale;
 pub mod operations;
 mod refusals;

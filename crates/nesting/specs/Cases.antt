@@ -90,17 +90,32 @@ pub record Unpaired (s image : Bytes) (t k : ℕ) (said : Bytes) : Type 0 where
   pub text : take t (format s (ascii "a") none image lent .buffers .text) ≡ said
   pub unpaired : PairedBytes said → ⊥
 
--- each premise is needed: where one is not met and the other is, a text is not paired
-pub record Needed : Type 0 where
-  -- a text element with one U+2069
+-- each of them has a mark: in a text element; in a string literal, which has none as it is written, and one once its escapes are read; in a string argument
+pub record Marked : Type 0 where
   pub text : Unpaired inText without 4 0 (ascii "x" ++ ⟩)
   pub text-marked : InBundle UnmarkedBytes inText → ⊥
-  -- a string literal, which has none as it is written, and one once its escapes are read
   pub literal : Unpaired inLiteral without 3 1 ⟩
   pub literal-marked : InBundle UnmarkedBytes inLiteral → ⊥
   pub literal-as-written : UnmarkedBytes (ascii "\\u2069")
-  pub no-arguments : InArguments UnmarkedBytes without
-  -- a string argument
   pub argument : Unpaired inVariable marked 3 1 ⟩
   pub argument-marked : InArguments UnmarkedBytes marked → ⊥
+
+pub marked-texts : Marked
+unfolding counted bundleOf without lent inText inLiteral inVariable marked
+marked-texts = record {
+  text = record { finishes = refl; text = refl; unpaired = λ p. let h : 1 ≤ 0 = p .prefix 4 in omega arith };
+  text-marked = λ h. let k : _≡_ {A = ℕ} 1 0 = h _ _ refl .0 .0 .0 .0 .no-closing in omega arith;
+  literal = record { finishes = refl; text = refl; unpaired = λ p. let h : 1 ≤ 0 = p .prefix 3 in omega arith };
+  literal-marked = λ h. let k : _≡_ {A = ℕ} 1 0 = h _ _ refl .0 .0 .0 .0 .no-closing in omega arith;
+  literal-as-written = record { no-opening = refl; no-closing = refl };
+  argument = record { finishes = refl; text = refl; unpaired = λ p. let h : 1 ≤ 0 = p .prefix 3 in omega arith };
+  argument-marked = λ h. let k : _≡_ {A = ℕ} 1 0 = h _ _ refl .0 .no-closing in omega arith;
+}
+
+-- so each premise is needed: the other one is met
+pub record Needed : Type 0 where
+  pub has-marks : Marked
+  -- of the first two, which have no arguments
+  pub no-arguments : InArguments UnmarkedBytes without
+  -- of the third
   pub no-texts : InBundle UnmarkedBytes inVariable

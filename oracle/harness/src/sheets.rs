@@ -1,7 +1,7 @@
 //! The sheets of `sheets/*.ftl` as resource images, the usual sighting as an
 //! arguments image, and what is printed of it as a sheet image: the file that
 //! embeds them, which is both Rattle, for the program `sheet`, and Rust, for the
-//! command `weszlagyo`.
+//! command `weszlagyo`; and the file of the same images for the proofs.
 
 use crate::case::{Bundle, Given, Item, Row, Sheet, Value};
 use crate::encode;
@@ -42,8 +42,11 @@ pub fn arguments(fields: &[(&str, &str)]) -> Vec<(String, Value)> {
         .collect()
 }
 
-/// Where the file stands, below the root.
+/// Where the file stands that embeds them, below the root.
 pub const EMBEDDED: &str = "crates/sheet/src/embedded.rt";
+
+/// And the one that the proofs have.
+pub const PROVED: &str = "crates/languages/specs/Languages.antt";
 
 /// The sheet of a language, read from its file below the root.
 pub fn read(root: &Path, language: &str) -> Resource<String> {
@@ -127,3 +130,40 @@ fn constant(out: &mut String, name: &str, bytes: &[u8]) {
     }
     out.push_str("\";\n");
 }
+
+/// The text of the file that the proofs have: the image of each language.
+pub fn proved(root: &Path) -> String {
+    let mut out = String::from(HEAD);
+    for language in LANGUAGES {
+        let image = encode::resource(&read(root, language));
+        write!(
+            out,
+            "\nunfoldable pub {language} : Bytes\n{language} = hex \""
+        )
+        .expect("a string takes it");
+        for byte in image {
+            write!(out, "{byte:02x}").expect("a string takes it");
+        }
+        out.push_str("\"\n");
+    }
+    out
+}
+
+/// Its first lines.
+const HEAD: &str = "\
+-- The sentences of the four languages as resource images, those that the program `sheet` and the command embed. Made from sheets/*.ftl by `tools/sheets`:
+-- change those, and run it.
+use mathlib.Core.List.{[], _∷_}
+use Prim.Native.Nat.{ℕ, _+_, _*_}
+use Prim.Native.Char.{code}
+use Prim.Native.String as string
+use Prim.Native.String.{String}
+use Rattle.scalars.specs.Scalars.{hexValue}
+use Rattle.resolution.specs.Effect.{Bytes}
+
+-- bytes by their hexadecimal digits, two each
+unfoldable pub hex : String → Bytes
+hex string.[] = []
+hex (string._∷_ c string.[]) = []
+hex (string._∷_ c (string._∷_ d s)) = (16 * hexValue (code c) + hexValue (code d)) ∷ hex s
+";

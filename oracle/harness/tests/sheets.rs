@@ -3,7 +3,9 @@
 #![forbid(unsafe_code)]
 
 use harness::case::Case;
-use harness::sheets::{arguments, bundle, embedded, sheet, EMBEDDED, LANGUAGES, USUAL};
+use harness::sheets::{
+    arguments, bundle, embedded, proved, sheet, EMBEDDED, LANGUAGES, PROVED, USUAL,
+};
 use harness::{expected, expected_sheet, large_stack};
 use std::path::Path;
 
@@ -41,6 +43,12 @@ fn said(locale: usize, message: &str, fields: &[(&str, &str)]) -> (String, usize
 fn the_program_embeds_the_sheets() {
     let committed = std::fs::read_to_string(root().join(EMBEDDED)).expect("it is there");
     assert!(committed == embedded(root()), "run tools/sheets");
+}
+
+#[test]
+fn the_proofs_have_the_sheets() {
+    let committed = std::fs::read_to_string(root().join(PROVED)).expect("it is there");
+    assert!(committed == proved(root()), "run tools/sheets");
 }
 
 #[test]

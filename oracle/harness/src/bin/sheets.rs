@@ -1,7 +1,8 @@
-//! Writes the sheets' images into the file that embeds them: `sheets ROOT`.
+//! Writes the sheets' images into the file that embeds them, and into the one
+//! that the proofs have: `sheets ROOT`.
 #![forbid(unsafe_code)]
 
-use harness::sheets::{embedded, EMBEDDED};
+use harness::sheets::{embedded, proved, EMBEDDED, PROVED};
 use std::path::Path;
 
 fn main() {
@@ -11,8 +12,8 @@ fn main() {
         std::process::exit(2);
     };
     let root = Path::new(root);
-    let text = embedded(root);
-    let path = root.join(EMBEDDED);
-    std::fs::write(&path, &text).expect("write the file");
-    println!("{EMBEDDED}: {} bytes", text.len());
+    for (file, text) in [(EMBEDDED, embedded(root)), (PROVED, proved(root))] {
+        std::fs::write(root.join(file), &text).expect("write the file");
+        println!("{file}: {} bytes", text.len());
+    }
 }

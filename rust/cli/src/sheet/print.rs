@@ -2,6 +2,7 @@
 
 use super::options::Options;
 use crate::failure::Failure;
+use weszlagyo::isolation::are_paired;
 use weszlagyo::operations::{self, read_list, Figures};
 use weszlagyo::{FluentBundle, FluentError, Refusal, Sheet};
 
@@ -20,6 +21,11 @@ struct Page<'a> {
     store: &'a [u8],
     arguments: &'a [u8],
 }
+
+/// Said of a text whose isolation marks are not paired. It is proved that this is
+/// the only reason.
+const UNPAIRED: &str =
+    "Isolation marks that are not paired: a sentence or a field contains U+2068 or U+2069";
 
 /// What was formatted.
 struct Formatted {
@@ -155,13 +161,21 @@ impl Formatted {
         })
     }
 
-    /// The text, each error on a line of its own, and the figures if they are
+    /// What there is to say of the text: its errors, in order, and whether its
+    /// isolation marks are not paired.
+    fn remarks(&self) -> impl Iterator<Item = String> + '_ {
+        let paired = std::str::from_utf8(&self.text).is_ok_and(are_paired);
+        let unpaired = (!paired).then(|| UNPAIRED.to_string());
+        self.errors.iter().map(words).chain(unpaired)
+    }
+
+    /// The text, each remark on a line of its own, and the figures if they are
     /// asked for.
     fn put(&self, out: &mut Vec<u8>, figures: bool) {
         out.extend(&self.text);
-        for error in &self.errors {
+        for remark in self.remarks() {
             out.extend(b"\n    ! ");
-            out.extend(words(error).as_bytes());
+            out.extend(remark.as_bytes());
         }
         if figures {
             let f = self.figures;
@@ -184,9 +198,9 @@ impl Formatted {
         let counts = format!("\t{}\t{}\t{}\t", f.begun, f.unfound, f.errors);
         out.extend(counts.as_bytes());
         out.extend(self.text.iter().map(|b| (*b).max(b' ')));
-        for error in &self.errors {
+        for remark in self.remarks() {
             out.push(b'\t');
-            out.extend(words(error).as_bytes());
+            out.extend(remark.as_bytes());
         }
         out.push(b'\n');
     }

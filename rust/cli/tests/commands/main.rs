@@ -7,7 +7,7 @@
 //! It formatted each message of a sheet by itself. Since a sheet is one call,
 //! the same errors stand together below it, the figures are its own, and the
 //! stores have the message `line`; `sheets.txt` is of that time. `workspace.txt`
-//! came with `--workspace`.
+//! came with `--workspace`, `marks.txt` with what is said of isolation marks.
 #![forbid(unsafe_code)]
 
 mod inputs;
