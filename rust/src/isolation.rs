@@ -7,7 +7,9 @@
 //! either of them, the text of every formatting and of every sheet has them
 //! paired, texts that are cut short at the 101st placeable among them.
 //! [`has_marks`] says whether a text that is to be filled in contains one,
-//! [`are_paired`] whether a text has them paired.
+//! [`are_paired`] whether a text has them paired. Look at what is filled in: a
+//! name `\u{2069}\u{2068}` leaves its isolate, and the whole is paired all the
+//! same.
 //!
 //! ```
 //! use weszlagyo::isolation::{are_paired, has_marks};

@@ -4,7 +4,7 @@ use mathlib.Core.List.{List, [], _∷_, _++_}
 use mathlib.Core.Bool.{Bool, true, false, _&&_, false≢true}
 use Prim.Native.Nat.{ℕ, zero, suc, _+_, _≤_, _<_}
 use native.Mathlib.Omega.{arith}
-use lib.ListN.{take}
+use lib.ListN.{length, take}
 use lib.Dec.{eqb, leb}
 use borrow.Author.Tests.{eqb-true, ne-eqb, leb-true, leb-false, le-ltb, lt-ltb}
 use Rattle.decimals.specs.Bytes.{run}
@@ -109,6 +109,22 @@ count-take m (suc n) (b ∷ t) =
     let h = once-le (begins m (b ∷ take n t)) (begins m (b ∷ t)) (begins-take m (suc n) (b ∷ t)) in
     let k = count-take m n t in
     omega arith
+
+-- a text that is shorter than a mark has none
+and-false : (b : Bool) → (b && false) ≡ false
+and-false true = refl
+and-false false = refl
+
+begins-short : (m t : List ℕ) → length t < length m → begins m t ≡ false
+unfolding begins
+begins-short [] t h = absurd (omega arith)
+begins-short (x ∷ m) [] h = refl
+begins-short (x ∷ m) (y ∷ t) h = rw (begins-short m t (omega arith)) (and-false (eqb x y))
+
+pub count-short : (m t : List ℕ) → length t < length m → countIn m t ≡ 0
+unfolding countIn once
+count-short m [] h = refl
+count-short m (y ∷ t) h = rw (begins-short m (y ∷ t) h) (let k = count-short m t (omega arith) in omega arith)
 
 -- ASCII has none
 ascii-none : (m t : Bytes) → Ascii t → countIn (0xe2 ∷ m) t ≡ 0

@@ -3,17 +3,17 @@
 use mathlib.Core.Path.{_≡_, refl, subst}
 use mathlib.Core.List.{[], _++_}
 use mathlib.Core.Bool.{Bool, true, false}
-use Prim.Native.Nat.{ℕ, zero, suc, _+_, _-_, _≤_, _<_}
+use Prim.Native.Nat.{ℕ, _+_, _-_, _≤_, _<_}
 use native.Mathlib.Omega.{arith}
 use lib.ListN.{length, take}
-use lib.Seq.{take-nil, take-append-le, take-append-add}
+use lib.Seq.{take-nil, take-append-le, take-append-add, take-all, length-take-le}
 use lib.Dec.{leb}
 use borrow.Author.Tests.{leb-true, leb-false}
 use Rattle.resolution.specs.Effect.{Bytes}
 use Rattle.resolution.specs.Resolve.{fsi, pdi}
 use Rattle.theorems.proofs.Written.{Joins}
 use Rattle.nesting.specs.Marks.{begins, once, countIn, UnmarkedBytes, PairedBytes}
-use Rattle.nesting.proofs.Counts.{Lead, lead-take, lead-append, count-fsi, count-pdi, count-take}
+use Rattle.nesting.proofs.Counts.{Lead, lead-take, lead-append, count-fsi, count-pdi, count-take, count-short}
 
 -- a text that leads from x open isolates to y, and never below none
 pub record Lifts (x y : ℕ) (t : Bytes) : Type 0 where
@@ -54,25 +54,29 @@ lifts-more t h =
     let e = h .ends in
     record { lead = h .lead; never = λ n. let k = h .never n in omega arith; ends = omega arith }
 
+-- what is shorter than a mark has none; three bytes, as either mark is
+pdi-short : (t : Bytes) → length t < 3 → countIn pdi t ≡ 0
+unfolding pdi
+pdi-short t h = count-short pdi t h
+
+lifts-three : (x y : ℕ) (m : Bytes) → length m ≡ 3 → Lead m → countIn pdi m ≤ x + countIn fsi m → x + countIn fsi m ≡ y + countIn pdi m → Lifts x y m
+lifts-three x y m three l h e = record { lead = l; never = λ n. go n (leb 3 n) refl; ends = e }
+  where
+    go : (n : ℕ) (b : Bool) → leb 3 n ≡ b → countIn pdi (take n m) ≤ x + countIn fsi (take n m)
+    go n true q = let k : 3 ≤ n = leb-true _ _ q in rw (take-all n m (omega arith)) h
+    go n false q =
+        let k : n < 3 = leb-false _ _ q in
+        let short : length (take n m) ≡ n = length-take-le n m (omega arith) in
+        let none : countIn pdi (take n m) ≡ 0 = pdi-short (take n m) (omega arith) in
+        omega arith
+
 lifts-fsi : Lifts 0 1 fsi
 unfolding fsi pdi countIn begins once
-lifts-fsi = record { lead = λ h. omega arith; never = go; ends = omega arith }
-  where
-    go : (n : ℕ) → countIn pdi (take n fsi) ≤ 0 + countIn fsi (take n fsi)
-    go zero = omega arith
-    go (suc zero) = omega arith
-    go (suc (suc zero)) = omega arith
-    go (suc (suc (suc n))) = rw (take-nil {A = ℕ} n) (omega arith)
+lifts-fsi = lifts-three 0 1 fsi refl (λ h. omega arith) (omega arith) (omega arith)
 
 lifts-pdi : Lifts 1 0 pdi
 unfolding fsi pdi countIn begins once
-lifts-pdi = record { lead = λ h. omega arith; never = go; ends = omega arith }
-  where
-    go : (n : ℕ) → countIn pdi (take n pdi) ≤ 1 + countIn fsi (take n pdi)
-    go zero = omega arith
-    go (suc zero) = omega arith
-    go (suc (suc zero)) = omega arith
-    go (suc (suc (suc n))) = rw (take-nil {A = ℕ} n) (omega arith)
+lifts-pdi = lifts-three 1 0 pdi refl (λ h. omega arith) (omega arith) (omega arith)
 
 -- what is asked of every text that resolution makes
 abbrev pub Even : Bytes → Type 0

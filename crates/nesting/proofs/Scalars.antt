@@ -19,30 +19,14 @@ use Rattle.layout.proofs.Scalars.{utf8-complete, utf8-exactly}
 use Rattle.resolution.specs.Effect.{Bytes}
 use Rattle.resolution.specs.Resolve.{fsi, pdi}
 use Rattle.nesting.specs.Marks.{begins, once, countIn, Unmarked, Paired, UnmarkedBytes, PairedBytes, OfScalars, UnmarkedScalars, PairedScalars}
-use Rattle.nesting.proofs.Counts.{Lead, lead-take, utf8-lead, count-append, count-take}
+use Rattle.nesting.proofs.Counts.{Lead, lead-take, utf8-lead, count-append, count-take, count-short}
 
 scalars-lead : (cs : List ℕ) → All Scalar cs → Lead (encScalars cs)
 scalars-lead cs h = utf8-lead (encScalars cs) (utf8-complete cs h)
 
--- a text that is shorter than a mark has none
 and-true : (b : Bool) → (b && true) ≡ b
 and-true true = refl
 and-true false = refl
-
-and-false : (b : Bool) → (b && false) ≡ false
-and-false true = refl
-and-false false = refl
-
-begins-short : (m t : List ℕ) → length t < length m → begins m t ≡ false
-unfolding begins
-begins-short [] t h = absurd (omega arith)
-begins-short (x ∷ m) [] h = refl
-begins-short (x ∷ m) (y ∷ t) h = rw (begins-short m t (omega arith)) (and-false (eqb x y))
-
-count-short : (m t : List ℕ) → length t < length m → countIn m t ≡ 0
-unfolding countIn once
-count-short m [] h = refl
-count-short m (y ∷ t) h = rw (begins-short m (y ∷ t) h) (let k = count-short m t (omega arith) in omega arith)
 
 -- A mark by its last six bits: the bytes E2 81 80+k, and the scalar U+2040+k. U+2068 has k = 0x28, U+2069 has 0x29.
 abbrev bytes : ℕ → List ℕ

@@ -26,6 +26,7 @@ pub fn write(folder: &Path) {
         ("deep.store", deep()),
         ("small.store", small(FluentResource::builder())),
         ("kinds.store", kinds()),
+        ("marks.store", marks()),
         (
             "no-line.store",
             store(Locale::En, &[built(short_messages())]),
@@ -190,6 +191,33 @@ pub fn kinds() -> Vec<u8> {
         .message("seen", Pattern::from(seen));
     let mut bundle = FluentBundle::new(vec![Locale::En]);
     bundle.set_use_isolating(false);
+    bundle.add_resource(built(messages)).expect("no id twice");
+    bundle.store().to_vec()
+}
+
+/// Sentences with isolation marks in a text, in a literal as it is and by an
+/// escape, and in none; one of these is cut short inside two isolates.
+fn marks() -> Vec<u8> {
+    let escaped = Inline::String("\\u2069".into());
+    let inner = select(number("2")).default("p", Pattern::new().place(message("many")));
+    let outer = select(number("1")).default("o", Pattern::new().text("x").place(inner));
+    let many = (0..98).fold(Pattern::new(), |p, _| p.place(string("")));
+    let messages = FluentResource::builder()
+        .message("sheet", "Seen from the ship")
+        .message("line", "\n- ")
+        .message("seen", Pattern::new().place(variable("observer")).text("!"))
+        .message("away", Pattern::new().place(outer).text("!"))
+        .message("many", many)
+        .message("who", "nobody")
+        .attribute("text", "x\u{2069}y")
+        .attribute(
+            "literal",
+            Pattern::new().text("x").place(string("\u{2068}")),
+        )
+        .attribute("escape", Pattern::new().text("x").place(escaped))
+        .attribute("exchanged", "\u{2069}\u{2068}")
+        .attribute("paired", "\u{2068}x\u{2069}");
+    let mut bundle = FluentBundle::new(vec![Locale::En]);
     bundle.add_resource(built(messages)).expect("no id twice");
     bundle.store().to_vec()
 }
