@@ -1,10 +1,13 @@
 //! Seeded bundles, arguments and cases, always well-formed by document 01.
 
 mod calls;
+mod chains;
 mod fans;
 mod inline;
+mod marked;
 mod patterns;
 mod sheet;
+mod unmarked;
 mod words;
 
 use crate::case::{Bundle, Case, Item, Value};
@@ -14,8 +17,10 @@ use crate::model::reader;
 use crate::random::Random;
 use crate::vectors::numbers::decimal;
 use fluent_syntax::ast::*;
+pub use marked::{marked, marked_sheet};
 pub use sheet::sheet_generator;
-use words::{ATTRIBUTES, FUNCTIONS, IDS, TEXTS, VARIABLES};
+pub use unmarked::{checked, checked_sheet, unmarked, unmarked_sheet};
+use words::{Words, ATTRIBUTES, FUNCTIONS, IDS, USUAL, VARIABLES};
 
 /// The case of a seed.
 pub fn generator(seed: u64) -> Case {
@@ -30,6 +35,7 @@ pub struct Maker {
     left: usize,
     /// Whether `g` and `h` are there.
     many: bool,
+    words: Words,
 }
 
 fn id(name: &str) -> Identifier<String> {
@@ -54,6 +60,7 @@ impl Maker {
             r: Random::new(seed.wrapping_mul(0x2545_F491_4F6C_DD1D)),
             left: 0,
             many: false,
+            words: USUAL,
         }
     }
 
@@ -149,7 +156,7 @@ impl Maker {
                     false => self.one_of(&VARIABLES),
                 };
                 let value = match self.r.below(7) {
-                    0..=2 => Value::Text(self.one_of(&TEXTS)),
+                    0..=2 => Value::Text(self.one_of(self.words.texts)),
                     3 => Value::None,
                     4 => Value::Number(decimal(&mut self.r)),
                     _ => Value::Number(crate::model::number::Decimal {
@@ -166,9 +173,14 @@ impl Maker {
 
 /// The messages that hold their ids: id, whether there is a value, attributes.
 fn held_messages(bundle: &Bundle) -> Vec<(String, bool, Vec<String>)> {
+    held_of(bundle, &IDS)
+}
+
+/// Those of these ids.
+fn held_of(bundle: &Bundle, ids: &[&str]) -> Vec<(String, bool, Vec<String>)> {
     let name = |id: &[u8]| String::from_utf8_lossy(id).into_owned();
     let store = reader::store(&encode::store(bundle)).expect("a well-formed store");
-    IDS.iter()
+    ids.iter()
         .filter_map(|id| holder(&store, id.as_bytes())?.message())
         .map(|entry| {
             let attributes = entry.attributes.iter().map(|(id, _)| name(id));

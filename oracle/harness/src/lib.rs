@@ -14,6 +14,7 @@ pub mod figures;
 pub mod ftl;
 mod generator;
 pub mod model;
+pub mod nesting;
 pub mod plain;
 pub mod points;
 pub mod random;
@@ -24,7 +25,10 @@ pub mod sheets;
 pub mod vectors;
 
 pub use expected::{expected, expected_sheet, Expected, ExpectedSheet};
-pub use generator::{generator, sheet_generator, Maker};
+pub use generator::{
+    checked, checked_sheet, generator, marked, marked_sheet, sheet_generator, unmarked,
+    unmarked_sheet, Maker,
+};
 
 /// Runs something on a thread whose stack is large enough for 100 references
 /// inside each other, each nested to depth 32.

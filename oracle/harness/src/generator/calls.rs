@@ -1,6 +1,6 @@
 //! The arguments of calls: a term's, and NUMBER's options.
 
-use super::words::{LITERALS, NUMBERS, VARIABLES};
+use super::words::{NUMBERS, VARIABLES};
 use super::{id, Inline, Maker};
 use crate::model::number::COUNTS;
 use crate::random::Random;
@@ -51,7 +51,7 @@ impl Maker {
                     value: self.one_of(&NUMBERS),
                 },
                 false => Inline::StringLiteral {
-                    value: self.one_of(&LITERALS),
+                    value: self.one_of(self.words.literals),
                 },
             },
         }
@@ -77,7 +77,7 @@ impl Maker {
         let value = match text {
             true => Inline::StringLiteral {
                 value: match self.r.below(6) {
-                    0 => self.one_of(&LITERALS),
+                    0 => self.one_of(self.words.literals),
                     1 | 2 => "ordinal".into(),
                     3 => "ordina\\u006C".into(),
                     _ => word(&mut self.r),

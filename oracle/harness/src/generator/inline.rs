@@ -1,6 +1,6 @@
 //! Inline expressions.
 
-use super::words::{ATTRIBUTES, IDS, LITERALS, NUMBERS, VARIABLES};
+use super::words::{ATTRIBUTES, IDS, NUMBERS, VARIABLES};
 use super::{id, Inline, Maker};
 use fluent_syntax::ast::*;
 
@@ -20,7 +20,7 @@ impl Maker {
         }
         match self.r.below(if leaf { 8 } else { 15 }) {
             0 => Inline::StringLiteral {
-                value: self.one_of(&LITERALS),
+                value: self.one_of(self.words.literals),
             },
             1 => Inline::NumberLiteral {
                 value: self.one_of(&NUMBERS),

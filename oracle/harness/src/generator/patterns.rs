@@ -1,6 +1,6 @@
 //! Entries, patterns and selects.
 
-use super::words::{ATTRIBUTES, IDS, KEYS, NUMBERS, TEXTS, VARIABLES};
+use super::words::{ATTRIBUTES, IDS, KEYS, NUMBERS, VARIABLES};
 use super::{id, text, Inline, Maker};
 use fluent_syntax::ast::*;
 
@@ -42,9 +42,9 @@ impl Maker {
     /// A pattern whose expressions have this depth.
     pub fn pattern(&mut self, depth: usize) -> Pattern<String> {
         let mut elements = Vec::new();
-        for _ in 0..1 + self.r.below(3) {
+        for _ in 0..self.words.elements + self.r.below(3) {
             if depth > 32 || self.left == 0 || self.r.one_in(4) {
-                elements.push(text(&self.one_of(&TEXTS)));
+                elements.push(text(&self.one_of(self.words.texts)));
             } else {
                 let expression = self.expression(depth);
                 elements.push(PatternElement::Placeable { expression });

@@ -12,7 +12,7 @@ pub fn sheet_generator(seed: u64) -> Sheet {
 }
 
 /// A message that holds its id: id, whether there is a value, attributes.
-type Held = (String, bool, Vec<String>);
+pub(super) type Held = (String, bool, Vec<String>);
 
 impl Maker {
     /// A sheet of 0 to 40 messages; once in 2,000 times of some thousands.
@@ -40,7 +40,7 @@ impl Maker {
     }
 
     /// A message that is there, if there is one.
-    fn row(&mut self, held: &[Held]) -> Row {
+    pub(super) fn row(&mut self, held: &[Held]) -> Row {
         let (mut message, mut attribute) = ("a".to_string(), None);
         if !held.is_empty() {
             let (name, valued, attributes) = self.r.pick(held).clone();

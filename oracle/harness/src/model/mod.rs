@@ -1,11 +1,13 @@
 //! A separate, small writing-down of document 01: numbers, the layouts, the
-//! additions and formatting; and of document 02's sheets. It shares nothing with the Rust but the tests.
+//! additions and formatting; of document 02's sheets, and of its isolation marks. It shares nothing with the Rust but the tests.
 
 pub mod effects;
 pub mod errors;
 pub mod lookup;
+pub mod marks;
 pub mod number;
 pub mod operations;
+pub mod premises;
 pub mod reader;
 pub mod resolve;
 pub mod sheet;
