@@ -130,6 +130,10 @@ fn main() {
         b"figures.vec",
         b" formattings and sheets by their figures\n",
     );
+    replay(
+        b"nesting.vec",
+        b" formattings and sheets by their isolation marks\n",
+    );
     let c = counted(no_counts(), 0, limit::limit());
     line(c, 0, b" differ at the longest arguments image\n");
     let d = sheet_limit::limits(no_counts());

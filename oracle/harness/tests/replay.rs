@@ -371,14 +371,19 @@ fn sheets() {
     assert!(replay("replay_formats/data/sheets.vec", sheet) > 1000);
 }
 
+fn either(operation: u8, f: &mut Fields) {
+    match operation {
+        50 => sheet(operation, f),
+        _ => format(operation, f),
+    }
+}
+
 #[test]
 fn figures() {
-    let count = replay(
-        "replay_formats/data/figures.vec",
-        |operation, f| match operation {
-            50 => sheet(operation, f),
-            _ => format(operation, f),
-        },
-    );
-    assert!(count > 1000);
+    assert!(replay("replay_formats/data/figures.vec", either) > 1000);
+}
+
+#[test]
+fn nesting() {
+    assert!(replay("replay_formats/data/nesting.vec", either) > 500);
 }

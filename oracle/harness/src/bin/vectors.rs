@@ -45,6 +45,10 @@ fn main() {
         let (figures, additions) = vectors::figures::make(seed, cases);
         write("replay_formats/data/figures.vec", figures);
         write("replay/data/figure_additions.vec", additions);
+        write(
+            "replay_formats/data/nesting.vec",
+            vectors::nesting::make(seed, cases),
+        );
     });
 }
 

@@ -4,6 +4,7 @@ pub mod additions;
 pub mod figures;
 pub mod formats;
 pub mod images;
+pub mod nesting;
 pub mod numbers;
 pub mod sheets;
 
