@@ -2,11 +2,10 @@
 //! length gives the same answer, a shorter one is refused with 16, and plain
 //! additions change neither.
 
-mod asked;
-
 use crate::additions::{function, plain};
+use crate::asked::Asked;
+use crate::call::{any, Call, Done};
 use crate::{hurt, same, Counts, Lent};
-use asked::{Asked, Model};
 use harness::figures::{formattings, sheets};
 use harness::model::effects::Lengths;
 use harness::plain::{addition, Addition};
@@ -72,31 +71,7 @@ pub fn by_hand(counts: &mut Counts) -> Result<(), String> {
     Ok(())
 }
 
-/// A call that is made over and over, with other buffers.
-struct Call {
-    store: Vec<u8>,
-    asked: Asked,
-    model: Model,
-}
-
-/// What a call that finished leaves.
-#[derive(PartialEq, Debug)]
-struct Done {
-    figures: Figures,
-    text: Vec<u8>,
-    list: Vec<u8>,
-}
-
 impl Call {
-    fn new(store: Vec<u8>, asked: Asked) -> Self {
-        let model = asked.prepare(&store);
-        Self {
-            store,
-            asked,
-            model,
-        }
-    }
-
     fn all(mut self, seed: u64, random: &mut Random, counts: &mut Counts) -> Result<(), String> {
         // the slice of a store may be longer than the store, and has room then
         let room = *random.pick(&[0, 20, 60, 200, 1000]);
@@ -165,68 +140,6 @@ impl Call {
         Ok(first)
     }
 
-    /// A call that has to finish.
-    fn finished(
-        &self,
-        lengths: Lengths,
-        random: &mut Random,
-        counts: &mut Counts,
-    ) -> Result<Done, String> {
-        let answer = self.answer(lengths, random, counts)?;
-        answer.map_err(|refusal| self.named(lengths, &format!("refused with {refusal}")))
-    }
-
-    /// A call that may finish or not.
-    fn compare(
-        &self,
-        lengths: Lengths,
-        random: &mut Random,
-        counts: &mut Counts,
-    ) -> Result<(), String> {
-        self.answer(lengths, random, counts).map(drop)
-    }
-
-    /// One call, with any bytes in the buffers before: the model's answer, and
-    /// every byte.
-    fn answer(
-        &self,
-        lengths: Lengths,
-        random: &mut Random,
-        counts: &mut Counts,
-    ) -> Result<Result<Done, u8>, String> {
-        let [mut text, mut list, mut work] =
-            [lengths.text, lengths.list, lengths.workspace].map(|length| any(length, random));
-        let mut ours = [&text, &list, &work].map(|bytes| Lent::with(bytes, random));
-        let [ours_text, ours_list, ours_work] = &mut ours;
-        let buffers = [ours_text.slice(), ours_list.slice(), ours_work.slice()];
-        let answer = self.asked.call(&self.store, buffers);
-        let wanted = self.model.call([&mut text, &mut list, &mut work]);
-        counts.call(wanted.err().unwrap_or(0));
-        same("answer", answer, wanted).map_err(|e| self.named(lengths, &e))?;
-        let wanted_bytes = [("text", &text), ("list", &list), ("workspace", &work)];
-        for (ours, (what, wanted)) in ours.iter().zip(wanted_bytes) {
-            same(what, ours.held()?, wanted).map_err(|e| self.named(lengths, &e))?;
-        }
-        if wanted == Err(16) {
-            let mut all = text.iter().chain(&list).chain(&work);
-            same("zeros after 16", all.all(|byte| *byte == 0), true)?;
-        }
-        Ok(wanted.map(|figures| Done {
-            figures,
-            text: text[..figures.text].to_vec(),
-            list: list[..length_of(&list)].to_vec(),
-        }))
-    }
-
-    /// A difference, with the call that shows it, if that is short.
-    fn named(&self, lengths: Lengths, difference: &str) -> String {
-        let (store, asked) = (&self.store, &self.asked);
-        match store.len() < 1500 {
-            true => format!("{lengths:?}: {difference}\n  {store:02x?}\n  {asked:02x?}"),
-            false => format!("{lengths:?}: {difference}"),
-        }
-    }
-
     /// The same call on the slice that some plain additions leave.
     fn added(&self, seed: u64, random: &mut Random, counts: &mut Counts) -> Result<Self, String> {
         let mut slice = self.store.clone();
@@ -288,15 +201,4 @@ fn longer(need: Lengths, random: &mut Random) -> Lengths {
         list: more(need.list),
         workspace: need.workspace,
     }
-}
-
-/// Bytes of any contents.
-fn any(length: usize, random: &mut Random) -> Vec<u8> {
-    let all = std::iter::repeat_with(|| random.draw().to_le_bytes()).flatten();
-    all.take(length).collect()
-}
-
-/// The length that a list states.
-fn length_of(list: &[u8]) -> usize {
-    list[..4].iter().fold(0, |n, b| n << 8 | usize::from(*b))
 }

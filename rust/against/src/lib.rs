@@ -3,9 +3,12 @@
 #![forbid(unsafe_code)]
 
 pub mod additions;
+mod asked;
+mod call;
 pub mod convert;
 pub mod figures;
 pub mod formats;
+pub mod nesting;
 pub mod sheet;
 pub mod sheets;
 pub mod workspace;
@@ -16,7 +19,8 @@ use std::fmt::Debug;
 /// What was compared.
 #[derive(Clone, Copy, Debug, Default)]
 pub struct Counts {
-    /// Generated cases, sheets, or formattings and sheets by their figures.
+    /// Generated cases, sheets, or formattings and sheets by their figures or by
+    /// their marks.
     pub cases: u64,
     /// Calls of the operations that were compared, bytes and all.
     pub calls: u64,
@@ -27,6 +31,8 @@ pub struct Counts {
     pub damaged: u64,
     /// Stores that the crate made and that were compared whole.
     pub stores: u64,
+    /// Texts by their isolation marks.
+    pub nesting: nesting::Nesting,
 }
 
 impl Counts {
@@ -40,6 +46,7 @@ impl Counts {
         self.calls += other.calls;
         self.damaged += other.damaged;
         self.stores += other.stores;
+        self.nesting.add(&other.nesting);
         for (sum, n) in self.answers.iter_mut().zip(other.answers) {
             *sum += n;
         }

@@ -1,12 +1,15 @@
 //! Compares the crate with the oracle on many generated cases, then on
-//! generated sheets, then on formattings and sheets by their workspace figures:
-//! `differential [COUNT [FIRST_SEED [THREADS [SHEETS [FIGURES]]]]]`, 1,000,000
-//! cases from seed 1 on all processors unless said otherwise, a tenth as many
-//! sheets, and the figures of a tenth as many formattings and half as many
-//! sheets as those. It shows how far it is, and ends with 1 if anything differs.
+//! generated sheets, then on formattings and sheets by their workspace figures,
+//! then on formattings and sheets by their isolation marks:
+//! `differential [COUNT [FIRST_SEED [THREADS [SHEETS [FIGURES [NESTING]]]]]]`,
+//! 1,000,000 cases from seed 1 on all processors unless said otherwise, a tenth as
+//! many sheets, the figures of a tenth as many formattings and half as many sheets
+//! as those, and the marks of as many; last, as many seeds as those sheets with
+//! marks in the input. It shows how far it is, and ends with 1 if anything
+//! differs, a text is unpaired, or marks in the input make none unpaired.
 #![forbid(unsafe_code)]
 
-use against::{compare, compare_sheet, figures, sheets, Counts};
+use against::{compare, compare_sheet, figures, nesting, sheets, Counts};
 use std::sync::atomic::{AtomicU64, Ordering};
 use std::sync::Mutex;
 use std::time::{Duration, Instant};
@@ -23,7 +26,7 @@ fn main() {
         .skip(1)
         .map(|word| word.parse().unwrap_or_else(|_| usage()))
         .collect();
-    if words.len() > 5 {
+    if words.len() > 6 {
         usage();
     }
     let word = |at: usize, usual: u64| words.get(at).copied().unwrap_or(usual);
@@ -43,10 +46,20 @@ fn main() {
     let of_formattings = cases.of(what, figures::compare_formatting, figures);
     let what = "sheets by their figures";
     let of_sheets = cases.of(what, figures::compare_sheet, figures.div_ceil(2));
+    let marks = word(5, tenth);
+    let what = "formattings by their marks";
+    let formattings_by_marks = cases.of(what, nesting::compare_formatting, marks);
+    let what = "sheets by their marks";
+    let sheets_by_marks = cases.of(what, nesting::compare_sheet, marks.div_ceil(2));
+    let what = "seeds with marks in the input";
+    let marked = cases.of(what, nesting::compare_marked, marks.div_ceil(2));
     let same = cases.run(Counts::default(), 0)
         & (sheets.count == 0 || sheets.with_fixed(sheets::fixed::all))
         & (figures == 0 || of_formattings.with_fixed(figures::by_hand))
-        & (figures == 0 || of_sheets.run(Counts::default(), 0));
+        & (figures == 0 || of_sheets.run(Counts::default(), 0))
+        & (marks == 0 || formattings_by_marks.with_fixed(nesting::by_hand))
+        & (marks == 0 || sheets_by_marks.run(Counts::default(), 0))
+        & (marks == 0 || marked.run(Counts::default(), 0));
     std::process::exit(i32::from(!same));
 }
 
@@ -115,8 +128,13 @@ impl Run {
         let total = total.into_inner().expect("no thread failed");
         let differ = differ.into_inner().expect("no thread failed");
         self.say(&total, start);
+        print!("{}", total.nesting);
         println!("{differ} differ");
-        differ == 0 && total.cases == self.count
+        let noticed = total.nesting.noticed();
+        if !noticed {
+            println!("marks in the input, and no text is unpaired");
+        }
+        differ == 0 && total.cases == self.count && noticed
     }
 
     /// Compares the next seeds, if there are any.
@@ -185,6 +203,6 @@ impl Run {
 }
 
 fn usage() -> ! {
-    eprintln!("usage: differential [COUNT [FIRST_SEED [THREADS [SHEETS [FIGURES]]]]]");
+    eprintln!("usage: differential [COUNT [FIRST_SEED [THREADS [SHEETS [FIGURES [NESTING]]]]]]");
     std::process::exit(2)
 }

@@ -5,6 +5,7 @@ use harness::case::Case;
 use harness::encode;
 use harness::model::effects::Lengths;
 use harness::model::operations as model;
+use harness::model::premises::{self, Marked};
 use harness::model::resolve::Resolution;
 use harness::model::sheet::{self, Prepared};
 use harness::model::workspace::{self, Stopped};
@@ -52,6 +53,15 @@ impl Asked {
                 arguments,
             } => Model::Message(model::prepare(store, id, attribute.as_deref(), arguments)),
             Self::Sheet(image) => Model::Sheet(sheet::prepare(store, image)),
+        }
+    }
+
+    /// What has a mark in the store and in what is asked of it; none where one of
+    /// them is malformed.
+    pub fn marked(&self, store: &[u8]) -> Option<Marked> {
+        match self {
+            Self::Message { arguments, .. } => premises::formatting(store, arguments),
+            Self::Sheet(image) => premises::whole_sheet(store, image),
         }
     }
 
