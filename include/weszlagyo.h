@@ -163,7 +163,9 @@ uint8_t weszlagyo_format_sheet(const uint8_t *store, size_t store_length,
  *
  * A bundle that isolates sets what is filled in between U+2068 (E2 81 A8) and
  * U+2069 (E2 81 A9), so that a name in another script does not turn the
- * sentence around it. It is proved that they nest. Where no text element of the
+ * sentence around it; but not the only element of a pattern, nor a direct
+ * string literal, message or term, as in fluent-bundle: give a name of its own
+ * some text beside it. It is proved that they nest. Where no text element of the
  * store's resources (the entries that nothing finds included), no string
  * literal once its escapes are read, and no string argument contains either of
  * them, the text of every call of weszlagyo_format and weszlagyo_format_sheet
@@ -173,9 +175,12 @@ uint8_t weszlagyo_format_sheet(const uint8_t *store, size_t store_length,
  * 101st placeable, and whole sheets.
  *
  * So look at the strings that are to be filled in (the bytes E2 81 A8 and
- * E2 81 A9 stand in UTF-8 for nothing else), and at a resource when it is made:
- * a mark in either is written as it stands, and may close an isolate too early
- * or leave one open. */
+ * E2 81 A9 stand in UTF-8 for nothing else), and at a resource when it is made,
+ * where a string literal may also have a mark as an escape (\u2069, \U002069):
+ * a mark in either is written as it is read, and may close an isolate too early
+ * or leave one open. Nothing is said of other directional characters; U+2066
+ * and U+2067 open isolates that U+2069 closes, so a name that is to stay in its
+ * isolate has none of these either. */
 
 #ifdef __cplusplus
 }

@@ -1,15 +1,20 @@
 //! Isolation marks: U+2068 FIRST STRONG ISOLATE and U+2069 POP DIRECTIONAL
 //! ISOLATE, between which a bundle that isolates sets what is filled in, so that
-//! a ship's name in another script does not turn the sentence around it.
+//! a ship's name in another script does not turn the sentence around it. The only
+//! element of a pattern is not isolated, nor is a direct string literal, message
+//! or term, as in fluent-bundle: give a name of its own some text beside it.
 //!
 //! It is proved that they nest: where no text element of the bundle's resources,
 //! no string literal once its escapes are read, and no string argument contains
 //! either of them, the text of every formatting and of every sheet has them
 //! paired, texts that are cut short at the 101st placeable among them.
-//! [`has_marks`] says whether a text that is to be filled in contains one,
-//! [`are_paired`] whether a text has them paired. Look at what is filled in: a
-//! name `\u{2069}\u{2068}` leaves its isolate, and the whole is paired all the
-//! same.
+//! [`has_marks`] says whether a text contains one, [`are_paired`] whether a text
+//! has them paired; these two are plain Rust, tested and not proved. Look at
+//! resources when they are made, and at what is filled in: a name
+//! `\u{2069}\u{2068}` leaves its isolate, and the whole is paired all the same.
+//! The other directional characters are not looked at by the proof or here;
+//! U+2066 and U+2067 open isolates that U+2069 closes, so a name that is to stay
+//! in its isolate has none of these either.
 //!
 //! ```
 //! use weszlagyo::isolation::{are_paired, has_marks};

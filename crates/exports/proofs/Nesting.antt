@@ -6,7 +6,7 @@ use Rattle.resolution.specs.Effect.{Bytes}
 use Rattle.resolution.specs.Format.{Answer, finished, refusedBefore, refusedRunning, Formatted, format}
 use Rattle.sheets.specs.Sheet.{formatSheet}
 use Rattle.nesting.specs.Marks.{UnmarkedBytes, PairedBytes, UnmarkedScalars, PairedScalars}
-use Rattle.nesting.specs.Claims.{Formattings, Sheets}
+use Rattle.nesting.specs.Claims.{EveryFormatting, EverySheet}
 use Rattle.nesting.proofs.Nesting.{marks-nest}
 use Rattle.exports.specs.Numbers.{Lent, Handed, formatNumberOf, lentAfter, handed}
 use Rattle.exports.specs.Zero.{FormatTold}
@@ -27,11 +27,11 @@ module _ (P : Bytes → Type 0) (f : Formatted) (told : FormatTold (f .answer)) 
       subst (λ (x : Handed). P (take (x .figures .written) (x .buffers .text))) q (by-answer k (f .answer) refl told (ap (λ (x : Handed). x .number) q ∙ z))
 
 -- so from each claim of the definition to that of the calls
-module _ (U P : Bytes → Type 0) where
-  format-calls : Formattings U P → FormatCalls U P
+module _ (Q P : Bytes → Type 0) where
+  format-calls : EveryFormatting Q P → FormatCalls Q P
   format-calls f s os us image oi ui id a b k h q z = handed-over P (format s id a image b) (format-told s id a image b) (f s os us image oi ui id a b) k h q z
 
-  sheet-calls : Sheets U P → SheetCalls U P
+  sheet-calls : EverySheet Q P → SheetCalls Q P
   sheet-calls f s os us image oi ui b k h q z = handed-over P (formatSheet s image b) (sheet-told s image b) (f s os us image oi ui b) k h q z
 
 pub calls-nest : CallsNest

@@ -1,5 +1,5 @@
--- Card 12 for a caller. The contracts of `weszlagyo_format` and `weszlagyo_format_sheet` say that what is handed over, h, is that of the definition; where 0
--- is answered, the isolation marks of the text are paired, up to the length that is handed over.
+-- Card 12 for a caller. The contracts of `weszlagyo_format` and `weszlagyo_format_sheet` say that what is handed over, h, is that of the definition. Where no
+-- text that goes in has a mark and 0 is answered, the isolation marks of the text are paired, up to the length that is handed over.
 use mathlib.Core.Path.{_≡_}
 use mathlib.Core.Option.{Option}
 use lib.ListN.{take}
@@ -11,18 +11,18 @@ use Rattle.nesting.specs.Marks.{UnmarkedBytes, PairedBytes, UnmarkedScalars, Pa
 use Rattle.nesting.specs.Claims.{InBundle, InArguments, InSheet}
 use Rattle.exports.specs.Numbers.{Lent, Handed, handed}
 
-module _ (U P : Bytes → Type 0) where
+module _ (Q P : Bytes → Type 0) where
   abbrev pub FormatCalls : Type 0
   FormatCalls =
-      (s : Bytes) → Octets s → InBundle U s
-      → (image : Bytes) → Octets image → InArguments U image
+      (s : Bytes) → Octets s → InBundle Q s
+      → (image : Bytes) → Octets image → InArguments Q image
       → (id : Bytes) (a : Option Bytes) (b : Buffers) (k : Lent) (h : Handed) → handed (format s id a image b) k ≡ h → h .number ≡ 0
       → P (take (h .figures .written) (h .buffers .text))
 
   abbrev pub SheetCalls : Type 0
   SheetCalls =
-      (s : Bytes) → Octets s → InBundle U s
-      → (image : Bytes) → Octets image → InSheet U image
+      (s : Bytes) → Octets s → InBundle Q s
+      → (image : Bytes) → Octets image → InSheet Q image
       → (b : Buffers) (k : Lent) (h : Handed) → handed (formatSheet s image b) k ≡ h → h .number ≡ 0
       → P (take (h .figures .written) (h .buffers .text))
 

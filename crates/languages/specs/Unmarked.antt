@@ -1,19 +1,18 @@
--- The premises of Card 12 can be met: the sentences of the four languages have no mark.
-use mathlib.Core.Path.{_≡_}
+-- The sentences of the four languages have no isolation mark: they meet what Card 12 asks of a bundle.
 use mathlib.Core.List.{List, [], _∷_, _++_}
-use mathlib.Core.Bool.{true}
-use Prim.Native.Nat.{ℕ, _+_}
+use Prim.Native.Nat.{ℕ, _+_, _<_}
 use lib.ListN.{length}
 use Rattle.decimals.specs.Ascii.{ascii}
 use Rattle.records.specs.Got.{Got, got, bad}
 use Rattle.records.specs.Images.{Item, Store, storeOf}
 use Rattle.records.specs.Encode.{encWhole, encItem}
+use Rattle.layout.specs.Exact.{Octets}
 use Rattle.resolution.specs.Effect.{Bytes}
 use Rattle.languages.specs.Languages.{en, da, ru, cy}
 use Rattle.nesting.specs.Marks.{UnmarkedBytes}
 use Rattle.nesting.specs.Claims.{InBundle}
 
--- the bundle that the program makes of a language's image: NUMBER, then the sentences; here it isolates
+-- the bundle that the program makes of a language's image, NUMBER and then the sentences; here it isolates
 unfoldable pub made : ℕ → Bytes → Bytes
 made locale image = encWhole (1 ∷ locale ∷ 1 ∷ 0 ∷ 2 ∷ encItem (Item.function (ascii "NUMBER")) ++ (1 ∷ image))
 
@@ -28,13 +27,14 @@ unfoldable pub entriesIn : Got Store → ℕ
 entriesIn bad = 0
 entriesIn (got v e) = entriesOf (v .items)
 
--- the bundle has entries, and no mark stands in any
-pub record Meets (s : Bytes) (n : ℕ) : Type 0 where
-  pub entries : entriesIn (storeOf s) ≡ n
+-- the slice is bytes, the bundle in it has entries, and no mark stands in any
+pub record Unmarked (s : Bytes) : Type 0 where
+  pub octets : Octets s
+  pub entries : 0 < entriesIn (storeOf s)
   pub unmarked : InBundle UnmarkedBytes s
 
-pub record Met : Type 0 where
-  pub english : Meets (made 0 en) 9
-  pub danish : Meets (made 1 da) 8
-  pub russian : Meets (made 2 ru) 9
-  pub welsh : Meets (made 3 cy) 8
+pub record LanguagesUnmarked : Type 0 where
+  pub english : Unmarked (made 0 en)
+  pub danish : Unmarked (made 1 da)
+  pub russian : Unmarked (made 2 ru)
+  pub welsh : Unmarked (made 3 cy)

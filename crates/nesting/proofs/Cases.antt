@@ -1,13 +1,36 @@
 -- The premises of Card 12 can be met, and each is needed, by computing.
 use mathlib.Core.Path.{refl}
-use Rattle.resolution.specs.CutShort.{empties, cutShort}
-use Rattle.nesting.specs.Cases.{counted, bundleOf, without, lent, long, Met, inVariable, marked-texts, Needed}
-use Rattle.nesting.proofs.Decided.{bundle-unmarked, arguments-unmarked, tests}
+use Rattle.resolution.specs.Case.{⟨, ⟩}
+use Rattle.resolution.specs.CutShort.{empties, cutInIsolates}
+use Rattle.nesting.specs.Cases.{counted, bundleOf, without, lent, cut, twice, PremisesMet, inText, inLiteral, inVariable, marked, markedSheet, unpaired-where-marked, PremisesNeeded}
+use Rattle.nesting.proofs.Decided.{octets-true, bundle-unmarked, arguments-unmarked, sheet-unmarked, tests}
 
-pub met : Met
-unfolding counted without lent long empties cutShort tests
-met = record { bundle = bundle-unmarked long refl; arguments = arguments-unmarked without refl; finishes = refl; text = refl }
+pub premises-met : PremisesMet
+unfolding counted without lent cut twice empties cutInIsolates tests
+premises-met = record {
+  store-octets = octets-true cut refl;
+  store = bundle-unmarked cut refl;
+  arguments-octets = octets-true without refl;
+  arguments = arguments-unmarked without refl;
+  finishes = refl;
+  text = refl;
+  sheet-octets = octets-true twice refl;
+  sheet = sheet-unmarked twice refl;
+  sheet-finishes = refl;
+  sheet-text = refl;
+}
 
-pub needed : Needed
-unfolding counted bundleOf without inVariable tests
-needed = record { has-marks = marked-texts; no-arguments = arguments-unmarked without refl; no-texts = bundle-unmarked inVariable refl }
+pub premises-needed : PremisesNeeded
+unfolding counted bundleOf without inText inLiteral inVariable marked markedSheet tests
+premises-needed = record {
+  has-marks = unpaired-where-marked;
+  text-octets = octets-true (inText ⟩) refl;
+  opening-text-octets = octets-true (inText ⟨) refl;
+  literal-octets = octets-true inLiteral refl;
+  arguments-octets = octets-true without refl;
+  no-arguments = arguments-unmarked without refl;
+  store-octets = octets-true inVariable refl;
+  no-texts = bundle-unmarked inVariable refl;
+  marked-octets = octets-true marked refl;
+  sheet-octets = octets-true markedSheet refl;
+}

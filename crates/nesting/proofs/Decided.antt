@@ -1,22 +1,24 @@
--- The premises by computing: tests of texts, bundles and arguments, and that what passes is unmarked.
-use mathlib.Core.Path.{_≡_, refl, subst}
+-- The premises by computing: tests of bytes, texts, bundles, arguments and sheets, and that what passes is as the premises ask.
+use mathlib.Core.Path.{_≡_, subst}
 use mathlib.Core.List.{List, [], _∷_}
 use mathlib.Core.Bool.{Bool, true, _&&_}
 use mathlib.Core.Option.{Option, none, some}
 use Prim.Native.Nat.{ℕ}
-use lib.Dec.{eqb}
-use borrow.Author.Tests.{eqb-true}
+use lib.Dec.{eqb, ltb}
+use borrow.Author.Tests.{eqb-true, ltb-true}
 use Rattle.decimals.proofs.Tests.{and-true}
 use Rattle.unescape.specs.Unescape.{unescape}
 use Rattle.records.specs.Got.{Got, got, bad}
 use Rattle.records.specs.Tree.{Pattern}
 use Rattle.records.specs.Images.{Attribute, Entry, Item, Store, Argument, storeOf, argumentsOf}
 use Rattle.records.specs.Valid.{All, IfAny}
+use Rattle.layout.specs.Exact.{Octets}
 use Rattle.resolution.specs.Effect.{Bytes}
 use Rattle.resolution.specs.Resolve.{fsi, pdi}
-use Rattle.theorems.specs.Leaves.{Leaf, leavesOf, InEntry, InItem, InLeaves, InItems}
+use Rattle.theorems.specs.Leaves.{Leaf, leavesOf, InEntry, InItem, InLeaves}
+use Rattle.requests.specs.Image.{Request, sheetOf}
 use Rattle.nesting.specs.Marks.{countIn, UnmarkedBytes}
-use Rattle.nesting.specs.Claims.{InLeaf, InBundle, InArgument, InArguments}
+use Rattle.nesting.specs.Claims.{InLeaf, InBundle, InArgument, InArguments, InSheet}
 
 -- of every member
 unfoldable pub every : {A : Type 0} → (A → Bool) → List A → Bool
@@ -28,6 +30,25 @@ unfolding every
 every-true test Ok f [] h = tt
 every-true test Ok f (a ∷ l) h = let b = and-true (test a) (every test l) h in (f a (b .0), every-true test Ok f l (b .1))
 
+-- of what is read, if anything is
+unfoldable pub readAs : {A : Type 0} → (A → Bool) → Got A → Bool
+readAs test bad = true
+readAs test (got a e) = test a
+
+read-true : {A : Type 0} (test : A → Bool) (Ok : A → Type 0) → ((a : A) → test a ≡ true → Ok a) → (g : Got A) → readAs test g ≡ true → (a : A) (e : ℕ) → g ≡ got a e → Ok a
+unfolding readAs
+read-true {A} test Ok f g h a e q = f a (subst (λ (x : Got A). readAs test x ≡ true) q h)
+
+-- bytes
+unfoldable pub isByte : ℕ → Bool
+isByte b = ltb b 256
+
+pub octets-true : (s : Bytes) → every isByte s ≡ true → Octets s
+unfolding every isByte
+octets-true [] h = tt
+octets-true (b ∷ s) h = let x = and-true (ltb b 256) (every isByte s) h in (ltb-true b 256 (x .0), octets-true s (x .1))
+
+-- a text
 unfoldable pub unmarked : Bytes → Bool
 unmarked t = eqb (countIn fsi t) 0 && eqb (countIn pdi t) 0
 
@@ -36,16 +57,16 @@ unfolding unmarked
 unmarked-true t h = let b = and-true (eqb (countIn fsi t) 0) (eqb (countIn pdi t) 0) h in record { no-opening = eqb-true _ 0 (b .0); no-closing = eqb-true _ 0 (b .1) }
 
 -- a bundle
-unfoldable pub leaf : Leaf → Bool
-leaf (Leaf.text t) = unmarked t
-leaf (Leaf.string s) = unmarked (unescape s)
-leaf (Leaf.variable i) = true
-leaf (Leaf.function i) = true
-leaf (Leaf.message i a) = true
-leaf (Leaf.term i a) = true
+unfoldable pub leafUnmarked : Leaf → Bool
+leafUnmarked (Leaf.text t) = unmarked t
+leafUnmarked (Leaf.string s) = unmarked (unescape s)
+leafUnmarked (Leaf.variable i) = true
+leafUnmarked (Leaf.function i) = true
+leafUnmarked (Leaf.message i a) = true
+leafUnmarked (Leaf.term i a) = true
 
-leaf-true : (x : Leaf) → leaf x ≡ true → InLeaf UnmarkedBytes x
-unfolding leaf
+leaf-true : (x : Leaf) → leafUnmarked x ≡ true → InLeaf UnmarkedBytes x
+unfolding leafUnmarked
 leaf-true (Leaf.text t) h = unmarked-true t h
 leaf-true (Leaf.string s) h = unmarked-true (unescape s) h
 leaf-true (Leaf.variable i) h = tt
@@ -56,71 +77,77 @@ leaf-true (Leaf.term i a) h = tt
 abbrev Free : Pattern → Type 0
 Free p = InLeaves (InLeaf UnmarkedBytes) p
 
-unfoldable pub free : Pattern → Bool
-free p = every leaf (leavesOf p)
+unfoldable pub patternUnmarked : Pattern → Bool
+patternUnmarked p = every leafUnmarked (leavesOf p)
 
-free-true : (p : Pattern) → free p ≡ true → Free p
-unfolding free
-free-true p h = every-true leaf (InLeaf UnmarkedBytes) leaf-true (leavesOf p) h
+free-true : (p : Pattern) → patternUnmarked p ≡ true → Free p
+unfolding patternUnmarked
+free-true p h = every-true leafUnmarked (InLeaf UnmarkedBytes) leaf-true (leavesOf p) h
 
-unfoldable pub value : Option Pattern → Bool
-value none = true
-value (some p) = free p
+unfoldable pub valueUnmarked : Option Pattern → Bool
+valueUnmarked none = true
+valueUnmarked (some p) = patternUnmarked p
 
-value-true : (o : Option Pattern) → value o ≡ true → IfAny Free o
-unfolding value
+value-true : (o : Option Pattern) → valueUnmarked o ≡ true → IfAny Free o
+unfolding valueUnmarked
 value-true none h = tt
 value-true (some p) h = free-true p h
 
-unfoldable pub entry : Entry → Bool
-entry e = value (e .value) && every (λ (a : Attribute). free (a .1)) (e .attributes)
+unfoldable pub entryUnmarked : Entry → Bool
+entryUnmarked e = valueUnmarked (e .value) && every (λ (a : Attribute). patternUnmarked (a .1)) (e .attributes)
 
-entry-true : (e : Entry) → entry e ≡ true → InEntry Free e
-unfolding entry
+entry-true : (e : Entry) → entryUnmarked e ≡ true → InEntry Free e
+unfolding entryUnmarked
 entry-true e h =
-    let b = and-true (value (e .value)) (every (λ (a : Attribute). free (a .1)) (e .attributes)) h in
-    (value-true (e .value) (b .0), every-true (λ (a : Attribute). free (a .1)) (λ (a : Attribute). Free (a .1)) (λ a k. free-true (a .1) k) (e .attributes) (b .1))
+    let b = and-true (valueUnmarked (e .value)) (every (λ (a : Attribute). patternUnmarked (a .1)) (e .attributes)) h in
+    (value-true (e .value) (b .0), every-true (λ (a : Attribute). patternUnmarked (a .1)) (λ (a : Attribute). Free (a .1)) (λ a k. free-true (a .1) k) (e .attributes) (b .1))
 
-unfoldable pub item : Item → Bool
-item (Item.plain es) = every entry es
-item (Item.overriding es) = every entry es
-item (Item.function i) = true
+unfoldable pub itemUnmarked : Item → Bool
+itemUnmarked (Item.plain es) = every entryUnmarked es
+itemUnmarked (Item.overriding es) = every entryUnmarked es
+itemUnmarked (Item.function i) = true
 
-item-true : (x : Item) → item x ≡ true → InItem Free x
-unfolding item
-item-true (Item.plain es) h = every-true entry (InEntry Free) entry-true es h
-item-true (Item.overriding es) h = every-true entry (InEntry Free) entry-true es h
+item-true : (x : Item) → itemUnmarked x ≡ true → InItem Free x
+unfolding itemUnmarked
+item-true (Item.plain es) h = every-true entryUnmarked (InEntry Free) entry-true es h
+item-true (Item.overriding es) h = every-true entryUnmarked (InEntry Free) entry-true es h
 item-true (Item.function i) h = tt
 
-unfoldable pub store : Got Store → Bool
-store bad = true
-store (got v e) = every item (v .items)
+unfoldable pub storeUnmarked : Store → Bool
+storeUnmarked v = every itemUnmarked (v .items)
 
-pub bundle-unmarked : (s : Bytes) → store (storeOf s) ≡ true → InBundle UnmarkedBytes s
-unfolding store
-bundle-unmarked s h v e q = every-true item (InItem Free) item-true (v .items) (subst (λ (g : Got Store). store g ≡ true) q h)
+pub bundle-unmarked : (s : Bytes) → readAs storeUnmarked (storeOf s) ≡ true → InBundle UnmarkedBytes s
+unfolding storeUnmarked
+bundle-unmarked s h v e q = read-true storeUnmarked (λ (v : Store). All (InItem Free) (v .items)) (λ v k. every-true itemUnmarked (InItem Free) item-true (v .items) k) (storeOf s) h v e q
 
 -- arguments
-unfoldable pub argument : Bytes × Argument → Bool
-argument (i, Argument.string t) = unmarked t
-argument (i, Argument.number f d k) = true
-argument (i, Argument.nothing) = true
+unfoldable pub argumentUnmarked : Bytes × Argument → Bool
+argumentUnmarked (i, Argument.string t) = unmarked t
+argumentUnmarked (i, Argument.number f d k) = true
+argumentUnmarked (i, Argument.nothing) = true
 
-argument-true : (e : Bytes × Argument) → argument e ≡ true → InArgument UnmarkedBytes e
-unfolding argument
+argument-true : (e : Bytes × Argument) → argumentUnmarked e ≡ true → InArgument UnmarkedBytes e
+unfolding argumentUnmarked
 argument-true (i, Argument.string t) h = unmarked-true t h
 argument-true (i, Argument.number f d k) h = tt
 argument-true (i, Argument.nothing) h = tt
 
-unfoldable pub given : Got (List (Bytes × Argument)) → Bool
-given bad = true
-given (got l e) = every argument l
+pub arguments-unmarked : (image : Bytes) → readAs (every argumentUnmarked) (argumentsOf image) ≡ true → InArguments UnmarkedBytes image
+arguments-unmarked image h l e q = read-true (every argumentUnmarked) (All (InArgument UnmarkedBytes)) (λ l k. every-true argumentUnmarked (InArgument UnmarkedBytes) argument-true l k) (argumentsOf image) h l e q
 
-pub arguments-unmarked : (image : Bytes) → given (argumentsOf image) ≡ true → InArguments UnmarkedBytes image
-unfolding given
-arguments-unmarked image h l e q = every-true argument (InArgument UnmarkedBytes) argument-true l (subst (λ (g : Got (List (Bytes × Argument))). given g ≡ true) q h)
+-- the messages of a sheet
+unfoldable pub requestUnmarked : Request → Bool
+requestUnmarked r = readAs (every argumentUnmarked) (argumentsOf (r .image))
+
+request-true : (r : Request) → requestUnmarked r ≡ true → InArguments UnmarkedBytes (r .image)
+unfolding requestUnmarked
+request-true r h = arguments-unmarked (r .image) h
+
+pub sheet-unmarked : (image : Bytes) → readAs (every requestUnmarked) (sheetOf image) ≡ true → InSheet UnmarkedBytes image
+sheet-unmarked image h rs e q =
+    read-true (every requestUnmarked) (All (λ (r : Request). InArguments UnmarkedBytes (r .image))) (λ l k. every-true requestUnmarked (λ (r : Request). InArguments UnmarkedBytes (r .image)) request-true l k) (sheetOf image) h rs e q
 
 -- the tests, open
 unfoldable pub tests : Unit {0}
-unfolding every unmarked leaf free value entry item store argument given
+unfolding every readAs isByte unmarked leafUnmarked patternUnmarked valueUnmarked entryUnmarked itemUnmarked storeUnmarked argumentUnmarked requestUnmarked
 tests = tt

@@ -1,15 +1,13 @@
 -- Every text that a formatting finishes with has its marks paired, by bytes, where what goes in has none.
-use mathlib.Core.Path.{_≡_, sym, subst}
+use mathlib.Core.Path.{sym, subst}
 use mathlib.Core.List.{List}
 use mathlib.Core.Option.{Option}
-use Prim.Native.Nat.{ℕ}
-use lib.ListN.{take}
 use Rattle.records.specs.Images.{Argument}
 use Rattle.records.specs.Valid.{All, ValidNamedArgument, ValidArgument, ValidArgumentsImage}
 use Rattle.layout.specs.Exact.{Octets}
 use Rattle.layout.proofs.Theorems.{store-sound, arguments-sound}
 use Rattle.resolution.specs.Effect.{Bytes}
-use Rattle.resolution.specs.Format.{finished, Buffers, valueOf, valuesOf, format}
+use Rattle.resolution.specs.Format.{Buffers, valueOf, valuesOf}
 use Rattle.theorems.specs.Finished.{Finished, Sound, outOf}
 use Rattle.theorems.proofs.Every.{all-both}
 use Rattle.theorems.proofs.WalkLeaves.{Fine, FineNamed}
@@ -17,7 +15,7 @@ use Rattle.theorems.proofs.Formattings.{sound, text-taken}
 use Rattle.theorems.proofs.Resolves.{Keeps, values-fine, resolves}
 use Rattle.theorems.proofs.ReadBack.{text-utf8, string-utf8}
 use Rattle.nesting.specs.Marks.{UnmarkedBytes, PairedBytes}
-use Rattle.nesting.specs.Claims.{InLeaf, InBundle, InArgument, InArguments, Formattings}
+use Rattle.nesting.specs.Claims.{InLeaf, InBundle, InArgument, InArguments, EveryFormatting}
 use Rattle.nesting.proofs.Counts.{utf8-lead, ascii-lead, ascii-unmarked}
 use Rattle.nesting.proofs.Lifts.{Even, even-joins, even-unmarked, even-paired}
 
@@ -50,7 +48,7 @@ module _ (s : Bytes) (os : Octets s) (us : InBundle UnmarkedBytes s) (image : By
       (f .reached .arguments) (values-even (f .reached .arguments) (arguments-sound oi (f .reached .given) .0) (ui (f .reached .arguments) (f .reached .argumentsEnd) (f .reached .given)))
       id a (f .reached .entry) (f .reached .part) (f .reached .found) (f .reached .has) .text
 
-pub formattings-nest : Formattings UnmarkedBytes PairedBytes
+pub formattings-nest : EveryFormatting UnmarkedBytes PairedBytes
 formattings-nest s os us image oi ui id a b t e k u w h =
     let r : Sound s id a image b t e k u w = sound s id a image b t e k u w h in
     subst PairedBytes (sym (text-taken s id a image b t e k u w r)) (even-paired _ (parts-even s os us image oi ui id a b (r .parts)))

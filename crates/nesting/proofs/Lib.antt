@@ -3,6 +3,7 @@ pub mod Lifts
 pub mod Formattings
 pub mod Sheets
 pub mod Scalars
+pub mod Premises
 pub mod Nesting
 pub mod Decided
 pub mod Cases

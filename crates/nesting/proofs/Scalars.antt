@@ -8,25 +8,25 @@ use native.Mathlib.Omega.{arith}
 use lib.ListN.{length, take, length-append}
 use lib.Seq.{take-nil, take-append-le, take-append-add, length-take-le}
 use lib.Dec.{eqb, ltb, leb}
-use borrow.Author.Tests.{ltb-true, ltb-false, lt-ltb, le-ltb, leb-true, leb-false, eqb-true, eqb-false, eq-eqb, ne-eqb}
+use borrow.Author.Tests.{ltb-true, ltb-false, leb-true, leb-false, eqb-true, eqb-false, ne-eqb}
 use Rattle.rules.specs.Rules.{isUtf8}
 use Rattle.records.specs.Encode.{encAll}
 use Rattle.records.specs.Valid.{All}
 use Rattle.scalars.specs.Scalars.{Scalar, encScalar}
 use Rattle.scalars.proofs.Utf8.{is, scalar-either, encode-3}
-use Rattle.layout.specs.Utf8.{encScalars, Coded}
+use Rattle.layout.specs.Utf8.{encScalars}
 use Rattle.layout.proofs.Scalars.{utf8-complete, utf8-exactly}
 use Rattle.resolution.specs.Effect.{Bytes}
 use Rattle.resolution.specs.Resolve.{fsi, pdi}
-use Rattle.nesting.specs.Marks.{begins, once, countIn, Unmarked, Paired, UnmarkedBytes, PairedBytes, OfScalars, UnmarkedScalars, PairedScalars}
+use Rattle.nesting.specs.Marks.{begins, once, countIn, Unmarked, Paired, UnmarkedBytes, PairedBytes, UnmarkedScalars, PairedScalars}
 use Rattle.nesting.proofs.Counts.{Lead, lead-take, utf8-lead, count-append, count-take, count-short}
 
 scalars-lead : (cs : List ℕ) → All Scalar cs → Lead (encScalars cs)
 scalars-lead cs h = utf8-lead (encScalars cs) (utf8-complete cs h)
 
-and-true : (b : Bool) → (b && true) ≡ b
-and-true true = refl
-and-true false = refl
+true-right : (b : Bool) → (b && true) ≡ b
+true-right true = refl
+true-right false = refl
 
 -- A mark by its last six bits: the bytes E2 81 80+k, and the scalar U+2040+k. U+2068 has k = 0x28, U+2069 has 0x29.
 abbrev bytes : ℕ → List ℕ
@@ -102,7 +102,7 @@ module _ (k : ℕ) (h : k < 64) where
 
   front-scalar : (c : ℕ) (cs : List ℕ) → countIn (scalar k) (c ∷ cs) ≡ once (eqb (0x2040 + k) c) + countIn (scalar k) cs
   unfolding countIn begins
-  front-scalar c cs = ap (λ (x : Bool). once x + countIn (scalar k) cs) (and-true (eqb (0x2040 + k) c))
+  front-scalar c cs = ap (λ (x : Bool). once x + countIn (scalar k) cs) (true-right (eqb (0x2040 + k) c))
 
   -- a scalar that is cut short is no mark
   cut-none : (n c : ℕ) → Scalar c → n < length (encScalar c) → countIn (bytes k) (take n (encScalar c)) ≡ 0
@@ -144,13 +144,14 @@ within n (c ∷ cs) s = go (λ j. within j cs (s .1)) (leb (length (encScalar c)
         let l : n < length (encScalar c) = leb-false _ _ e in
         record { whole = 0; counts = λ k h. ap (countIn (bytes k)) (take-append-le n (encScalar c) (encScalars cs) (omega arith)) ∙ cut-none k h n c (s .0) l }
 
--- and those of a prefix by scalars are those of a prefix by bytes
+-- the marks of the whole
 count-scalars : (k : ℕ) → k < 64 → (cs : List ℕ) → All Scalar cs → countIn (bytes k) (encScalars cs) ≡ countIn (scalar k) cs
 unfolding encScalars encAll countIn
 count-scalars k h [] s = refl
 count-scalars k h (c ∷ cs) s =
     front-bytes k h c (s .0) (encScalars cs) (scalars-lead cs (s .1)) ∙ ap (λ (m : ℕ). once (eqb (0x2040 + k) c) + m) (count-scalars k h cs (s .1)) ∙ sym (front-scalar k h c cs)
 
+-- and those of a prefix by scalars are those of a prefix by bytes
 prefix-bytes : (n : ℕ) (cs : List ℕ) → take (length (encScalars (take n cs))) (encScalars cs) ≡ encScalars (take n cs)
 unfolding encScalars encAll
 prefix-bytes zero cs = refl

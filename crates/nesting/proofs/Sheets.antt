@@ -1,26 +1,21 @@
 -- Every text that a sheet finishes with has its marks paired, by bytes, where what goes in has none.
-use mathlib.Core.Path.{_≡_, sym, subst}
-use mathlib.Core.List.{List}
-use Prim.Native.Nat.{ℕ}
-use lib.ListN.{take}
+use mathlib.Core.Path.{sym, subst}
 use Rattle.records.specs.Valid.{All}
 use Rattle.layout.proofs.Theorems.{arguments-sound}
-use Rattle.resolution.specs.Effect.{Bytes}
-use Rattle.resolution.specs.Format.{Buffers}
 use Rattle.theorems.proofs.Every.{all-both}
 use Rattle.requests.specs.Image.{Request}
 use Rattle.requests.proofs.Exact.{RequestOk, requests-ok}
 use Rattle.sheet_theorems.proofs.Parts.{Finishes, finishes}
 use Rattle.sheet_theorems.proofs.Fine.{FineRequest, sheet-keeps, sheet-text-taken}
 use Rattle.nesting.specs.Marks.{UnmarkedBytes, PairedBytes}
-use Rattle.nesting.specs.Claims.{InLeaf, InArguments, Sheets}
+use Rattle.nesting.specs.Claims.{InLeaf, InArguments, EverySheet}
 use Rattle.nesting.proofs.Lifts.{Even, even-paired}
 use Rattle.nesting.proofs.Formattings.{even-keeps, values-even}
 
 request-even : (r : Request) → RequestOk r → InArguments UnmarkedBytes (r .image) → FineRequest Even r
 request-even r ok u l e given = values-even l (arguments-sound (ok .octets) given .0) (u l e given)
 
-pub sheets-nest : Sheets UnmarkedBytes PairedBytes
+pub sheets-nest : EverySheet UnmarkedBytes PairedBytes
 sheets-nest s os us image oi ui b t e k u w h =
     let f : Finishes s image b = finishes s image b t e k u w h in
     let given : All (FineRequest Even) (f .requests) =

@@ -42,7 +42,7 @@ UnmarkedBytes t = Unmarked fsi pdi t
 abbrev pub PairedBytes : Bytes → Type 0
 PairedBytes t = Paired fsi pdi t
 
--- by the Unicode scalars that a text's bytes are: they are some, and whichever they are, P holds of them
+-- by the Unicode scalars that a text's bytes are: the text is the encoding of some scalars, and P holds of every list of scalars that it encodes
 pub record OfScalars (P : List ℕ → Type 0) (t : Bytes) : Type 0 where
   pub are : Coded t
   pub hold : (k : Coded t) → P (k .scalars)

@@ -14,8 +14,8 @@ empties (suc n) = put (quoted "") (empties n)
 
 -- `a = { 1 -> *[o] x{ 2 -> *[p] { b } } }!`, `b` 98 elements `{ "" }`: ⟨x⟨{b}{???}⟩{???}⟩; TooManyPlaceables; begun 101. Neither the text after the select
 -- nor the 101st placeable is written.
-unfoldable pub cutShort : Case
-cutShort = record {
+unfoldable pub cutInIsolates : Case
+cutInIsolates = record {
   entries = a-message "a" (choice (numeral "1") (default "o" (say "x" (choice (numeral "2") (default "p" (put (ref "b") no-more) no-variant) no-more)) no-variant) (say "!" no-more)) ∷ a-message "b" (empties 98) ∷ [];
   message = ascii "a";
   arguments = [];
@@ -27,6 +27,6 @@ cutShort = record {
   work = 0;
 }
 
-pub cut-short-formats : Formats cutShort
-unfolding computed empties cutShort
+pub cut-short-formats : Formats cutInIsolates
+unfolding computed empties cutInIsolates
 cut-short-formats = refl

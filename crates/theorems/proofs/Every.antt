@@ -88,18 +88,24 @@ module _ (G : Pattern → Type 0) where
   in-part a e p h q = subst (IfAny G) q (in-any a e h)
 
 -- what follows of each pattern follows of all patterns of the items
-module _ (G G′ : Pattern → Type 0) (f : (p : Pattern) → G p → G′ p) where
-  any-map : (o : Option Pattern) → IfAny G o → IfAny G′ o
-  any-map none h = tt
-  any-map (some p) h = f p h
+module _ (G H K : Pattern → Type 0) (f : (p : Pattern) → G p → H p → K p) where
+  any-both : (o : Option Pattern) → IfAny G o → IfAny H o → IfAny K o
+  any-both none h k = tt
+  any-both (some p) h k = f p h k
 
-  entry-map : (e : Entry) → InEntry G e → InEntry G′ e
-  entry-map e h = (any-map (e .value) (h .0), all-map (λ (a : Attribute). G (a .1)) (λ (a : Attribute). G′ (a .1)) (λ a k. f (a .1) k) (e .attributes) (h .1))
+  entry-both : (e : Entry) → InEntry G e → InEntry H e → InEntry K e
+  entry-both e h k = (
+    any-both (e .value) (h .0) (k .0),
+    all-both (λ (a : Attribute). G (a .1)) (λ (a : Attribute). H (a .1)) (λ (a : Attribute). K (a .1)) (λ a x y. f (a .1) x y) (e .attributes) (h .1) (k .1),
+  )
 
-  item-map : (x : Item) → InItem G x → InItem G′ x
-  item-map (Item.plain es) h = all-map (InEntry G) (InEntry G′) entry-map es h
-  item-map (Item.overriding es) h = all-map (InEntry G) (InEntry G′) entry-map es h
-  item-map (Item.function i) h = tt
+  item-both : (x : Item) → InItem G x → InItem H x → InItem K x
+  item-both (Item.plain es) h k = all-both (InEntry G) (InEntry H) (InEntry K) entry-both es h k
+  item-both (Item.overriding es) h k = all-both (InEntry G) (InEntry H) (InEntry K) entry-both es h k
+  item-both (Item.function i) h k = tt
 
-  pub items-map : (xs : List Item) → All (InItem G) xs → All (InItem G′) xs
-  items-map xs h = all-map (InItem G) (InItem G′) item-map xs h
+  pub items-both : (xs : List Item) → All (InItem G) xs → All (InItem H) xs → All (InItem K) xs
+  items-both xs h k = all-both (InItem G) (InItem H) (InItem K) item-both xs h k
+
+pub items-map : (G K : Pattern → Type 0) → ((p : Pattern) → G p → K p) → (xs : List Item) → All (InItem G) xs → All (InItem K) xs
+items-map G K f xs h = items-both G G K (λ p x y. f p x) xs h h

@@ -2,7 +2,7 @@
 use mathlib.Core.Path.{_≡_, refl, ap, sym, subst, _∙_}
 use mathlib.Core.List.{List, [], _∷_, _++_}
 use mathlib.Core.Bool.{Bool, true, false}
-use mathlib.Core.Option.{Option, none, some}
+use mathlib.Core.Option.{Option, none}
 use Prim.Native.Nat.{ℕ, _≤_, _<_, min}
 use native.Mathlib.Omega.{arith}
 use lib.ListN.{length, take}
@@ -13,8 +13,7 @@ use Rattle.rules.specs.Rules.{utf8First, utf8Low, utf8High, utf8Rest, utf8Step,
 use Rattle.decimals.proofs.Run.{run-append}
 use Rattle.unescape.specs.Unescape.{unescape}
 use Rattle.unescape.proofs.WellFormed.{unescape-utf8}
-use Rattle.records.specs.Tree.{Pattern}
-use Rattle.records.specs.Images.{Entry, Store, Argument}
+use Rattle.records.specs.Images.{Store, Argument}
 use Rattle.records.specs.Errors.{Error, encErrors}
 use Rattle.records.specs.Valid.{All, ValidArgument, ValidNamedArgument, ValidArgumentsImage, ValidStore}
 use Rattle.texts.specs.ErrorList.{errorsOf, Recordable, Listable, Brief}
@@ -22,11 +21,11 @@ use Rattle.texts.proofs.ErrorList.{recordable, errors-read}
 use Rattle.layout.specs.Exact.{Octets}
 use Rattle.layout.proofs.Octets.{and-right}
 use Rattle.layout.proofs.Theorems.{store-sound, arguments-sound}
-use Rattle.entries.specs.Lookup.{findIn, partOf}
+use Rattle.entries.specs.Lookup.{findIn}
 use Rattle.resolution.specs.Effect.{Bytes}
-use Rattle.resolution.specs.Resolve.{fsi, pdi, bytesOf, asMessage, resolve}
+use Rattle.resolution.specs.Resolve.{fsi, pdi}
 use Rattle.resolution.specs.Exec.{Machine}
-use Rattle.resolution.specs.Format.{finished, Buffers, limitsOf, valueOf, valuesOf, maxPatterns, fresh, format}
+use Rattle.resolution.specs.Format.{finished, Buffers, limitsOf, valueOf, valuesOf, format}
 use Rattle.theorems.specs.Finished.{reports, tooManyIn, Placeables, settingOf, Finished, Sound, outOf}
 use Rattle.theorems.specs.Written.{TextWellFormed, ReadBack, ListReadBack, PlaceablesListed, AllPlaceablesListed}
 use Rattle.theorems.proofs.Within.{within}
@@ -52,7 +51,7 @@ ascii-utf8 : (t : Bytes) → Ascii t → Utf8 t
 unfolding isUtf8
 ascii-utf8 t h = eq-eqb _ _ (ascii-run t h)
 
-pub utf8-append : (a b : Bytes) → Utf8 a → Utf8 b → Utf8 (a ++ b)
+utf8-append : (a b : Bytes) → Utf8 a → Utf8 b → Utf8 (a ++ b)
 unfolding isUtf8
 utf8-append a b h k = eq-eqb _ _ (run-append utf8Step 0 a b ∙ ap (λ (q : ℕ). run utf8Step q b) (eqb-true _ _ h) ∙ eqb-true _ _ k)
 
@@ -83,12 +82,6 @@ pub image-fine : (l : List (Bytes × Argument)) → ValidArgumentsImage l → Al
 unfolding ValidArgumentsImage
 image-fine l h = values-fine Utf8 ValidNamedArgument value-fine l (h .0 .0)
 
--- what resolution writes and reports in a valid bundle, given valid arguments
-pub resolves-good : (v : Store) → ValidStore v → (l : List (Bytes × Argument)) → ValidArgumentsImage l
-    → (id : Bytes) (a : Option Bytes) (e : Entry) (p : Pattern) → asMessage (findIn (v .items) id) ≡ some e → partOf a e ≡ some p
-    → Good Utf8 Brief Any (resolve (settingOf v l) (findIn (v .items)) maxPatterns p (bytesOf p ∷ []) fresh)
-resolves-good v valid l vl id a e p f k = resolves Utf8 ValidLeaf utf8-keeps v valid (store-leaves v valid) l (image-fine l vl) id a e p f k
-
 -- where TooManyPlaceables is listed, a 101st was begun
 pub begun-over : (m : Machine) → Placeables m → 0 < tooManyIn (m .errors) → m .begun ≡ 101
 begun-over m p h = go (leb (m .begun) 100) refl
@@ -98,8 +91,13 @@ begun-over m p h = go (leb (m .begun) 100) refl
     go false q = omega (arith, p .few, leb-false (m .begun) 100 q)
 
 module _ (s : Bytes) (os : Octets s) (id : Bytes) (a : Option Bytes) (image : Bytes) (oi : Octets image) (b : Buffers) where
+  -- what resolution wrote and reported
   parts-good : (f : Finished s id a image b) → Good Utf8 Brief Any (outOf f)
-  parts-good f = resolves-good (f .reached .store) (store-sound s os (f .reached .stored) .0) (f .reached .arguments) (arguments-sound oi (f .reached .given) .0) id a (f .reached .entry) (f .reached .part) (f .reached .found) (f .reached .has)
+  parts-good f =
+      let v : Store = f .reached .store in
+      let l : List (Bytes × Argument) = f .reached .arguments in
+      let valid : ValidStore v = store-sound s os (f .reached .stored) .0 in
+      resolves Utf8 ValidLeaf utf8-keeps v valid (store-leaves v valid) l (image-fine l (arguments-sound oi (f .reached .given) .0)) id a (f .reached .entry) (f .reached .part) (f .reached .found) (f .reached .has)
 
   module _ (t e k u w : ℕ) (h : format s id a image b .answer ≡ finished t e k u w) where
     utf8-finished : Utf8 (take t (format s id a image b .buffers .text))

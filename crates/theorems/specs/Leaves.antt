@@ -1,5 +1,6 @@
 -- What stands in a pattern, in all its elements, variants, selectors and arguments: its texts, string literals, variables, functions called, and
--- references; and what it is for something to hold of every pattern of a bundle, whether it is found there or not.
+-- references (number literals and the keys of variants, which are ASCII, are left out); and what it is for something to hold of every pattern of a bundle,
+-- whether it is found there or not.
 use mathlib.Core.List.{List, [], _∷_, _++_}
 use mathlib.Core.Option.{Option}
 use Prim.Native.Nat.{ℕ}

@@ -32,6 +32,7 @@ A number has at most 15 digits: 3, -3 or 3.5. Of equal options the last holds.
 
 A sheet is the messages sheet, seen, away and who of a store, with its message
 line between two of them. Its errors and its figures stand below it. Behind the
-errors it is said where the isolation marks are not paired, which is so only where
-a sentence or a field contains U+2068 or U+2069.
+errors, and not counted among them, it is said where the isolation marks are not
+paired (but not by --lines), which is so only where a sentence or a field contains
+U+2068 or U+2069.
 ";

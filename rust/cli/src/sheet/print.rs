@@ -22,8 +22,8 @@ struct Page<'a> {
     arguments: &'a [u8],
 }
 
-/// Said of a text whose isolation marks are not paired. It is proved that this is
-/// the only reason.
+/// Said of a text whose isolation marks are not paired. It is proved that nothing
+/// else leads to that.
 const UNPAIRED: &str =
     "Isolation marks that are not paired: a sentence or a field contains U+2068 or U+2069";
 
@@ -198,9 +198,9 @@ impl Formatted {
         let counts = format!("\t{}\t{}\t{}\t", f.begun, f.unfound, f.errors);
         out.extend(counts.as_bytes());
         out.extend(self.text.iter().map(|b| (*b).max(b' ')));
-        for remark in self.remarks() {
+        for error in &self.errors {
             out.push(b'\t');
-            out.extend(remark.as_bytes());
+            out.extend(words(error).as_bytes());
         }
         out.push(b'\n');
     }
