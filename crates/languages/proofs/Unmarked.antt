@@ -11,7 +11,7 @@ use Rattle.resolution.specs.Effect.{Bytes}
 use Rattle.nesting.specs.Cases.{counted}
 use Rattle.nesting.proofs.Decided.{every, readAs, isByte, storeUnmarked, octets-true, bundle-unmarked, tests}
 use Rattle.languages.specs.Languages.{hex, en, da, ru, cy}
-use Rattle.languages.specs.Unmarked.{made, entriesOf, entriesIn, Unmarked, LanguagesUnmarked}
+use Rattle.languages.specs.Unmarked.{made, entriesOf, entriesIn, UnmarkedStore, LanguagesUnmarked}
 
 -- the tests of a store in one, so that it is read once
 unfoldable storeTest : Got Store → Bool
@@ -21,7 +21,7 @@ storeTest g = ltb 0 (entriesIn g) && readAs storeUnmarked g
 unfoldable test : Bytes → Bool
 test s = every isByte s && storeTest (storeOf s)
 
-test-true : (s : Bytes) → test s ≡ true → Unmarked s
+test-true : (s : Bytes) → test s ≡ true → UnmarkedStore s
 unfolding test storeTest
 test-true s h =
     let a = and-true (every isByte s) (storeTest (storeOf s)) h in

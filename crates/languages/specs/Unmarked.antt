@@ -23,18 +23,19 @@ entriesOf (Item.plain es ∷ xs) = length es + entriesOf xs
 entriesOf (Item.overriding es ∷ xs) = length es + entriesOf xs
 entriesOf (Item.function i ∷ xs) = entriesOf xs
 
+-- of the bundle that is read, if one is
 unfoldable pub entriesIn : Got Store → ℕ
 entriesIn bad = 0
 entriesIn (got v e) = entriesOf (v .items)
 
 -- the slice is bytes, the bundle in it has entries, and no mark stands in any
-pub record Unmarked (s : Bytes) : Type 0 where
+pub record UnmarkedStore (s : Bytes) : Type 0 where
   pub octets : Octets s
   pub entries : 0 < entriesIn (storeOf s)
   pub unmarked : InBundle UnmarkedBytes s
 
 pub record LanguagesUnmarked : Type 0 where
-  pub english : Unmarked (made 0 en)
-  pub danish : Unmarked (made 1 da)
-  pub russian : Unmarked (made 2 ru)
-  pub welsh : Unmarked (made 3 cy)
+  pub english : UnmarkedStore (made 0 en)
+  pub danish : UnmarkedStore (made 1 da)
+  pub russian : UnmarkedStore (made 2 ru)
+  pub welsh : UnmarkedStore (made 3 cy)

@@ -16,6 +16,7 @@ begins [] t = true
 begins (x ∷ m) [] = false
 begins (x ∷ m) (y ∷ t) = eqb x y && begins m t
 
+-- 1 where something is so
 unfoldable pub once : Bool → ℕ
 once true = 1
 once false = 0
@@ -47,6 +48,7 @@ pub record OfScalars (P : List ℕ → Type 0) (t : Bytes) : Type 0 where
   pub are : Coded t
   pub hold : (k : Coded t) → P (k .scalars)
 
+-- so of U+2068 and U+2069 themselves
 abbrev pub UnmarkedScalars : Bytes → Type 0
 UnmarkedScalars t = OfScalars (λ cs. Unmarked (0x2068 ∷ []) (0x2069 ∷ []) cs) t
 
