@@ -17,38 +17,38 @@ use Rattle.theorems.proofs.ReadBack.{text-utf8, string-utf8}
 use Rattle.nesting.specs.Marks.{UnmarkedBytes, PairedBytes}
 use Rattle.nesting.specs.Claims.{InLeaf, InBundle, InArgument, InArguments, EveryFormatting}
 use Rattle.nesting.proofs.Counts.{utf8-lead, ascii-lead, ascii-unmarked}
-use Rattle.nesting.proofs.Lifts.{Even, even-joins, even-unmarked, even-paired}
+use Rattle.nesting.proofs.Balanced.{Balanced, balanced-joins, balanced-unmarked, balanced-paired}
 
-pub even-keeps : Keeps Even (InLeaf UnmarkedBytes)
-even-keeps = record {
-  joins = even-joins;
-  ascii = λ b h. even-unmarked b (ascii-lead b h) (ascii-unmarked b h);
-  texts = λ t h u. even-unmarked t (utf8-lead t (text-utf8 t h)) u;
-  strings = λ s h u. even-unmarked _ (utf8-lead _ (string-utf8 s h)) u;
+pub balanced-keeps : Keeps Balanced (InLeaf UnmarkedBytes)
+balanced-keeps = record {
+  joins = balanced-joins;
+  ascii = λ b h. balanced-unmarked b (ascii-lead b h) (ascii-unmarked b h);
+  texts = λ t h u. balanced-unmarked t (utf8-lead t (text-utf8 t h)) u;
+  strings = λ s h u. balanced-unmarked _ (utf8-lead _ (string-utf8 s h)) u;
 }
 
 -- string arguments
 abbrev Given : Bytes × Argument → Type 0
 Given e = ValidNamedArgument e × InArgument UnmarkedBytes e
 
-value-even : (e : Bytes × Argument) → Given e → Fine Even (valueOf (e .1))
+value-balanced : (e : Bytes × Argument) → Given e → Fine Balanced (valueOf (e .1))
 unfolding valueOf ValidNamedArgument ValidArgument
-value-even (i, Argument.string t) h = even-unmarked t (utf8-lead t (h .0 .1 .1)) (h .1)
-value-even (i, Argument.number f d k) h = tt
-value-even (i, Argument.nothing) h = tt
+value-balanced (i, Argument.string t) h = balanced-unmarked t (utf8-lead t (h .0 .1 .1)) (h .1)
+value-balanced (i, Argument.number f d k) h = tt
+value-balanced (i, Argument.nothing) h = tt
 
-pub values-even : (l : List (Bytes × Argument)) → ValidArgumentsImage l → All (InArgument UnmarkedBytes) l → All (FineNamed Even) (valuesOf l)
+pub values-balanced : (l : List (Bytes × Argument)) → ValidArgumentsImage l → All (InArgument UnmarkedBytes) l → All (FineNamed Balanced) (valuesOf l)
 unfolding ValidArgumentsImage
-values-even l h u = values-fine Even Given value-even l (all-both ValidNamedArgument (InArgument UnmarkedBytes) Given (λ e x y. (x, y)) l (h .0 .0) u)
+values-balanced l h u = values-fine Balanced Given value-balanced l (all-both ValidNamedArgument (InArgument UnmarkedBytes) Given (λ e x y. (x, y)) l (h .0 .0) u)
 
 module _ (s : Bytes) (os : Octets s) (us : InBundle UnmarkedBytes s) (image : Bytes) (oi : Octets image) (ui : InArguments UnmarkedBytes image) (id : Bytes) (a : Option Bytes) (b : Buffers) where
-  parts-even : (f : Finished s id a image b) → Even (outOf f .text)
-  parts-even f =
-      resolves Even (InLeaf UnmarkedBytes) even-keeps (f .reached .store) (store-sound s os (f .reached .stored) .0) (us (f .reached .store) (f .reached .storeEnd) (f .reached .stored))
-      (f .reached .arguments) (values-even (f .reached .arguments) (arguments-sound oi (f .reached .given) .0) (ui (f .reached .arguments) (f .reached .argumentsEnd) (f .reached .given)))
+  parts-balanced : (f : Finished s id a image b) → Balanced (outOf f .text)
+  parts-balanced f =
+      resolves Balanced (InLeaf UnmarkedBytes) balanced-keeps (f .reached .store) (store-sound s os (f .reached .stored) .0) (us (f .reached .store) (f .reached .storeEnd) (f .reached .stored))
+      (f .reached .arguments) (values-balanced (f .reached .arguments) (arguments-sound oi (f .reached .given) .0) (ui (f .reached .arguments) (f .reached .argumentsEnd) (f .reached .given)))
       id a (f .reached .entry) (f .reached .part) (f .reached .found) (f .reached .has) .text
 
 pub formattings-nest : EveryFormatting UnmarkedBytes PairedBytes
 formattings-nest s os us image oi ui id a b t e k u w h =
     let r : Sound s id a image b t e k u w = sound s id a image b t e k u w h in
-    subst PairedBytes (sym (text-taken s id a image b t e k u w r)) (even-paired _ (parts-even s os us image oi ui id a b (r .parts)))
+    subst PairedBytes (sym (text-taken s id a image b t e k u w r)) (balanced-paired _ (parts-balanced s os us image oi ui id a b (r .parts)))

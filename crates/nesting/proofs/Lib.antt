@@ -1,5 +1,5 @@
 pub mod Counts
-pub mod Lifts
+pub mod Balanced
 pub mod Formattings
 pub mod Sheets
 pub mod Scalars

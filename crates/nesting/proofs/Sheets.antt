@@ -9,16 +9,16 @@ use Rattle.sheet_theorems.proofs.Parts.{Finishes, finishes}
 use Rattle.sheet_theorems.proofs.Fine.{FineRequest, sheet-keeps, sheet-text-taken}
 use Rattle.nesting.specs.Marks.{UnmarkedBytes, PairedBytes}
 use Rattle.nesting.specs.Claims.{InLeaf, InArguments, EverySheet}
-use Rattle.nesting.proofs.Lifts.{Even, even-paired}
-use Rattle.nesting.proofs.Formattings.{even-keeps, values-even}
+use Rattle.nesting.proofs.Balanced.{Balanced, balanced-paired}
+use Rattle.nesting.proofs.Formattings.{balanced-keeps, values-balanced}
 
-request-even : (r : Request) → RequestOk r → InArguments UnmarkedBytes (r .image) → FineRequest Even r
-request-even r ok u l e given = values-even l (arguments-sound (ok .octets) given .0) (u l e given)
+request-balanced : (r : Request) → RequestOk r → InArguments UnmarkedBytes (r .image) → FineRequest Balanced r
+request-balanced r ok u l e given = values-balanced l (arguments-sound (ok .octets) given .0) (u l e given)
 
 pub sheets-nest : EverySheet UnmarkedBytes PairedBytes
 sheets-nest s os us image oi ui b t e k u w h =
     let f : Finishes s image b = finishes s image b t e k u w h in
-    let given : All (FineRequest Even) (f .requests) =
-    all-both RequestOk (λ (r : Request). InArguments UnmarkedBytes (r .image)) (FineRequest Even) request-even (f .requests) (requests-ok image (f .requests) oi (f .read)) (ui (f .requests) (f .requestsEnd) (f .read)) in
-    let even : Even (f .machine .written) = sheet-keeps Even (InLeaf UnmarkedBytes) even-keeps s os image b f (us (f .store) (f .storeEnd) (f .stored)) given .text in
-    subst PairedBytes (sym (sheet-text-taken s image b t e k u w f h)) (even-paired _ even)
+    let given : All (FineRequest Balanced) (f .requests) =
+    all-both RequestOk (λ (r : Request). InArguments UnmarkedBytes (r .image)) (FineRequest Balanced) request-balanced (f .requests) (requests-ok image (f .requests) oi (f .read)) (ui (f .requests) (f .requestsEnd) (f .read)) in
+    let balanced : Balanced (f .machine .written) = sheet-keeps Balanced (InLeaf UnmarkedBytes) balanced-keeps s os image b f (us (f .store) (f .storeEnd) (f .stored)) given .text in
+    subst PairedBytes (sym (sheet-text-taken s image b t e k u w f h)) (balanced-paired _ balanced)
