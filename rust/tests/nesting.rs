@@ -3,27 +3,9 @@
 //! short closes what it has opened.
 #![forbid(unsafe_code)]
 
+use weszlagyo::isolation::{are_paired, has_marks};
 use weszlagyo::syntax::*;
 use weszlagyo::*;
-
-const OPENING: char = '\u{2068}';
-const CLOSING: char = '\u{2069}';
-
-/// No prefix has more closing than opening marks, and the whole as many of each.
-fn paired(text: &str) -> bool {
-    let mut open = 0;
-    for scalar in text.chars() {
-        match scalar {
-            OPENING => open += 1,
-            CLOSING => open -= 1,
-            _ => {}
-        }
-        if open < 0 {
-            return false;
-        }
-    }
-    open == 0
-}
 
 /// ⟨ and ⟩ as marks.
 fn marks(text: &str) -> String {
@@ -82,7 +64,7 @@ fn names_in_other_scripts() {
         assert_eq!(text(&bundle, "seen", ship), seen);
         let fleet = marks(&format!("Fleet: ⟨{seen}⟩"));
         assert_eq!(text(&bundle, "fleet", ship), fleet);
-        assert!(paired(&seen) && paired(&fleet));
+        assert!(are_paired(&seen) && are_paired(&fleet));
         assert_eq!(text(&bundle, "said", ship), "xy");
     }
 }
@@ -96,7 +78,7 @@ fn a_text_that_is_cut_short() {
         let wanted = marks(&format!("Many: ⟨{ships}{{$count}}⟩"));
         let many = text(&bundle, "many", ship);
         assert_eq!(many, wanted);
-        assert!(paired(&many));
+        assert!(are_paired(&many));
     }
 }
 
@@ -112,7 +94,7 @@ fn a_sheet() {
     let texts = ids.iter().zip(SHIPS);
     let alone: String = texts.map(|(id, ship)| text(&bundle, id, ship)).collect();
     assert_eq!(sheet, alone);
-    assert!(paired(&sheet) && sheet.contains(OPENING));
+    assert!(are_paired(&sheet) && has_marks(&sheet));
     assert_eq!(errors.len(), 1);
 }
 
@@ -121,14 +103,14 @@ fn a_sheet() {
 #[test]
 fn marks_in_the_input() {
     let plain = bundle("y");
-    assert!(!paired(&text(&plain, "seen", "\u{2069}")));
-    assert!(!paired(&text(&plain, "seen", "x\u{2068}")));
-    assert!(!paired(&text(&bundle("\\u2069"), "said", "x")));
-    assert!(!paired(&text(&bundle("\\U002068"), "said", "x")));
+    assert!(!are_paired(&text(&plain, "seen", "\u{2069}")));
+    assert!(!are_paired(&text(&plain, "seen", "x\u{2068}")));
+    assert!(!are_paired(&text(&bundle("\\u2069"), "said", "x")));
+    assert!(!are_paired(&text(&bundle("\\U002068"), "said", "x")));
     // as many of each, but not in every prefix
     let exchanged = text(&bundle("\\u2069\\u2068"), "said", "x");
     assert_eq!(exchanged, marks("x⟩⟨"));
-    assert!(!paired(&exchanged));
+    assert!(!are_paired(&exchanged));
     // a backslash, and then letters and digits
-    assert!(paired(&text(&bundle("\\\\u2068"), "said", "x")));
+    assert!(are_paired(&text(&bundle("\\\\u2068"), "said", "x")));
 }

@@ -12,6 +12,7 @@ use Rattle.nesting.specs.Claims.{InBundle, InArguments, InSheet}
 use Rattle.exports.specs.Numbers.{Lent, Handed, handed}
 
 module _ (Q P : Bytes → Type 0) where
+  -- every call for a message or an attribute; k are the lent numbers before it
   abbrev pub FormatCalls : Type 0
   FormatCalls =
       (s : Bytes) → Octets s → InBundle Q s
@@ -19,6 +20,7 @@ module _ (Q P : Bytes → Type 0) where
       → (id : Bytes) (a : Option Bytes) (b : Buffers) (k : Lent) (h : Handed) → handed (format s id a image b) k ≡ h → h .number ≡ 0
       → P (take (h .figures .written) (h .buffers .text))
 
+  -- every call for a sheet
   abbrev pub SheetCalls : Type 0
   SheetCalls =
       (s : Bytes) → Octets s → InBundle Q s
@@ -26,6 +28,7 @@ module _ (Q P : Bytes → Type 0) where
       → (b : Buffers) (k : Lent) (h : Handed) → handed (formatSheet s image b) k ≡ h → h .number ≡ 0
       → P (take (h .figures .written) (h .buffers .text))
 
+-- isolation marks nest in what is handed over, by bytes and by Unicode scalars
 pub record CallsNest : Type 0 where
   pub formats : FormatCalls UnmarkedBytes PairedBytes
   pub sheets : SheetCalls UnmarkedBytes PairedBytes

@@ -2,11 +2,12 @@
 use mathlib.Core.Path.{refl}
 use Rattle.resolution.specs.Case.{⟨, ⟩}
 use Rattle.resolution.specs.CutShort.{empties, cutInIsolates}
-use Rattle.nesting.specs.Cases.{counted, bundleOf, without, lent, cut, twice, PremisesMet, inText, inLiteral, inVariable, marked, markedSheet, unpaired-where-marked, PremisesNeeded}
+use Rattle.sheets.specs.Cases.{without}
+use Rattle.nesting.specs.Cases.{counted, bundleOf, lent, cut, twice, PremisesMet, inText, inLiteral, inVariable, marked, markedSheet, unpaired-where-marked, PremisesNeeded}
 use Rattle.nesting.proofs.Decided.{octets-true, bundle-unmarked, arguments-unmarked, sheet-unmarked, tests}
 
 pub premises-met : PremisesMet
-unfolding counted without lent cut twice empties cutInIsolates tests
+unfolding counted bundleOf lent cut twice empties cutInIsolates tests
 premises-met = record {
   store-octets = octets-true cut refl;
   store = bundle-unmarked cut refl;
@@ -21,7 +22,7 @@ premises-met = record {
 }
 
 pub premises-needed : PremisesNeeded
-unfolding counted bundleOf without inText inLiteral inVariable marked markedSheet tests
+unfolding counted bundleOf inText inLiteral inVariable marked markedSheet tests
 premises-needed = record {
   has-marks = unpaired-where-marked;
   text-octets = octets-true (inText ⟩) refl;

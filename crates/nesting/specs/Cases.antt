@@ -1,14 +1,14 @@
 -- Marks by computing: when they are paired; that the premises of Card 12 can be met, by texts that are cut short too; and that each of them is needed.
 use mathlib.Core.Path.{_≡_, refl}
-use mathlib.Core.List.{[], _∷_, _++_}
+use mathlib.Core.List.{List, [], _∷_, _++_}
 use mathlib.Core.Bool.{true}
 use mathlib.Core.Option.{none}
 use Prim.Native.Nat.{ℕ, _≤_}
 use native.Mathlib.Omega.{arith}
-use lib.ListN.{take, replicate}
+use lib.ListN.{take}
 use Rattle.decimals.specs.Ascii.{ascii}
-use Rattle.records.specs.Tree.{Elements, no-more, more, text}
-use Rattle.records.specs.Images.{Item, Argument}
+use Rattle.records.specs.Tree.{no-more, more, text}
+use Rattle.records.specs.Images.{Entry, Item, Argument}
 use Rattle.records.specs.Encode.{encStore, encArgumentsImage}
 use Rattle.layout.specs.Exact.{Octets}
 use Rattle.resolution.specs.Effect.{Bytes}
@@ -17,17 +17,18 @@ use Rattle.resolution.specs.Format.{finished, Buffers, format}
 use Rattle.resolution.specs.Case.{⟨, ⟩, a-message, put, var, quoted}
 use Rattle.resolution.specs.CutShort.{cutInIsolates}
 use Rattle.theorems.specs.Leaves.{literalLeaves, namedLeaves, leavesOf}
-use Rattle.requests.specs.Encode.{encRequest, encSheet}
+use Rattle.requests.specs.Encode.{encSheet}
 use Rattle.sheets.specs.Sheet.{formatSheet}
-use Rattle.sheets.specs.Cases.{sheeted, asks}
+use Rattle.sheets.specs.Cases.{opened, asks, without, lengths}
 use Rattle.nesting.specs.Marks.{begins, once, countIn, UnmarkedBytes, PairedBytes}
 use Rattle.nesting.specs.Claims.{InBundle, InArguments, InSheet}
 
 -- what counting rests on, what stands in a pattern, and all that a formatting and a sheet rest on, open
 unfoldable pub counted : Unit {0}
-unfolding sheeted asks encRequest encSheet fsi pdi begins once countIn literalLeaves namedLeaves leavesOf
+unfolding opened fsi pdi begins once countIn literalLeaves namedLeaves leavesOf
 counted = tt
 
+-- what is counted, and what is not paired
 pub record Pairs : Type 0 where
   -- ⟨3⟩ whales has one of each
   pub opening : countIn fsi (⟨ ++ ascii "3" ++ ⟩ ++ ascii " whales") ≡ 1
@@ -53,20 +54,19 @@ pairs = record {
   unclosed = λ p. let h : _≡_ {A = ℕ} 0 1 = p .whole in omega arith;
 }
 
--- a bundle of one message `a`, isolating
-unfoldable pub bundleOf : Elements → Bytes
-bundleOf es = encStore (record { locale = 0; isolating = true; items = Item.plain (a-message "a" es ∷ []) ∷ [] })
+-- a bundle of these entries, isolating
+unfoldable pub bundleOf : List Entry → Bytes
+bundleOf es = encStore (record { locale = 0; isolating = true; items = Item.plain es ∷ [] })
 
-unfoldable pub without : Bytes
-without = encArgumentsImage []
-
+-- what is lent: long enough for all of them
 unfoldable pub lent : Buffers
-lent = record { text = replicate 60 0xAA; list = replicate 12 0xBB; work = replicate 8 0xCC }
+lent = lengths 60 12 8
 
--- the bundle of a text that is cut short inside two isolates, and a sheet of it twice
+-- the bundle of a text that is cut short inside two isolates
 unfoldable pub cut : Bytes
-cut = encStore (record { locale = 0; isolating = true; items = Item.plain (cutInIsolates .entries) ∷ [] })
+cut = bundleOf (cutInIsolates .entries)
 
+-- a sheet of it twice
 unfoldable pub twice : Bytes
 twice = encSheet (asks "a" without ∷ asks "a" without ∷ [])
 
@@ -85,13 +85,13 @@ pub record PremisesMet : Type 0 where
 
 -- Formattings that finish without an error: `a = x⟩`, `a = x⟨`; `a = { "\u2069" }`; `a = { $n }`, n ⟩; and a sheet of the last.
 unfoldable pub inText : Bytes → Bytes
-inText mark = bundleOf (more (text (ascii "x" ++ mark)) no-more)
+inText mark = bundleOf (a-message "a" (more (text (ascii "x" ++ mark)) no-more) ∷ [])
 
 unfoldable pub inLiteral : Bytes
-inLiteral = bundleOf (put (quoted "\\u2069") no-more)
+inLiteral = bundleOf (a-message "a" (put (quoted "\\u2069") no-more) ∷ [])
 
 unfoldable pub inVariable : Bytes
-inVariable = bundleOf (put (var "n") no-more)
+inVariable = bundleOf (a-message "a" (put (var "n") no-more) ∷ [])
 
 unfoldable pub marked : Bytes
 marked = encArgumentsImage ((ascii "n", Argument.string ⟩) ∷ [])
@@ -122,7 +122,7 @@ pub record UnpairedWhereMarked : Type 0 where
   pub sheet-marked : InSheet UnmarkedBytes markedSheet → ⊥
 
 pub unpaired-where-marked : UnpairedWhereMarked
-unfolding counted bundleOf without lent inText inLiteral inVariable marked markedSheet
+unfolding counted bundleOf lent inText inLiteral inVariable marked markedSheet
 unpaired-where-marked = record {
   text = record { finishes = refl; text = refl; unpaired = λ p. let h : 1 ≤ 0 = p .prefix 4 in omega arith };
   text-marked = λ h. let k : _≡_ {A = ℕ} 1 0 = h _ _ refl .0 .0 .0 .0 .no-closing in omega arith;

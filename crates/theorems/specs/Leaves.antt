@@ -8,10 +8,12 @@ use Rattle.records.specs.Tree.{Literal, Named, Pattern, pattern, Elements, no-m
 use Rattle.records.specs.Valid.{All, IfAny}
 use Rattle.records.specs.Images.{Attribute, Entry, Item}
 
+-- A text element; a string literal as it is written; a variable, a function called, a message or term referred to, these two perhaps with an attribute.
 pub data Leaf : Type 0 where
   text string variable function : List ℕ → Leaf
   message term : List ℕ → Option (List ℕ) → Leaf
 
+-- of a literal
 unfoldable pub literalLeaves : Literal → List Leaf
 literalLeaves (Literal.string s) = Leaf.string s ∷ []
 literalLeaves (Literal.number n) = []
@@ -21,6 +23,7 @@ unfoldable pub namedLeaves : Named → List Leaf
 namedLeaves [] = []
 namedLeaves (e ∷ es) = literalLeaves (e .1) ++ namedLeaves es
 
+-- of a pattern, and of all that it is made of
 unfoldable mutual
   pub leavesOf : Pattern → List Leaf
   leavesOf (pattern b es) = elementsLeaves es
