@@ -1,9 +1,20 @@
 // Finding an argument, by the lengths that stand in the bytes: an image that was checked is not checked again.
 ghost use mathlib.Core.Path.{_≡_};
+ghost use mathlib.Core.List.{List};
+ghost use Prim.Native.Nat.{ℕ, _<_};
+ghost use Rattle.records.specs.Bytes.{strAt};
+ghost use Rattle.records.specs.Images.{Argument};
+ghost use Rattle.records.specs.Names.{firstNamed};
 ghost use Rattle.records.specs.Relations.Answer.{nextOf};
-ghost use Rattle.arguments.specs.Relations.Given.{between};
-ghost use Rattle.arguments.specs.Relations.Outline.{givenBy, givenFrom, valueGiven};
+ghost use Rattle.order.specs.Accepted.{accepted, judge};
+ghost use Rattle.arguments.specs.Relations.Given.{between, meant, Within};
+ghost use Rattle.arguments.specs.Relations.Outline.{givenFrom, valueGiven, rowAt, readable, orMissing, sought};
+ghost use Rattle.arguments.specs.Relations.Places.{isPast, isAbove, Low, Noted};
 use crate::Given;
+use crate::image::smaller;
+use order::Order;
+use order::compare;
+use order::is_before;
 use records::Next;
 use records::Num;
 
@@ -24,7 +35,7 @@ fn skip_argument_value(s: &[u8], at: usize) -> Next
 }
 
 // The value at a position. Where none stands there: Missing.
-fn read_argument_value(s: &[u8], at: usize) -> Given
+pub(crate) fn read_argument_value(s: &[u8], at: usize) -> Given
     ensures { λ r. ⌜ r ≡ givenFrom (valueGiven (now (s .entry)) at) ⌝ }
 {
     let Num::At(tag, p) = records::read_byte(s, at) else {
@@ -51,30 +62,85 @@ fn read_argument_value(s: &[u8], at: usize) -> Given
     Given::Nothing
 }
 
-// What the arguments give for a name: of equal names the last holds. Where the bytes break off, those before hold.
-pub fn find_argument(args: &[u8], name: &[u8]) -> Given
-    ensures { λ r. ⌜ r ≡ givenBy (now (args .entry)) (now (name .entry)) ⌝ }
+// Does the argument at a position have a name that is greater? So it has where none stands there.
+fn is_past(s: &[u8], at: usize, name: &[u8]) -> bool
+    ensures { λ r. ⌜ r ≡ isPast (strAt (now (s .entry)) at) (now (name .entry)) ⌝ }
 {
-    let Num::At(count, from) = records::read_u16(args, 5) else {
-        return Given::Missing;
+    let Num::At(p, e) = records::read_str(s, at) else {
+        return true;
     };
+    is_before(name, &s[p..e])
+}
+
+// Does the place of a number have a greater name? So it has where there are no more arguments.
+fn is_above(s: &[u8], places: &[usize; 256], count: usize, place: usize, name: &[u8]) -> bool
+    requires { ⌜ place < 256 ⌝ }
+    ensures { λ r. ⌜ r ≡ isAbove (now (s .entry)) (now (places .entry)) count (now (name .entry)) place ⌝ }
+{
+    if count <= place * (count / 256 + 1) {
+        return true;
+    }
+    let p: &[usize] = places;
+    is_past(s, p[place], name)
+}
+
+// The last place whose name is not greater, or the first: by halving.
+fn find_place(s: &[u8], places: &[usize; 256], count: usize, name: &[u8]) -> usize
+    ensures { λ r. ⌜ Low (now (s .entry)) (now (places .entry)) count (now (name .entry)) r ⌝ }
+{
+    let mut low = 0usize;
+    let mut high = smaller(count, 256);
+    while low + 1 < high {
+        let mid = low + (high - low) / 2;
+        if is_above(s, places, count, mid, name) {
+            high = mid;
+        } else {
+            low = mid;
+        }
+    }
+    low
+}
+
+// The value of a name among `count` arguments, one by one up to the first greater name.
+fn scan(s: &[u8], from: usize, count: usize, name: &[u8]) -> Given
+    ensures { λ r. ⌜ r ≡ orMissing (sought (now (name .entry)) (readable count rowAt (now (s .entry)) from)) ⌝ }
+{
     let mut at = from;
     let mut left = count;
-    let mut best = Given::Missing;
     while 0 < left {
-        let Num::At(p, e) = records::read_str(args, at) else {
-            return best;
+        let Num::At(p, e) = records::read_str(s, at) else {
+            return Given::Missing;
         };
-        let Next::At(f) = skip_argument_value(args, e) else {
-            return best;
-        };
-        if decimals::bytes::same_bytes(&args[p..e], name) {
-            best = read_argument_value(args, e);
+        match compare(&s[p..e], name) {
+            Order::Same => {
+                return read_argument_value(s, e);
+            }
+            Order::Greater => {
+                return Given::Missing;
+            }
+            Order::Less => {
+                let Next::At(f) = skip_argument_value(s, e) else {
+                    return Given::Missing;
+                };
+                at = f;
+                left -= 1;
+            }
         }
-        at = f;
-        left -= 1;
     }
-    best
+    Given::Missing
+}
+
+// What the arguments give for a name. The places are those that check_arguments left.
+pub fn find_argument(args: &[u8], places: &[usize; 256], name: &[u8]) -> Given
+    ensures { λ r. ⌜ Within (now (args .entry)) r × (Noted (now (args .entry)) (now (places .entry)) → (l : List (List ℕ × Argument)) → judge (now (args .entry)) ≡ accepted l → meant (now (args .entry)) r ≡ firstNamed (now (name .entry)) l) ⌝ }
+{
+    let Num::At(count, _) = records::read_u16(args, 5) else {
+        return Given::Missing;
+    };
+    let j = find_place(args, places, count, name);
+    let p: &[usize] = places;
+    let passed = j * (count / 256 + 1);
+    scan(args, p[j], count - passed, name)
 }
 
 // A text that find_argument found, as a part of the arguments: from a up to e, and empty where that is no part.

@@ -2,6 +2,10 @@
 ghost use mathlib.Core.Path.{_≡_};
 ghost use Rattle.records.specs.Relations.Answer.{nextOf};
 ghost use Rattle.records.specs.Images.{argumentNumberAt};
+ghost use Rattle.arguments.specs.Relations.Checked.{leastGiven};
+ghost use Rattle.arguments.specs.Relations.Outline.{givenFrom, valueGiven};
+use crate::Given;
+use crate::find::read_argument_value;
 use decimals::types::DIGITS_LIMIT;
 use decimals::types::SCALE_LIMIT;
 use records::Next;
@@ -26,4 +30,21 @@ pub(crate) fn check_argument_number(s: &[u8], at: usize) -> Next
         }
     }
     Next::Bad
+}
+
+// Is the value at a position no number with a scale above 0 and digits divisible by 10?
+pub(crate) fn has_least_scale(s: &[u8], at: usize) -> bool
+    ensures { λ r. ⌜ r ≡ leastGiven (givenFrom (valueGiven (now (s .entry)) at)) ⌝ }
+{
+    match read_argument_value(s, at) {
+        Given::Number(_, digits, scale) => {
+            if scale == 0 {
+                return true;
+            }
+            digits % 10 != 0
+        }
+        Given::Missing => true,
+        Given::Text(_, _) => true,
+        Given::Nothing => true,
+    }
 }

@@ -15,10 +15,11 @@ use Rattle.records.specs.Bytes.{part, byteAt, numberAt, spanAt, strAt}
 use Rattle.decimals.specs.Bytes.{sameBytes}
 use Rattle.records.proofs.Laws.{after-is}
 use Rattle.records.proofs.Views.{num-is, num-none, next-is, next-none}
-use Rattle.entries.specs.Lookup.{firstNamed}
+use Rattle.records.specs.Names.{firstNamed}
 use Rattle.entries.specs.Outline.{behind, listAfter, readable, valueOutline, attributesOutline, entryOutline, attributeHead, attributeOutline, entryHead, Location, entriesIn, functionIn, valueIn, attributesIn, positionOf}
 use Rattle.entries.specs.Relations.Meets.{atPosition}
-use Rattle.entries.proofs.Walk.{behind-str, behind-no-str, named-here, named-past}
+use Rattle.entries.proofs.Walk.{behind-str, behind-no-str}
+use Rattle.records.proofs.First.{named-here, named-past}
 
 -- the entries of a resource
 module _ (s : List ℕ) (at : ℕ) {r : Num} (is : r ≡ numOf (behind 5 (numberAt 2) s at)) where

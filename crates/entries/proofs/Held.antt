@@ -21,12 +21,13 @@ use Rattle.records.proofs.Laws.{after-is, after-elim, bytes-inv, byte-inv}
 use Rattle.records.proofs.Views.{num-is, num-none, next-is, next-none}
 use Rattle.entries.specs.declared.Found.{Found}
 use Rattle.entries.specs.declared.Found.the-variants as found
-use Rattle.entries.specs.Lookup.{firstNamed}
-use Rattle.records.specs.Names.{lastNamed}
+use Rattle.records.specs.Names.{firstNamed}
+use Rattle.entries.specs.Lookup.{lastNamed}
 use Rattle.records.specs.Optional.{orElse, optionOf}
 use Rattle.entries.specs.Outline.{listAfter, readable, Location, kindAs, Ids, entriesIn, functionIn, idsBy, itemHead, itemOutline, itemsIn, locatedAfter, locateFrom, locate}
 use Rattle.entries.specs.Relations.Meets.{foundOf, heldBy, afterIds}
-use Rattle.entries.proofs.Walk.{list-none, list-bad, list-stuck, list-next, or-none}
+use Rattle.entries.proofs.Walk.{list-none, list-bad, list-stuck, list-next}
+use Rattle.records.proofs.First.{or-none}
 use Rattle.entries.proofs.Open.{byte-in}
 
 -- answers and what they say

@@ -16,13 +16,15 @@ use Rattle.records.specs.Images.{Entry, Item, Store, isSome, entryAt, resourceA
 use Rattle.records.proofs.Laws.{after-is, byte-inv}
 use Rattle.entries.specs.declared.Found.{Found}
 use Rattle.entries.specs.declared.Found.the-variants as found
-use Rattle.entries.specs.Lookup.{Holder, firstNamed, firstEntry, lastEntry, holderAfter, findFrom, findIn}
-use Rattle.records.specs.Names.{lastNamed}
+use Rattle.entries.specs.Lookup.{Holder, firstEntry, lastEntry, holderAfter, findFrom, findIn}
+use Rattle.records.specs.Names.{firstNamed}
+use Rattle.entries.specs.Lookup.{lastNamed}
 use Rattle.records.specs.Optional.{orElse, optionOf}
 use Rattle.entries.specs.Outline.{behind, listAfter, readable, entryOutline, Location, kindAs, entryHead, entriesIn, functionIn, Ids, idsBy, itemHead, itemOutline, itemsIn, locatedAfter, locateFrom, locate}
 use Rattle.entries.specs.Relations.Meets.{foundOf, heldBy, HolderAt, message-at, term-at, function-at, nothing-at}
 use Rattle.entries.proofs.Open.{entry-parts, entry-kind, resource-parts, function-parts, item-cases, store-parts}
-use Rattle.entries.proofs.Walk.{behind-str, or-none}
+use Rattle.entries.proofs.Walk.{behind-str}
+use Rattle.records.proofs.First.{or-none}
 use Rattle.entries.proofs.Held.{held-found}
 use Rattle.entries.proofs.Decoded.{Each, many-heads, entry-ends, item-ends}
 

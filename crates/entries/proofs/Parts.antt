@@ -12,7 +12,8 @@ use Rattle.records.specs.Decode.{entryPatternAt}
 use Rattle.records.specs.Images.{Attribute, Entry, attributeAt, entryAt}
 use Rattle.records.proofs.Laws.{after-is}
 use Rattle.records.proofs.Views.{optional-elim, attribute-elim, attributes-elim, id-str}
-use Rattle.entries.specs.Lookup.{firstNamed, partOf}
+use Rattle.entries.specs.Lookup.{partOf}
+use Rattle.records.specs.Names.{firstNamed}
 use Rattle.records.specs.Optional.{orElse, optionOf}
 use Rattle.entries.specs.Outline.{listAfter, attributeHead, attributeOutline, valueIn, attributesIn, positionOf, partIn}
 use Rattle.entries.specs.Relations.Meets.{atPosition, PartAt, part-at, no-part}

@@ -12,7 +12,8 @@ use Rattle.records.specs.Tree.{Pattern}
 use Rattle.records.specs.Images.{Attribute, Entry, Item, maxImage}
 use Rattle.records.specs.Encode.{encStr, encOptional, encAll, encCounted, encWhole, encPattern, encAttribute, encEntry, encResource}
 use Rattle.records.specs.Valid.{All, ValidResource, ValidItem}
-use Rattle.entries.specs.Lookup.{Holder, firstEntry, lastEntry, holderAfter, findFrom, findIn, firstNamed, partOf}
+use Rattle.entries.specs.Lookup.{Holder, firstEntry, lastEntry, holderAfter, findFrom, findIn, partOf}
+use Rattle.records.specs.Names.{firstNamed}
 use Rattle.records.specs.Optional.{orElse, optionOf}
 
 -- what holds an id is no longer than an image

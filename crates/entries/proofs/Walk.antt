@@ -18,8 +18,9 @@ use Rattle.decimals.specs.Bytes.{sameBytes}
 use Rattle.decimals.proofs.Same.{same-eq}
 use Rattle.records.proofs.Laws.{after-is, after-elim, next-stop, next-end, span-in}
 use Rattle.records.proofs.Views.{num-is, num-none, next-is, next-none}
-use Rattle.entries.specs.Lookup.{firstNamed}
-use Rattle.records.specs.Names.{lastNamed}
+use Rattle.records.specs.Names.{firstNamed}
+use Rattle.records.proofs.First.{named-here, named-past}
+use Rattle.entries.specs.Lookup.{lastNamed}
 use Rattle.records.specs.Optional.{orElse, optionOf}
 use Rattle.entries.specs.Outline.{behind, listAfter, readable, kindAs, entryHead, attributeHead, attributeOutline}
 use Rattle.walks.specs.Outline.{sizedAt, patternOutline}
@@ -100,16 +101,8 @@ differ-at a b i f = go (sameBytes a b) refl
     go true h = absurd (f (ap (λ (l : List ℕ). getD l i 0) (same-eq a b h)))
     go false h = refl
 
--- of things with a name
+-- of things with a name, the last
 module _ {A : Type 0} (i : List ℕ) where
-  pub named-here : (x : List ℕ × A) (l : List (List ℕ × A)) → sameBytes (x .0) i ≡ true → firstNamed i (x ∷ l) ≡ some (x .1)
-  unfolding firstNamed orElse optionOf
-  named-here x l h = rw h
-
-  pub named-past : (x : List ℕ × A) (l : List (List ℕ × A)) → sameBytes (x .0) i ≡ false → firstNamed i (x ∷ l) ≡ firstNamed i l
-  unfolding firstNamed orElse optionOf
-  named-past x l h = rw h
-
   or-or : (a b c : Option A) → orElse (orElse a b) c ≡ orElse a (orElse b c)
   unfolding orElse
   or-or none b c = refl
@@ -118,11 +111,6 @@ module _ {A : Type 0} (i : List ℕ) where
   pub last-more : (x : List ℕ × A) (l : List (List ℕ × A)) (o : Option A) → orElse (lastNamed i (x ∷ l)) o ≡ orElse (lastNamed i l) (orElse (optionOf (sameBytes (x .0) i) (x .1)) o)
   unfolding lastNamed
   last-more x l o = or-or (lastNamed i l) (optionOf (sameBytes (x .0) i) (x .1)) o
-
-pub or-none : {A : Type 0} (o : Option A) → orElse o none ≡ o
-unfolding orElse
-or-none none = refl
-or-none (some x) = refl
 
 -- the first of a name, and the last, among those that can be read
 module _ {A B : Type 0} (head : Parser (List ℕ × A)) (whole : Parser B) (s i : List ℕ) where

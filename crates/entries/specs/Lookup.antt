@@ -7,6 +7,7 @@ use Rattle.decimals.specs.Bytes.{sameBytes}
 use Rattle.records.specs.Tree.{Pattern}
 use Rattle.records.specs.Images.{Entry, Item}
 use Rattle.records.specs.Optional.{optionOf, orElse}
+use Rattle.records.specs.Names.{firstNamed}
 
 -- "Messages, terms and functions share one name space": what holds an id
 pub data Holder : Type 0 where
@@ -16,10 +17,10 @@ pub data Holder : Type 0 where
 abbrev pub Find : Type 0
 Find = List ℕ → Option Holder
 
--- of things with a name, the first of a name
-unfoldable pub firstNamed : {A : Type 0} → List ℕ → List (List ℕ × A) → Option A
-firstNamed i [] = none
-firstNamed i (x ∷ xs) = orElse (optionOf (sameBytes (x .0) i) (x .1)) (firstNamed i xs)
+-- of things with a name, the last of a name
+unfoldable pub lastNamed : {A : Type 0} → List ℕ → List (List ℕ × A) → Option A
+lastNamed i [] = none
+lastNamed i (x ∷ xs) = orElse (lastNamed i xs) (optionOf (sameBytes (x .0) i) (x .1))
 
 -- the first entry of an image that has an id, and the last
 unfoldable pub firstEntry : List ℕ → List Entry → Option Holder

@@ -10,8 +10,8 @@ use Rattle.records.specs.Got.{Got, got, bad, Parser, after, test}
 use Rattle.records.specs.Bytes.{bytesAt, byteAt, numberAt, strAt}
 use Rattle.records.specs.Decode.{as-a}
 use Rattle.walks.specs.Outline.{Outline, patternOutline, manyOutline, optionalOutline}
-use Rattle.entries.specs.Lookup.{firstNamed}
-use Rattle.records.specs.Names.{lastNamed}
+use Rattle.records.specs.Names.{firstNamed}
+use Rattle.entries.specs.Lookup.{lastNamed}
 use Rattle.records.specs.Optional.{orElse}
 
 -- what is read behind n bytes of any kind

@@ -16,7 +16,7 @@ ghost use mathlib.Core.Option.{none};
 ghost use lib.ListN.{getD};
 ghost use lib.Dec.{eqb};
 ghost use Rattle.records.specs.Images.{isSome};
-ghost use Rattle.entries.specs.Lookup.{firstNamed};
+ghost use Rattle.records.specs.Names.{firstNamed};
 ghost use Rattle.records.specs.Optional.{orElse};
 ghost use Rattle.entries.specs.Outline.{readable, functionIn, itemHead, itemOutline, locateFrom, locate};
 ghost use Rattle.entries.specs.Relations.Meets.{foundOf, heldBy, afterIds};

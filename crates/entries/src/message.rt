@@ -9,7 +9,7 @@ use records::read_str;
 use records::read_u16;
 use walks::skip_pattern;
 ghost use mathlib.Core.Path.{_≡_};
-ghost use Rattle.entries.specs.Lookup.{firstNamed};
+ghost use Rattle.records.specs.Names.{firstNamed};
 ghost use Rattle.entries.specs.Outline.{readable, attributeHead, attributeOutline, attributesIn, valueIn, positionOf, partIn};
 ghost use Rattle.entries.specs.Relations.Meets.{atPosition};
 ghost use Rattle.records.specs.Optional.{optionOf};

@@ -8,7 +8,9 @@ use mathlib.Core.Option.{Option, some, none}
 use Prim.Native.Nat.{ℕ, zero, suc}
 use Rattle.records.specs.Got.{Got, got, bad}
 use Rattle.records.specs.Tree.{Pattern}
-use Rattle.records.specs.Images.{Entry, Store, Argument, storeOf, argumentsOf, resourceOf}
+use Rattle.records.specs.Images.{Entry, Store, storeOf, resourceOf}
+use Rattle.order.specs.Accepted.{Judged, accepted, refusedFor, judge}
+use Rattle.order.proofs.Accepted.{refused-with}
 use Rattle.bundle.specs.Additions as additions
 use Rattle.bundle.specs.Additions.{Added, addFunction, addFunctionTo, addOverridingTo, addPlainTo, addResource, addResourceOverriding, listed, newBundle, orRefuse, refuse, succeed}
 use Rattle.resolution.specs.Effect as effect
@@ -120,15 +122,15 @@ unfolding formatting.orRefuse formatting.refuse
 or-format-told true n x f ne h = h
 or-format-told false n x f ne h = ne
 
-arguments-told : (store : Store) (p : Pattern) (g : Got (List (Bytes × Argument))) (b : Buffers) → FormatTold (formatArguments store p g b .answer)
+arguments-told : (store : Store) (p : Pattern) (g : Judged) (b : Buffers) → ((n : ℕ) → g ≡ refusedFor n → n ≡ 0 → ⊥) → FormatTold (formatArguments store p g b .answer)
 unfolding formatArguments formatWith runPattern formatting.refuse
-arguments-told store p bad b = λ h. omega (arith, h)
-arguments-told store p (got args e) b = or-format-told _ 7 b _ (λ h. omega (arith, h)) (ended-told _ b (exec-told _ _ _))
+arguments-told store p (refusedFor n) b h = h n refl
+arguments-told store p (accepted args) b h = or-format-told _ 7 b _ (λ h. omega (arith, h)) (ended-told _ b (exec-told _ _ _))
 
 part-told : (store : Store) (p : Option Pattern) (image : Bytes) (b : Buffers) → FormatTold (formatPart store p image b .answer)
 unfolding formatPart formatting.refuse
 part-told store none image b = λ h. omega (arith, h)
-part-told store (some p) image b = arguments-told store p (argumentsOf image) b
+part-told store (some p) image b = arguments-told store p (judge image) b (refused-with (λ (n : ℕ). n ≡ 0 → ⊥) (λ e. omega arith) (λ e. omega arith) image)
 
 entry-told : (store : Store) (e : Option Entry) (a : Option Bytes) (image : Bytes) (b : Buffers) → FormatTold (formatEntry store e a image b .answer)
 unfolding formatEntry formatting.refuse

@@ -1,11 +1,14 @@
 -- Every text that a formatting finishes with has its marks paired, by bytes, where what goes in has none.
-use mathlib.Core.Path.{sym, subst}
+use Prim.Native.Nat.{ℕ}
+use mathlib.Core.Path.{_≡_, sym, subst}
 use mathlib.Core.List.{List}
 use mathlib.Core.Option.{Option}
-use Rattle.records.specs.Images.{Argument}
+use Rattle.records.specs.Got.{got}
+use Rattle.records.specs.Images.{Argument, argumentsOf}
 use Rattle.records.specs.Valid.{All, ValidNamedArgument, ValidArgument, ValidArgumentsImage}
 use Rattle.layout.specs.Exact.{Octets}
 use Rattle.layout.proofs.Theorems.{store-sound, arguments-sound}
+use Rattle.order.proofs.Accepted.{accepted-read}
 use Rattle.resolution.specs.Effect.{Bytes}
 use Rattle.resolution.specs.Format.{Buffers, valueOf, valuesOf}
 use Rattle.theorems.specs.Finished.{Finished, Sound, outOf}
@@ -42,10 +45,13 @@ unfolding ValidArgumentsImage
 values-balanced l h u = values-fine Balanced Given value-balanced l (all-both ValidNamedArgument (InArgument UnmarkedBytes) Given (λ e x y. (x, y)) l (h .0 .0) u)
 
 module _ (s : Bytes) (os : Octets s) (us : InBundle UnmarkedBytes s) (image : Bytes) (oi : Octets image) (ui : InArguments UnmarkedBytes image) (id : Bytes) (a : Option Bytes) (b : Buffers) where
+  read : (f : Finished s id a image b) → (e : ℕ) × (argumentsOf image ≡ got (f .reached .arguments) e)
+  read f = let w = accepted-read image (f .reached .arguments) (f .reached .given) in (w .0, w .1)
+
   parts-balanced : (f : Finished s id a image b) → Balanced (outOf f .text)
   parts-balanced f =
       resolves Balanced (InLeaf UnmarkedBytes) balanced-keeps (f .reached .store) (store-sound s os (f .reached .stored) .0) (us (f .reached .store) (f .reached .storeEnd) (f .reached .stored))
-      (f .reached .arguments) (values-balanced (f .reached .arguments) (arguments-sound oi (f .reached .given) .0) (ui (f .reached .arguments) (f .reached .argumentsEnd) (f .reached .given)))
+      (f .reached .arguments) (values-balanced (f .reached .arguments) (arguments-sound oi (read f .1) .0) (ui (f .reached .arguments) (read f .0) (read f .1)))
       id a (f .reached .entry) (f .reached .part) (f .reached .found) (f .reached .has) .text
 
 pub formattings-nest : EveryFormatting UnmarkedBytes PairedBytes

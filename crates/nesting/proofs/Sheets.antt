@@ -2,6 +2,7 @@
 use mathlib.Core.Path.{sym, subst}
 use Rattle.records.specs.Valid.{All}
 use Rattle.layout.proofs.Theorems.{arguments-sound}
+use Rattle.order.proofs.Accepted.{accepted-read}
 use Rattle.theorems.proofs.Every.{all-both}
 use Rattle.requests.specs.Image.{Request}
 use Rattle.requests.proofs.Exact.{RequestOk, requests-ok}
@@ -13,7 +14,9 @@ use Rattle.nesting.proofs.Balanced.{Balanced, balanced-paired}
 use Rattle.nesting.proofs.Formattings.{balanced-keeps, values-balanced}
 
 request-balanced : (r : Request) → RequestOk r → InArguments UnmarkedBytes (r .image) → FineRequest Balanced r
-request-balanced r ok u l e given = values-balanced l (arguments-sound (ok .octets) given .0) (u l e given)
+request-balanced r ok u l given =
+    let w = accepted-read (r .image) l given in
+    values-balanced l (arguments-sound (ok .octets) (w .1) .0) (u l (w .0) (w .1))
 
 pub sheets-nest : EverySheet UnmarkedBytes PairedBytes
 sheets-nest s os us image oi ui b t e k u w h =

@@ -42,7 +42,7 @@ module _ (s : List ℕ) (at : ℕ) where
       head-read h k = rw (hn, le-leb n maxImage l, h, k)
 
 -- what the code's answer says of the head
-head-is : (g : Got (ℕ × ℕ)) {r : Head} {n k e : ℕ} → r ≡ headOf g → r ≡ head.At n k e → g ≡ got (n, k) e
+pub head-is : (g : Got (ℕ × ℕ)) {r : Head} {n k e : ℕ} → r ≡ headOf g → r ≡ head.At n k e → g ≡ got (n, k) e
 unfolding headOf
 head-is (got h f) {n = n} {k} {e} p q =
     let w : head.At (h .0) (h .1) f ≡ head.At n k e = sym p ∙ q in

@@ -10,7 +10,8 @@ use Rattle.numbers.specs.Value.{Value, textual, numeric}
 use Rattle.records.specs.Got.{Got, got, bad}
 use Rattle.rules.specs.Rules.{isId}
 use Rattle.records.specs.Tree.{Pattern}
-use Rattle.records.specs.Images.{Entry, Store, Argument, storeOf, argumentsOf}
+use Rattle.records.specs.Images.{Entry, Store, Argument, storeOf}
+use Rattle.order.specs.Accepted.{Judged, accepted, refusedFor, judge}
 use Rattle.records.specs.Errors.{encErrors, listHeader}
 use Rattle.entries.specs.Lookup.{Holder, Find, findIn, partOf}
 use Rattle.growth.specs.Items.{atFront}
@@ -89,15 +90,15 @@ formatWith store p args b =
     orRefuse (leb listHeader (length (b .list))) 7 b
     (ended (runPattern (record { locale = store .locale; isolating = store .isolating; arguments = valuesOf args }) (findIn (store .items)) (limitsOf b) p) b)
 
--- "13 malformed arguments"
-unfoldable pub formatArguments : Store → Pattern → Got (List (Bytes × Argument)) → Buffers → Formatted
-formatArguments store p bad b = refuse 13 b
-formatArguments store p (got args e) b = formatWith store p args b
+-- "13 malformed arguments", and 19 "directly after 13": what an arguments image is refused with
+unfoldable pub formatArguments : Store → Pattern → Judged → Buffers → Formatted
+formatArguments store p (refusedFor n) b = refuse n b
+formatArguments store p (accepted args) b = formatWith store p args b
 
 -- "12 no such value or attribute"
 unfoldable pub formatPart : Store → Option Pattern → Bytes → Buffers → Formatted
 formatPart store none image b = refuse 12 b
-formatPart store (some p) image b = formatArguments store p (argumentsOf image) b
+formatPart store (some p) image b = formatArguments store p (judge image) b
 
 -- "11 no such message"
 unfoldable pub formatEntry : Store → Option Entry → Option Bytes → Bytes → Buffers → Formatted

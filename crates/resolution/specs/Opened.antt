@@ -16,6 +16,8 @@ use Rattle.records.specs.Decode as records-decode
 use Rattle.records.specs.Images as records-images
 use Rattle.records.specs.Encode as records-encode
 use Rattle.records.specs.Errors as records-errors
+use Rattle.order.specs.Order as order-order
+use Rattle.order.specs.Accepted as order-accepted
 use Rattle.scalars.specs.Scalars as scalars-scalars
 use Rattle.unescape.specs.Unescape as unescape-unescape
 use Rattle.entries.specs.Lookup as bundle-lookup
@@ -66,7 +68,7 @@ unfolding records-rules.letter records-rules.idStep records-rules.isId records-r
 recordsRules = tt
 
 unfoldable pub recordsNames : Unit {0}
-unfolding records-optional.optionOf records-optional.orElse records-names.among records-names.distinct records-names.lastNamed
+unfolding records-optional.optionOf records-optional.orElse records-names.among records-names.distinct records-names.firstNamed
 recordsNames = tt
 
 unfoldable pub recordsDecode : Unit {0}
@@ -85,12 +87,16 @@ unfoldable pub recordsErrors : Unit {0}
 unfolding records-errors.encReferred records-errors.encRecord records-errors.encError records-errors.encErrors records-errors.listHeader
 recordsErrors = tt
 
+unfoldable pub orderAccepted : Unit {0}
+unfolding order-order.before order-accepted.leads order-accepted.ascending order-accepted.isLeast order-accepted.allLeast order-accepted.inOrder order-accepted.judgedIf order-accepted.judgeRead order-accepted.judge
+orderAccepted = tt
+
 unfoldable pub unescapeUnescape : Unit {0}
 unfolding unescape-unescape.hasBackslash scalars-scalars.hexValue unescape-unescape.digitsOf unescape-unescape.scalarPiece unescape-unescape.scalarOf unescape-unescape.escapeOf unescape-unescape.pieceOf unescape-unescape.moreOf scalars-scalars.isScalar scalars-scalars.scalarOr scalars-scalars.encScalar unescape-unescape.readsAs unescape-unescape.unescapeFrom unescape-unescape.unescape
 unescapeUnescape = tt
 
 unfoldable pub bundleLookup : Unit {0}
-unfolding bundle-lookup.firstNamed bundle-lookup.firstEntry bundle-lookup.lastEntry bundle-lookup.holderAfter bundle-lookup.findFrom bundle-lookup.findIn bundle-lookup.partOf
+unfolding bundle-lookup.firstEntry bundle-lookup.lastEntry bundle-lookup.holderAfter bundle-lookup.findFrom bundle-lookup.findIn bundle-lookup.partOf
 bundleLookup = tt
 
 unfoldable pub growthItems : Unit {0}
@@ -114,5 +120,5 @@ unfolding resolver-format.valueOf resolver-format.valuesOf resolver-format.maxPa
 resolverFormat = tt
 
 unfoldable pub opened : Unit {0}
-unfolding numbersBytes numbersDecimal numbersLiteral numbersText numbersEqual numbersValue numbersPlural recordsGot recordsBytes recordsRules recordsNames recordsDecode recordsImages recordsEncode recordsErrors unescapeUnescape bundleLookup growthItems resolverEffect resolverResolve resolverExec resolverFormat
+unfolding numbersBytes numbersDecimal numbersLiteral numbersText numbersEqual numbersValue numbersPlural recordsGot recordsBytes recordsRules recordsNames recordsDecode recordsImages recordsEncode recordsErrors orderAccepted unescapeUnescape bundleLookup growthItems resolverEffect resolverResolve resolverExec resolverFormat
 opened = tt

@@ -16,7 +16,7 @@ use Rattle.records.specs.Errors.{Error, Referred, reference, noValue, missingDe
 use Rattle.entries.specs.Lookup.{Holder, Find, partOf}
 use Rattle.records.specs.Optional.{orElse}
 use Rattle.resolution.specs.Effect.{Bytes, Effect, report, unfound, merged, Locals, State, M, Done, ret, _>>=_, _>>_, emit, write, isDirty, getLocals, setLocals, onlyIf, entered, capture, release}
-use Rattle.records.specs.Names.{lastNamed}
+use Rattle.records.specs.Names.{firstNamed}
 
 -- what does not change while a message is formatted: locale, isolating Flag, arguments
 pub record Setting : Type 0 where
@@ -281,8 +281,8 @@ foundOr missing none = missing >> ret none
 foundOr missing (some v) = ret (some v)
 
 unfoldable pub variableIn : List (Bytes × Value) → Bytes → Locals → M (Option Value)
-variableIn args i (some l) = foundOr (ret tt) (lastNamed i l)
-variableIn args i none = foundOr (emit (report (reference Referred.variable i none))) (lastNamed i args)
+variableIn args i (some l) = foundOr (ret tt) (firstNamed i l)
+variableIn args i none = foundOr (emit (report (reference Referred.variable i none))) (firstNamed i args)
 
 unfoldable pub getVariable : List (Bytes × Value) → Bytes → M (Option Value)
 getVariable args i = getLocals >>= λ l. variableIn args i l

@@ -13,7 +13,7 @@ use Rattle.records.specs.Errors.{Error}
 use Rattle.entries.specs.Lookup.{Holder, Find, partOf}
 use Rattle.resolution.specs.Effect.{Bytes, Trace, unfound, Locals, State, Out, M, Done, ret, _>>=_, _>>_, emit, write, isDirty, getLocals, maxPlaceables, enterIf, enter, onlyIf, entered, release}
 use Rattle.resolution.specs.Resolve.{Setting, Trail, mark, cutShort, namedValues, writeRefError, lookFor, lookUp, asTerm, asMessage, trackIf, track, onPart, messageFound, termFound, writeMessage, Given, pushed, writeResult, foundOr, variableIn, getVariable, writeVariable, writePattern, writeElements, writeElement, writeExpression, writeNth, writeVariant, writeInline, resolveInline, getArguments, resolve}
-use Rattle.records.specs.Names.{lastNamed}
+use Rattle.records.specs.Names.{firstNamed}
 use Rattle.resolver.specs.Relations.Members.{positionalValues}
 use Rattle.resolver.proofs.Single.Laws.{append-nil}
 
@@ -135,8 +135,8 @@ unfolding getVariable getLocals variableIn ret emit writeVariable
 quiet-variable args i s = quiet-bind _ _ s (quiet-bind _ _ s refl (λ l q. go l q)) (λ o q. wrote o q)
   where
     go : (l : Locals) (q : State) → variableIn args i l q .kept ≡ 0
-    go none q = quiet-found _ (lastNamed i args) (λ _. refl) q
-    go (some l) q = quiet-found _ (lastNamed i l) (λ _. refl) q
+    go none q = quiet-found _ (firstNamed i args) (λ _. refl) q
+    go (some l) q = quiet-found _ (firstNamed i l) (λ _. refl) q
 
     wrote : (o : Option Value) (q : State) → writeVariable i o q .kept ≡ 0
     wrote none q = quiet-write _ q

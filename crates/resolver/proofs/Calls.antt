@@ -275,7 +275,7 @@ module _ (e : Env) (left at : ℕ) where
             → ((u : Setup e) (i : Bytes) (ns : Named) (f : ℕ) → i ≡ idOf → (vs : List Value) (L : Limits) (s : State) (k : Machine) → Live L known s k → FirstIs first vs → NamedIn w2 (s2 .back) (s1 .back) ns
             → many [] _∷_ m namedAt (e .store) named ≡ got ns f → Ended L known (world (e .store) x l w2 t s3) (callFunction (findOf e u) i (given vs (namedTexts ns)) s) k)
             → ((u : Setup e) (i : Bytes) (ns : Named) (f : ℕ) → i ≡ idOf → (vs : List Value) (q : State) → FirstIs first vs → NamedIn w2 (s2 .back) (s1 .back) ns
-            → many [] _∷_ m namedAt (e .store) named ≡ got ns f → s3 .refused ≡ 0 → ResultIs (e .store) (e .args) w2 (r .back) b c (callFunction (findOf e u) i (given vs (namedTexts ns)) q .value))
+            → many [] _∷_ m namedAt (e .store) named ≡ got ns f → s3 .refused ≡ 0 → ResultIs (e .store) (e .given .args) w2 (r .back) b c (callFunction (findOf e u) i (given vs (namedTexts ns)) q .value))
             → CalledAt e left at w (world (e .store) x l w2 t r) b c
         unfolding release
         called-by {s3} {r} {b} {c} er kp go val =
@@ -289,7 +289,7 @@ module _ (e : Env) (left at : ℕ) where
               result = λ u i q xs ns f hi ha n tr here L s k lv z. call-id hi (λ ei ep.
                   arguments-value e left p w x l w1 t s1 first end pos m named hm w2 s2 nm (λ g. callFunction (findOf e u) i g) kp u xs ns f (at-id ep ha) n tr here L s k lv z1 z2
                   (λ vs q ev fi ni hr.
-                  subst (λ (o : Option Value). ResultIs (e .store) (e .args) w2 (r .back) b c o) (sym ev)
+                  subst (λ (o : Option Value). ResultIs (e .store) (e .given .args) w2 (r .back) b c o) (sym ev)
                   (val u i ns f ei vs q fi ni hr (sym (ap (λ (o : Progress). o .refused) er) ∙ z))));
             }
 
@@ -304,7 +304,7 @@ module _ (e : Env) (left at : ℕ) where
             (λ u i ns f ei vs q fi ni hr z3. known-function (holder-of u ei) eh (λ eo.
             has-result (numberFunction vs (namedTexts ns)) refl
             (ap (λ (o : M (Option Value)). o q .value) (look-found (findOf e u) i (λ o. call (given vs (namedTexts ns)) o) Holder.function eo))
-            (nb .holds ns f vs (s2 .back) hr fi ni (e .args) (r .back) z2 z3)))
+            (nb .holds ns f vs (s2 .back) hr fi ni (e .given .args) (r .back) z2 z3)))
 
         -- an entry is no function
         called-other : {r : Progress} → r ≡ backS (w .st .back) s2 → ((u : Setup e) (i : Bytes) → i ≡ idOf → (y : Entry) × (findOf e u i ≡ some (Holder.entry y)))

@@ -8,10 +8,14 @@ use native.Mathlib.Omega.{arith}
 use lib.ListN.{length, take, drop, replicate}
 use lib.Dec.{leb}
 use borrow.Author.Tests.{le-leb, lt-leb}
-use Rattle.records.specs.Got.{Got, got, bad}
+use Rattle.records.specs.Got.{got}
 use Rattle.records.specs.Tree.{Pattern}
 use Rattle.records.specs.Decode.{entryPatternAt}
-use Rattle.records.specs.Images.{Store, Argument, storeOf, argumentsOf}
+use Rattle.records.specs.Images.{Store, Argument, storeOf}
+use Rattle.order.specs.Accepted.{accepted, judge}
+use Rattle.arguments.specs.Relations.Checked.{refusalOf}
+use Rattle.arguments.specs.Relations.Places.{Noted}
+use Rattle.arguments.proofs.Judging.{judged-refused}
 use Rattle.records.specs.Errors.{encErrors, listHeader}
 use Rattle.growth.specs.Items.{atFront}
 use Rattle.resolution.specs.Effect.{Bytes}
@@ -23,7 +27,7 @@ use Rattle.theorems.specs.Figures.{FigureIs}
 use Rattle.theorems.proofs.Formattings.{few-unfound}
 use Rattle.theorems.proofs.Figures.{answers-highest}
 use Rattle.state.specs.Progress.{Progress}
-use Rattle.resolver.specs.Relations.Meets.{Env, env, Setup, settingOf, findOf}
+use Rattle.resolver.specs.Relations.Meets.{lent, env, Setup, settingOf, findOf}
 use Rattle.state.specs.Setters.{maxUnfound, newS}
 use Rattle.resolver.specs.declared.format.Answer as code-answer
 use Rattle.resolver.specs.declared.format.Answer.the-variants as ans
@@ -61,31 +65,31 @@ module _ (s id : Bytes) (a : Option Bytes) (image x l w : Bytes) {p : code-part.
       go (finds q st used pt f e′ hs hp k) = let z : _≡_ {A = ℕ} 0 1 = cc in absurd (omega arith)
 
   module _ (q : ℕ) (e : p ≡ part-answer.At q) where
-    found-elim : {C : Type 0} → ((st : Store) (used : ℕ) (pt : Pattern) (f : ℕ) → storeOf s ≡ got st used → entryPatternAt s q ≡ got pt f → format s id a image (buffers x l w) ≡ formatArguments st pt (argumentsOf image) (buffers x l w) → C) → C
+    found-elim : {C : Type 0} → ((st : Store) (used : ℕ) (pt : Pattern) (f : ℕ) → storeOf s ≡ got st used → entryPatternAt s q ≡ got pt f → format s id a image (buffers x l w) ≡ formatArguments st pt (judge image) (buffers x l w) → C) → C
     found-elim {C} c = go h
       where
         go : PatternFound s id a p → C
         go (refuses m e′ f) = let z : _≡_ {A = ℕ} 0 1 = cc in absurd (omega arith)
         go (finds q′ st used pt f e′ hs hp k) = let eq : q′ ≡ q = cc in c st used pt f hs (subst (λ (j : ℕ). entryPatternAt s j ≡ got pt f) eq hp) (k image (buffers x l w))
 
-    -- 13
-    pub format-arguments : {r : code-answer.Answer} → argumentsOf image ≡ bad → r ≡ ans.Refused 13 → gave r x l w ≡ format s id a image (buffers x l w)
+    -- 13, 19
+    pub format-arguments : {n : ℕ} {r : code-answer.Answer} → n ≡ refusalOf (judge image) → (n ≡ 0 → ⊥) → r ≡ ans.Refused n → gave r x l w ≡ format s id a image (buffers x l w)
     unfolding formatArguments
-    format-arguments b er = found-elim (λ st used pt f hs hp k. refused-is s id a image x l w 13 (k ∙ rw b) er)
+    format-arguments {n} e ne er = found-elim (λ st used pt f hs hp k. refused-is s id a image x l w n (k ∙ rw (judged-refused image e ne)) er)
 
-    module _ {args : List (Bytes × Argument)} {end : ℕ} (ha : argumentsOf image ≡ got args end) where
+    module _ {args : List (Bytes × Argument)} (ha : judge image ≡ accepted args) where
       -- 7, of a list buffer that has no room for a header
       pub format-header : {r : code-answer.Answer} → length l < 5 → r ≡ ans.Refused 7 → gave r x l w ≡ format s id a image (buffers x l w)
       unfolding formatArguments formatWith orRefuse listHeader
       format-header small er = found-elim (λ st used pt f hs hp k. refused-is s id a image x l w 7 (k ∙ rw (ha, lt-leb 5 (length l) small)) er)
 
       -- the run
-      pub format-run : {x₁ l₁ w₁ : Bytes} {p sc : Progress} {n : ℕ} {given : Formatted} → Octets s → 5 ≤ length l → p ≡ newS (length w) → RunOn (env s image) q x l w p x₁ l₁ w₁ sc → n ≡ sc .begun
+      pub format-run : {places x₁ l₁ w₁ : Bytes} {p sc : Progress} {n : ℕ} {given : Formatted} → Noted image places → Octets s → 5 ≤ length l → p ≡ newS (length w) → RunOn (env s (lent image places)) q x l w p x₁ l₁ w₁ sc → n ≡ sc .begun
           → given ≡ closed sc n (buffers x₁ l₁ w₁) → given ≡ format s id a image (buffers x l w)
       unfolding formatArguments formatWith orRefuse listHeader runPattern
-      format-run {x₁} {l₁} {w₁} {p = p} {sc = sc} {n = n} oct big ep ru en g = found-elim (λ st used pt f hs hp k.
-          let u : Setup (env s image) = record { held = st; used = used; held-at = hs; given = args; given-end = end; given-at = ha } in
-          let o : Ran = runPattern (settingOf (env s image) u) (findOf (env s image) u) (limitsOf (buffers x l w)) pt in
+      format-run {places} {x₁} {l₁} {w₁} {p = p} {sc = sc} {n = n} nt oct big ep ru en g = found-elim (λ st used pt f hs hp k.
+          let u : Setup (env s (lent image places)) = record { held = st; used = used; held-at = hs; given = args; given-at = ha; noted = nt } in
+          let o : Ran = runPattern (settingOf (env s (lent image places)) u) (findOf (env s (lent image places)) u) (limitsOf (buffers x l w)) pt in
           let begins : Rests x l w p start = subst (λ (y : Progress). Rests x l w y start) (sym ep) (rests-start x l w big) in
           let ran : RanAs o x l p x₁ l₁ w₁ sc (sc .begun) = ru .runs u pt f hp start (unfold start in refl) begins .0 in
           let c : closed sc n (buffers x₁ l₁ w₁) ≡ stopped (ended o (buffers x l w)) = closes x l w p x₁ l₁ w₁ sc n (ru .text-size) (ru .list-size) (ru .work-size) o (subst (λ (j : ℕ). RanAs o x l p x₁ l₁ w₁ sc j) (sym en) ran) in

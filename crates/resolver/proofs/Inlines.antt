@@ -113,7 +113,7 @@ module _ (e : Env) (left at : ℕ) where
       -- by what the literal's value is, and what is written of a value
       pub inline-number : {c : code-value.Value} {w v : World} → tag ≡ 2
           → (a ≤ b → b ≤ length (e .store) → isNumber name ≡ true → c ≡ val.Number (shown (literal name)))
-          → Kept w v → ((x : Value) → Holds (e .store) (e .args) (w .work) (w .st .back) c x → Acts (write (valueText x)) w v) → InlineAt e left at w v
+          → Kept w v → ((x : Value) → Holds (e .store) (e .given .args) (w .work) (w .st .back) c x → Acts (write (valueText x)) w v) → InlineAt e left at w v
       unfolding writeInline
       inline-number h c kp g = record {
         kept = kp;

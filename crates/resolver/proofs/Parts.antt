@@ -17,7 +17,7 @@ use Rattle.state.specs.declared.Reference.{Reference}
 use Rattle.state.specs.declared.Referring.{Referring}
 use Rattle.state.specs.declared.Reference.the-variants as ref
 use Rattle.values.specs.declared.Value as code-value
-use Rattle.resolver.specs.Relations.Meets.{World, world, Env, env}
+use Rattle.resolver.specs.Relations.Meets.{Lent, World, world, Env, env}
 use Rattle.resolver.specs.Relations.Leaves.{ReferenceIs}
 use Rattle.resolver.specs.Relations.Members.{PositionalAt, TermAt, TextValueAt, ValueAt}
 use Rattle.resolver.specs.Relations.Parts.{Lone, TermFlag, flagged, unflagged}
@@ -39,7 +39,7 @@ flag-is {flag = flag} {p = p} (flagged f o q y e rd er hb) er′ c =
     c q y rd er (hb ∙ ap (λ (j : ℕ). got j o) ef ∙ ap (λ (j : ℕ). got flag j) eo)
 flag-is (unflagged e h) er′ c = let z : _≡_ {A = ℕ} 0 1 = cc in absurd (omega arith)
 
-pub flag-none : {s : List ℕ} {at : ℕ} {r : Num} → TermFlag s at r → r ≡ num.Bad → (image : List ℕ) (left : ℕ) (w : World) → TermAt (env s image) left at w w
+pub flag-none : {s : List ℕ} {at : ℕ} {r : Num} → TermFlag s at r → r ≡ num.Bad → (image : Lent) (left : ℕ) (w : World) → TermAt (env s image) left at w w
 flag-none (flagged f o q y e rd er hb) er′ = let z : _≡_ {A = ℕ} 0 1 = cc in absurd (omega arith)
 flag-none (unflagged e h) er′ = h
 

@@ -68,7 +68,7 @@ module _ (e : Env) (left at : ℕ) where
       }
 
       module _ (q : ℕ) (en : rn ≡ next.At q) {rc : Next}
-          (ch : (v : Value) (low : ℕ) (st : Store) (f : ℕ) → Holds (e .store) (e .args) (u1 .work) low c v → storeOf (e .store) ≡ got st f → PickAt (e .store) q (chosen (st .locale) v) rc) where
+          (ch : (v : Value) (low : ℕ) (st : Store) (f : ℕ) → Holds (e .store) (e .given .args) (u1 .work) low c v → storeOf (e .store) ≡ got st f → PickAt (e .store) q (chosen (st .locale) v) rc) where
         -- what comes after the choice
         after-choice : {v : World} → Kept (freed w u1) v
             → ((u : Setup e) (vs : Variants) (o : Option ℕ) → Pick (e .store) left o vs rc → (n : ℕ) (t : Trail) → Here e (freed w u1) 0 n t → Runs (writeNth (settingOf e u) (findOf e u) (crossOf e u n) t vs o) (freed w u1) v)

@@ -25,7 +25,7 @@ use Rattle.state.specs.Progress.{Progress}
 use Rattle.state.specs.declared.Reference.{Reference}
 use Rattle.state.specs.declared.Referring.{Referring}
 use Rattle.state.specs.declared.Reference.the-variants as ref
-use Rattle.resolver.specs.Relations.Meets.{World, world, Kept, Acts, env}
+use Rattle.resolver.specs.Relations.Meets.{Lent, World, world, Kept, Acts, env}
 use Rattle.resolver.specs.Relations.Leaves.{ErrorAt, RefErrorAt, ReferenceIs}
 use Rattle.resolver.specs.Relations.Members.{TrackAt, MessageAt, FoundTermAt}
 use Rattle.resolver.proofs.Single.Puts.{counts}
@@ -190,7 +190,7 @@ module _ (s : List ℕ) (at : ℕ) {r : Reference} (rd : ReferenceIs s (at + 1) 
 
 -- what a writer makes of each answer
 module _ {s : List ℕ} {at : ℕ} {r : code-target.Target} where
-  pub message-tracked : {q : ℕ} → MessageTarget s at r → r ≡ target.At q → (image : List ℕ) {w v : World} → TrackAt (env s image) at q w v → MessageAt (env s image) at w v
+  pub message-tracked : {q : ℕ} → MessageTarget s at r → r ≡ target.At q → (image : Lent) {w v : World} → TrackAt (env s image) at q w v → MessageAt (env s image) at w v
   message-tracked {q} (message-goes q′ e f) er image {w} {v} g =
       let eq : q ≡ q′ = cc in
       f image w v (subst (λ (j : ℕ). TrackAt (env s image) at j w v) eq g)
@@ -204,7 +204,7 @@ module _ {s : List ℕ} {at : ℕ} {r : code-target.Target} where
   message-inside (message-misses lost e f) er = let z : _≡_ {A = ℕ} 0 1 = cc in absurd (omega arith)
   message-inside (message-bad e f) er = let z : _≡_ {A = ℕ} 0 1 = cc in absurd (omega arith)
 
-  pub message-listed : {a b : ℕ} → MessageTarget s at r → r ≡ target.NoValue a b → (image : List ℕ) {x l w l1 x′ w′ : List ℕ} (t : List ℕ) {st s1 s′ : Progress}
+  pub message-listed : {a b : ℕ} → MessageTarget s at r → r ≡ target.NoValue a b → (image : Lent) {x l w l1 x′ w′ : List ℕ} (t : List ℕ) {st s1 s′ : Progress}
       → ((i x w t : List ℕ) → Kept (world i x l w t st) (world i x l1 w t s1))
       × (length (part s a (b - a)) ≤ 255 → (i x w t : List ℕ) → Acts (emit (report (noValue (part s a (b - a))))) (world i x l w t st) (world i x l1 w t s1))
       → ErrorAt s at x w s1 x′ w′ s′ → MessageAt (env s image) at (world s x l w t st) (world s x′ l1 w′ t s′)
@@ -215,7 +215,7 @@ module _ {s : List ℕ} {at : ℕ} {r : code-target.Target} where
   message-listed (message-misses lost e f) er image t lst b = let z : _≡_ {A = ℕ} 0 1 = cc in absurd (omega arith)
   message-listed (message-bad e f) er image t lst b = let z : _≡_ {A = ℕ} 0 1 = cc in absurd (omega arith)
 
-  pub message-missed : {b : Bool} → MessageTarget s at r → r ≡ target.Missing b → (image : List ℕ) {x l w x′ l′ w′ : List ℕ} (t : List ℕ) {st s1 s′ : Progress} → s1 ≡ countIf b st
+  pub message-missed : {b : Bool} → MessageTarget s at r → r ≡ target.Missing b → (image : Lent) {x l w x′ l′ w′ : List ℕ} (t : List ℕ) {st s1 s′ : Progress} → s1 ≡ countIf b st
       → RefErrorAt s at (referredOf referred.Message) x l w s1 x′ l′ w′ s′ → MessageAt (env s image) at (world s x l w t st) (world s x′ l′ w′ t s′)
   message-missed (message-goes q′ e f) er image t es re = let z : _≡_ {A = ℕ} 0 1 = cc in absurd (omega arith)
   message-missed (message-lacks from to e i j f) er image t es re = let z : _≡_ {A = ℕ} 0 1 = cc in absurd (omega arith)
@@ -225,20 +225,20 @@ module _ {s : List ℕ} {at : ℕ} {r : code-target.Target} where
       (subst (λ (o : Bool). RefErrorAt s at (referredOf referred.Message) x l w (countIf o st) x′ l′ w′ s′) eb (subst (λ (o : Progress). RefErrorAt s at (referredOf referred.Message) x l w o x′ l′ w′ s′) es re))
   message-missed (message-bad e f) er image t es re = let z : _≡_ {A = ℕ} 0 1 = cc in absurd (omega arith)
 
-  pub message-nowhere : MessageTarget s at r → r ≡ target.Bad → (image : List ℕ) (w : World) → MessageAt (env s image) at w w
+  pub message-nowhere : MessageTarget s at r → r ≡ target.Bad → (image : Lent) (w : World) → MessageAt (env s image) at w w
   message-nowhere (message-goes q′ e f) er image w = let z : _≡_ {A = ℕ} 0 1 = cc in absurd (omega arith)
   message-nowhere (message-lacks from to e i j f) er image w = let z : _≡_ {A = ℕ} 0 1 = cc in absurd (omega arith)
   message-nowhere (message-misses lost e f) er image w = let z : _≡_ {A = ℕ} 0 1 = cc in absurd (omega arith)
   message-nowhere (message-bad e f) er image w = f image w
 
-  pub term-tracked : {q : ℕ} → TermTarget s at r → r ≡ target.At q → (image : List ℕ) {w v : World} → TrackAt (env s image) at q w v → FoundTermAt (env s image) at w v
+  pub term-tracked : {q : ℕ} → TermTarget s at r → r ≡ target.At q → (image : Lent) {w v : World} → TrackAt (env s image) at q w v → FoundTermAt (env s image) at w v
   term-tracked {q} (term-goes q′ e f) er image {w} {v} g =
       let eq : q ≡ q′ = cc in
       f image w v (subst (λ (j : ℕ). TrackAt (env s image) at j w v) eq g)
   term-tracked (term-misses lost e f) er image g = let z : _≡_ {A = ℕ} 0 1 = cc in absurd (omega arith)
   term-tracked (term-bad e f) er image g = let z : _≡_ {A = ℕ} 0 1 = cc in absurd (omega arith)
 
-  pub term-missed : {b : Bool} → TermTarget s at r → r ≡ target.Missing b → (image : List ℕ) {x l w x′ l′ w′ : List ℕ} (t : List ℕ) {st s1 s′ : Progress} → s1 ≡ countIf b st
+  pub term-missed : {b : Bool} → TermTarget s at r → r ≡ target.Missing b → (image : Lent) {x l w x′ l′ w′ : List ℕ} (t : List ℕ) {st s1 s′ : Progress} → s1 ≡ countIf b st
       → RefErrorAt s at (referredOf referred.Term) x l w s1 x′ l′ w′ s′ → FoundTermAt (env s image) at (world s x l w t st) (world s x′ l′ w′ t s′)
   term-missed (term-goes q′ e f) er image t es re = let z : _≡_ {A = ℕ} 0 1 = cc in absurd (omega arith)
   term-missed {b} (term-misses lost e f) er image {x} {l} {w} {x′} {l′} {w′} t {st} {s1} {s′} es re =
@@ -247,7 +247,7 @@ module _ {s : List ℕ} {at : ℕ} {r : code-target.Target} where
       (subst (λ (o : Bool). RefErrorAt s at (referredOf referred.Term) x l w (countIf o st) x′ l′ w′ s′) eb (subst (λ (o : Progress). RefErrorAt s at (referredOf referred.Term) x l w o x′ l′ w′ s′) es re))
   term-missed (term-bad e f) er image t es re = let z : _≡_ {A = ℕ} 0 1 = cc in absurd (omega arith)
 
-  pub term-nowhere : TermTarget s at r → r ≡ target.Bad → (image : List ℕ) (w : World) → FoundTermAt (env s image) at w w
+  pub term-nowhere : TermTarget s at r → r ≡ target.Bad → (image : Lent) (w : World) → FoundTermAt (env s image) at w w
   term-nowhere (term-goes q′ e f) er image w = let z : _≡_ {A = ℕ} 0 1 = cc in absurd (omega arith)
   term-nowhere (term-misses lost e f) er image w = let z : _≡_ {A = ℕ} 0 1 = cc in absurd (omega arith)
   term-nowhere (term-bad e f) er image w = f image w

@@ -73,7 +73,7 @@ module _ (e : Env) (left at : ℕ) where
         kept = g .kept;
         runs = λ u y f k n t here. runs-as (is u n t y f k) (g .runs u y f k n t here);
         holds = λ u y f k n t here L s m lv z.
-            subst (λ (q : M Value). Holds (e .store) (e .args) (v .work) (v .st .back) c (q s .value)) (sym (is u n t y f k)) (g .holds u y f k n t here L s m lv z);
+            subst (λ (q : M Value). Holds (e .store) (e .given .args) (v .work) (v .st .back) c (q s .value)) (sym (is u n t y f k)) (g .holds u y f k n t here L s m lv z);
       }
 
       value-message : tag ≡ 4 → ValueAt e left at w v c
@@ -115,9 +115,9 @@ module _ (e : Env) (left at : ℕ) where
         runs = λ u y j k n tr here. string-body (e .store) at tag p hb left k h (λ b q ey. same (string-str (e .store) p q) (λ eb.
             runs-as (ap (resolveInline (settingOf e u) (findOf e u) (crossOf e u n) tr) (ey ∙ ap Inline.string eb)) (g .runs le ln x l t)));
         holds = λ u y j k n tr here L s m lv z. string-body (e .store) at tag p hb left k h (λ b q ey. same (string-str (e .store) p q) (λ eb.
-            subst (λ (o : Value). Holds (e .store) (e .args) w′ (r .back) c o)
+            subst (λ (o : Value). Holds (e .store) (e .given .args) w′ (r .back) c o)
             (sym (ap (λ (o : Inline). resolveInline (settingOf e u) (findOf e u) (crossOf e u n) tr o s .value) (ey ∙ ap Inline.string eb) ∙ string-value str s))
-            (g .holds le ln (e .args) x l t L s m lv z)));
+            (g .holds le ln (e .given .args) x l t L s m lv z)));
       }
 
       -- a number literal
@@ -141,7 +141,7 @@ module _ (e : Env) (left at : ℕ) where
         runs = λ u y j k n tr here. variable-body (e .store) at tag p hb left k h (λ i q ey. same (id-str (e .store) p q) (λ ei.
             runs-as (ap (resolveInline (settingOf e u) (findOf e u) (crossOf e u n) tr) (ey ∙ ap variable ei)) (g .runs u le ln (short q ei) (here .same))));
         holds = λ u y j k n tr here L s m lv z. variable-body (e .store) at tag p hb left k h (λ i q ey. same (id-str (e .store) p q) (λ ei.
-            subst (λ (o : Inline). Holds (e .store) (e .args) (v .work) (v .st .back) c (resolveInline (settingOf e u) (findOf e u) (crossOf e u n) tr o s .value)) (sym (ey ∙ ap variable ei))
+            subst (λ (o : Inline). Holds (e .store) (e .given .args) (v .work) (v .st .back) c (resolveInline (settingOf e u) (findOf e u) (crossOf e u n) tr o s .value)) (sym (ey ∙ ap variable ei))
             (g .holds u le ln (short q ei) (here .same) L s m lv z)));
       }
         where
@@ -164,11 +164,11 @@ module _ (e : Env) (left at : ℕ) where
           ended-then a (λ o. orWrong o) L s m (g .runs u i q xs ns f hn ha n t here L s m lv) (kept-same v) (λ m′ lv′ mv. runs-or (a s .value) v L (a s .state) m′ lv′)));
       holds = λ u y f k n t here L s m lv z. function-body (e .store) at tag p hb left k n4 n5 n7 n1 n2 n6 (λ i q xs ns hn ha ey.
           let a : M (Option Value) = release (getArguments (settingOf e u) (findOf e u) (crossOf e u n) t xs ns >>= λ o. callFunction (findOf e u) i o) in
-          subst (λ (o : Inline). Holds (e .store) (e .args) (v .work) (v .st .back) c (resolveInline (settingOf e u) (findOf e u) (crossOf e u n) t o s .value)) (sym ey)
+          subst (λ (o : Inline). Holds (e .store) (e .given .args) (v .work) (v .st .back) c (resolveInline (settingOf e u) (findOf e u) (crossOf e u n) t o s .value)) (sym ey)
           (or-value (a s .value) (a s .state) (g .result u i q xs ns f hn ha n t here L s m lv z)));
     }
       where
-        or-value : (o : Option Value) (s : State) → ResultIs (e .store) (e .args) (v .work) (v .st .back) found c o → Holds (e .store) (e .args) (v .work) (v .st .back) c (orWrong o s .value)
+        or-value : (o : Option Value) (s : State) → ResultIs (e .store) (e .given .args) (v .work) (v .st .back) found c o → Holds (e .store) (e .given .args) (v .work) (v .st .back) c (orWrong o s .value)
         or-value none s (has-result x ef eo h) = let z : _≡_ {A = ℕ} 0 1 = cc in absurd (omega arith)
         or-value none s (no-function ef ec eo) = is-wrong ec refl
         or-value (some o) s (has-result x ef eo h) = let ex : x ≡ o = cc in rw (← ex) h
@@ -223,8 +223,8 @@ module _ (e : Env) (left at : ℕ) (x l w t : List ℕ) (st : Progress) {s1 : Pr
             (ended-held (capture m) L s k (ended-capture (e .store) x l w t st u w3 n to en et kp m L s k r lv (ran-it p y j h n′ tr here L s k lv)));
         holds = λ p y j h n′ tr here L s k lv z.
             let m = writeInline (settingOf e p) (findOf e p) (crossOf e p n′) tr y in
-            subst (λ (q : Progress). Holds (e .store) (e .args) w3 (q .back) (val.Work to (u .st .back)) (textual (m s .text))) (sym e3)
-            (holds-capture (e .store) x l w t st u w3 n to en et kp (e .store) (e .args) m L s k r lv (ran-it p y j h n′ tr here L s k lv));
+            subst (λ (q : Progress). Holds (e .store) (e .given .args) w3 (q .back) (val.Work to (u .st .back)) (textual (m s .text))) (sym e3)
+            (holds-capture (e .store) x l w t st u w3 n to en et kp (e .store) (e .given .args) m L s k r lv (ran-it p y j h n′ tr here L s k lv));
       }
 
 -- what is left to do once a text of its own was written

@@ -1,6 +1,6 @@
 // Calls: the positional arguments, and the function's result.
 ghost use Rattle.state.specs.Progress.{progressOf};
-ghost use Rattle.resolver.specs.Relations.Meets.{world, env};
+ghost use Rattle.resolver.specs.Relations.Meets.{world, env, lent};
 ghost use mathlib.Core.Path.{_≡_};
 ghost use Rattle.values.specs.Stored.{valueOf, foundIn, endOf};
 ghost use Rattle.resolver.specs.Relations.Members.{PositionalAt, CalledAt};
@@ -30,6 +30,7 @@ use walks::skip_expression;
 pub(crate) fn each<'a>(
     store: &'a [u8],
     args: &'a [u8],
+    places: &'a [usize; 256],
     text: &mut [u8],
     list: &mut [u8],
     work: &mut [u8],
@@ -39,7 +40,7 @@ pub(crate) fn each<'a>(
     left: usize,
     at: usize,
 )
-    ensures { λ _. ⌜ PositionalAt (env (now (store .entry)) (now (args .entry))) left at (world (now (store .entry)) (now (text .entry)) (now (list .entry)) (now (work .entry)) (now (trail .entry)) (progressOf (now (st .entry)))) (world (now (store .entry)) (now (text .exit)) (now (list .exit)) (now (work .exit)) (now (trail .exit)) (progressOf (now (st .exit)))) (valueOf (now (value .exit))) (endOf (now (value .exit))) ⌝ }
+    ensures { λ _. ⌜ PositionalAt (env (now (store .entry)) (lent (now (args .entry)) (now (places .entry)))) left at (world (now (store .entry)) (now (text .entry)) (now (list .entry)) (now (work .entry)) (now (trail .entry)) (progressOf (now (st .entry)))) (world (now (store .entry)) (now (text .exit)) (now (list .exit)) (now (work .exit)) (now (trail .exit)) (progressOf (now (st .exit)))) (valueOf (now (value .exit))) (endOf (now (value .exit))) ⌝ }
 {
     let Num::At(n, start) = read_u16(store, at) else {
         return;
@@ -49,7 +50,7 @@ pub(crate) fn each<'a>(
     let mut p = start;
     let mut i = n;
     while 0 < i {
-        inline::resolve(store, args, text, list, work, trail, st, value, left, p);
+        inline::resolve(store, args, places, text, list, work, trail, st, value, left, p);
         if i == n {
             first = *value;
         }
@@ -67,6 +68,7 @@ pub(crate) fn each<'a>(
 pub(crate) fn function<'a>(
     store: &'a [u8],
     args: &'a [u8],
+    places: &'a [usize; 256],
     text: &mut [u8],
     list: &mut [u8],
     work: &mut [u8],
@@ -76,13 +78,13 @@ pub(crate) fn function<'a>(
     left: usize,
     at: usize,
 )
-    ensures { λ _. ⌜ CalledAt (env (now (store .entry)) (now (args .entry))) left at (world (now (store .entry)) (now (text .entry)) (now (list .entry)) (now (work .entry)) (now (trail .entry)) (progressOf (now (st .entry)))) (world (now (store .entry)) (now (text .exit)) (now (list .exit)) (now (work .exit)) (now (trail .exit)) (progressOf (now (st .exit)))) (foundIn (now (value .exit))) (valueOf (now (value .exit))) ⌝ }
+    ensures { λ _. ⌜ CalledAt (env (now (store .entry)) (lent (now (args .entry)) (now (places .entry)))) left at (world (now (store .entry)) (now (text .entry)) (now (list .entry)) (now (work .entry)) (now (trail .entry)) (progressOf (now (st .entry)))) (world (now (store .entry)) (now (text .exit)) (now (list .exit)) (now (work .exit)) (now (trail .exit)) (progressOf (now (st .exit)))) (foundIn (now (value .exit))) (valueOf (now (value .exit))) ⌝ }
 {
     let Num::At(_, e) = read_str(store, at) else {
         return;
     };
     let old = st[BACK];
-    each(store, args, text, list, work, trail, st, value, left, e);
+    each(store, args, places, text, list, work, trail, st, value, left, e);
     apply(store, work, st, value, at, old);
 }
 

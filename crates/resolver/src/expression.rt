@@ -1,6 +1,6 @@
 // Expressions, written: an inline expression, or a select.
 ghost use Rattle.state.specs.Progress.{progressOf};
-ghost use Rattle.resolver.specs.Relations.Meets.{world, env};
+ghost use Rattle.resolver.specs.Relations.Meets.{world, env, lent};
 ghost use Rattle.resolver.specs.Relations.Members.{ExpressionAt, SelectAt};
 use crate::inline;
 use crate::pattern;
@@ -19,6 +19,7 @@ use writes::list::list_plain;
 pub(crate) fn write<'a>(
     store: &'a [u8],
     args: &'a [u8],
+    places: &'a [usize; 256],
     text: &mut [u8],
     list: &mut [u8],
     work: &mut [u8],
@@ -28,7 +29,7 @@ pub(crate) fn write<'a>(
     left: usize,
     at: usize,
 )
-    ensures { λ _. ⌜ ExpressionAt (env (now (store .entry)) (now (args .entry))) left at (world (now (store .entry)) (now (text .entry)) (now (list .entry)) (now (work .entry)) (now (trail .entry)) (progressOf (now (st .entry)))) (world (now (store .entry)) (now (text .exit)) (now (list .exit)) (now (work .exit)) (now (trail .exit)) (progressOf (now (st .exit)))) ⌝ }
+    ensures { λ _. ⌜ ExpressionAt (env (now (store .entry)) (lent (now (args .entry)) (now (places .entry)))) left at (world (now (store .entry)) (now (text .entry)) (now (list .entry)) (now (work .entry)) (now (trail .entry)) (progressOf (now (st .entry)))) (world (now (store .entry)) (now (text .exit)) (now (list .exit)) (now (work .exit)) (now (trail .exit)) (progressOf (now (st .exit)))) ⌝ }
 {
     if st[REFUSED] != 0 {
         return;
@@ -40,16 +41,17 @@ pub(crate) fn write<'a>(
         return;
     };
     if tag == 8 {
-        select(store, args, text, list, work, trail, st, value, left - 1, p);
+        select(store, args, places, text, list, work, trail, st, value, left - 1, p);
         return;
     }
-    inline::write(store, args, text, list, work, trail, st, value, left, at);
+    inline::write(store, args, places, text, list, work, trail, st, value, left, at);
 }
 
 // A select, past its tag: the selector's text is freed when its variant, or none, is chosen.
 pub(crate) fn select<'a>(
     store: &'a [u8],
     args: &'a [u8],
+    places: &'a [usize; 256],
     text: &mut [u8],
     list: &mut [u8],
     work: &mut [u8],
@@ -59,13 +61,13 @@ pub(crate) fn select<'a>(
     left: usize,
     at: usize,
 )
-    ensures { λ _. ⌜ SelectAt (env (now (store .entry)) (now (args .entry))) left at (world (now (store .entry)) (now (text .entry)) (now (list .entry)) (now (work .entry)) (now (trail .entry)) (progressOf (now (st .entry)))) (world (now (store .entry)) (now (text .exit)) (now (list .exit)) (now (work .exit)) (now (trail .exit)) (progressOf (now (st .exit)))) ⌝ }
+    ensures { λ _. ⌜ SelectAt (env (now (store .entry)) (lent (now (args .entry)) (now (places .entry)))) left at (world (now (store .entry)) (now (text .entry)) (now (list .entry)) (now (work .entry)) (now (trail .entry)) (progressOf (now (st .entry)))) (world (now (store .entry)) (now (text .exit)) (now (list .exit)) (now (work .exit)) (now (trail .exit)) (progressOf (now (st .exit)))) ⌝ }
 {
     if st[REFUSED] != 0 {
         return;
     }
     let old = st[BACK];
-    inline::resolve(store, args, text, list, work, trail, st, value, left, at);
+    inline::resolve(store, args, places, text, list, work, trail, st, value, left, at);
     if st[REFUSED] != 0 {
         return;
     }
@@ -77,5 +79,5 @@ pub(crate) fn select<'a>(
         list_plain(list, st, Plain::MissingDefault);
         return;
     };
-    pattern::write(store, args, text, list, work, trail, st, value, left, to);
+    pattern::write(store, args, places, text, list, work, trail, st, value, left, to);
 }

@@ -27,7 +27,7 @@ ghost use Rattle.theorems.specs.Figures.{FigureIs};
 ghost use Rattle.state.specs.Progress.{progressOf, scopeOf};
 ghost use Rattle.resolver.specs.Relations.Runs.{messageIn, PatternFound, RunOn, closed};
 ghost use Rattle.records.specs.Optional.{optionOf};
-ghost use Rattle.resolver.specs.Relations.Meets.{env};
+ghost use Rattle.resolver.specs.Relations.Meets.{env, lent};
 
 // What a formatting carries.
 pub struct Figures {
@@ -98,18 +98,19 @@ fn find_pattern(store: &[u8], id: &[u8], has: bool, attribute: &[u8]) -> Part
 pub fn run_on<'a>(
     store: &'a [u8],
     args: &'a [u8],
+    places: &'a [usize; 256],
     text: &mut [u8],
     list: &mut [u8],
     work: &mut [u8],
     st: &mut [usize; 16],
     q: usize,
 ) -> Scope
-    ensures { λ r. ⌜ RunOn (env (now (store .entry)) (now (args .entry))) q (now (text .entry)) (now (list .entry)) (now (work .entry)) (progressOf (now (st .entry))) (now (text .exit)) (now (list .exit)) (now (work .exit)) (progressOf (now (st .exit))) × (r ≡ scopeOf (progressOf (now (st .exit)))) ⌝ }
+    ensures { λ r. ⌜ RunOn (env (now (store .entry)) (lent (now (args .entry)) (now (places .entry)))) q (now (text .entry)) (now (list .entry)) (now (work .entry)) (progressOf (now (st .entry))) (now (text .exit)) (now (list .exit)) (now (work .exit)) (progressOf (now (st .exit))) × (r ≡ scopeOf (progressOf (now (st .exit)))) ⌝ }
 {
     let mut trail = [0usize; 102];
     let mut value = [0usize; 10];
     enter(&mut trail, st, q);
-    resolve(store, args, text, list, work, &mut trail, st, &mut value, q)
+    resolve(store, args, places, text, list, work, &mut trail, st, &mut value, q)
 }
 
 // A refusal's number.
@@ -171,15 +172,17 @@ pub fn format<'a>(
     match find_pattern(store, id, has, attribute) {
         Part::Refused(n) => Answer::Refused(n),
         Part::At(q) => {
-            let Next::At(_) = check_arguments(args) else {
-                return Answer::Refused(13);
-            };
+            let mut places = [0usize; 256];
+            let refused = check_arguments(args, &mut places);
+            if refused != 0 {
+                return Answer::Refused(refused);
+            }
             if list.len() < 5 {
                 return Answer::Refused(7);
             }
             let mut st = [0usize; 16];
             start(&mut st, work.len());
-            let scope = run_on(store, args, text, list, work, &mut st, q);
+            let scope = run_on(store, args, &places, text, list, work, &mut st, q);
             finish(&st, scope.begun, text, list, work)
         }
     }

@@ -1,6 +1,6 @@
 // Inline expressions (the Rust's inline_expression.rs): written, or resolved to a value.
 ghost use Rattle.state.specs.Progress.{progressOf};
-ghost use Rattle.resolver.specs.Relations.Meets.{world, env};
+ghost use Rattle.resolver.specs.Relations.Meets.{world, env, lent};
 ghost use Rattle.values.specs.Stored.{valueOf};
 ghost use Rattle.resolver.specs.Relations.Members.{InlineAt, MessageAt, ValueAt, TextAt};
 use crate::call;
@@ -30,6 +30,7 @@ use writes::list::list_no_value;
 pub(crate) fn write<'a>(
     store: &'a [u8],
     args: &'a [u8],
+    places: &'a [usize; 256],
     text: &mut [u8],
     list: &mut [u8],
     work: &mut [u8],
@@ -39,7 +40,7 @@ pub(crate) fn write<'a>(
     left: usize,
     at: usize,
 )
-    ensures { λ _. ⌜ InlineAt (env (now (store .entry)) (now (args .entry))) left at (world (now (store .entry)) (now (text .entry)) (now (list .entry)) (now (work .entry)) (now (trail .entry)) (progressOf (now (st .entry)))) (world (now (store .entry)) (now (text .exit)) (now (list .exit)) (now (work .exit)) (now (trail .exit)) (progressOf (now (st .exit)))) ⌝ }
+    ensures { λ _. ⌜ InlineAt (env (now (store .entry)) (lent (now (args .entry)) (now (places .entry)))) left at (world (now (store .entry)) (now (text .entry)) (now (list .entry)) (now (work .entry)) (now (trail .entry)) (progressOf (now (st .entry)))) (world (now (store .entry)) (now (text .exit)) (now (list .exit)) (now (work .exit)) (now (trail .exit)) (progressOf (now (st .exit)))) ⌝ }
 {
     if st[REFUSED] != 0 {
         return;
@@ -51,17 +52,18 @@ pub(crate) fn write<'a>(
         return;
     };
     if tag == 7 {
-        expression::write(store, args, text, list, work, trail, st, value, left - 1, p);
+        expression::write(store, args, places, text, list, work, trail, st, value, left - 1, p);
         return;
     }
     if tag == 4 {
-        message(store, args, text, list, work, trail, st, value, at);
+        message(store, args, places, text, list, work, trail, st, value, at);
         return;
     }
     if tag == 5 {
         term::refer(
             store,
             args,
+            places,
             text,
             list,
             work,
@@ -74,17 +76,18 @@ pub(crate) fn write<'a>(
         return;
     }
     if tag == 3 {
-        call::function(store, args, text, list, work, trail, st, value, left - 1, p);
+        call::function(store, args, places, text, list, work, trail, st, value, left - 1, p);
         write_called(store, args, text, list, work, st, &*value, p);
         return;
     }
-    write_leaf(store, args, text, list, work, st, tag, p);
+    write_leaf(store, args, places, text, list, work, st, tag, p);
 }
 
 // A message reference, its tag at `at`.
 pub(crate) fn message<'a>(
     store: &'a [u8],
     args: &'a [u8],
+    places: &'a [usize; 256],
     text: &mut [u8],
     list: &mut [u8],
     work: &mut [u8],
@@ -93,13 +96,13 @@ pub(crate) fn message<'a>(
     value: &mut [usize; 10],
     at: usize,
 )
-    ensures { λ _. ⌜ MessageAt (env (now (store .entry)) (now (args .entry))) at (world (now (store .entry)) (now (text .entry)) (now (list .entry)) (now (work .entry)) (now (trail .entry)) (progressOf (now (st .entry)))) (world (now (store .entry)) (now (text .exit)) (now (list .exit)) (now (work .exit)) (now (trail .exit)) (progressOf (now (st .exit)))) ⌝ }
+    ensures { λ _. ⌜ MessageAt (env (now (store .entry)) (lent (now (args .entry)) (now (places .entry)))) at (world (now (store .entry)) (now (text .entry)) (now (list .entry)) (now (work .entry)) (now (trail .entry)) (progressOf (now (st .entry)))) (world (now (store .entry)) (now (text .exit)) (now (list .exit)) (now (work .exit)) (now (trail .exit)) (progressOf (now (st .exit)))) ⌝ }
 {
     if st[REFUSED] != 0 {
         return;
     }
     match target_of(store, at, false) {
-        Target::At(q) => pattern::track(store, args, text, list, work, trail, st, value, at, q),
+        Target::At(q) => pattern::track(store, args, places, text, list, work, trail, st, value, at, q),
         Target::NoValue(from, to) => {
             list_no_value(list, st, &store[from..to]);
             put_error(store, text, work, st, at);
@@ -116,6 +119,7 @@ pub(crate) fn message<'a>(
 pub(crate) fn resolve<'a>(
     store: &'a [u8],
     args: &'a [u8],
+    places: &'a [usize; 256],
     text: &mut [u8],
     list: &mut [u8],
     work: &mut [u8],
@@ -125,7 +129,7 @@ pub(crate) fn resolve<'a>(
     left: usize,
     at: usize,
 )
-    ensures { λ _. ⌜ ValueAt (env (now (store .entry)) (now (args .entry))) left at (world (now (store .entry)) (now (text .entry)) (now (list .entry)) (now (work .entry)) (now (trail .entry)) (progressOf (now (st .entry)))) (world (now (store .entry)) (now (text .exit)) (now (list .exit)) (now (work .exit)) (now (trail .exit)) (progressOf (now (st .exit)))) (valueOf (now (value .exit))) ⌝ }
+    ensures { λ _. ⌜ ValueAt (env (now (store .entry)) (lent (now (args .entry)) (now (places .entry)))) left at (world (now (store .entry)) (now (text .entry)) (now (list .entry)) (now (work .entry)) (now (trail .entry)) (progressOf (now (st .entry)))) (world (now (store .entry)) (now (text .exit)) (now (list .exit)) (now (work .exit)) (now (trail .exit)) (progressOf (now (st .exit)))) (valueOf (now (value .exit))) ⌝ }
 {
     if st[REFUSED] != 0 {
         return;
@@ -137,13 +141,14 @@ pub(crate) fn resolve<'a>(
         return;
     };
     if tag == 6 {
-        resolve_leaf(store, args, list, work, st, value, tag, p);
+        resolve_leaf(store, args, places, list, work, st, value, tag, p);
         return;
     }
     if gives_text(tag) {
         as_text(
             store,
             args,
+            places,
             text,
             list,
             work,
@@ -158,16 +163,17 @@ pub(crate) fn resolve<'a>(
         return;
     }
     if tag == 3 {
-        call::function(store, args, text, list, work, trail, st, value, left - 1, p);
+        call::function(store, args, places, text, list, work, trail, st, value, left - 1, p);
         return;
     }
-    resolve_leaf(store, args, list, work, st, value, tag, p);
+    resolve_leaf(store, args, places, list, work, st, value, tag, p);
 }
 
 // A message, a term or an inline placeable, its tag at `at` and the rest at p, as a text of its own: made at the workspace's front, then moved to its back.
 pub(crate) fn as_text<'a>(
     store: &'a [u8],
     args: &'a [u8],
+    places: &'a [usize; 256],
     text: &mut [u8],
     list: &mut [u8],
     work: &mut [u8],
@@ -179,13 +185,13 @@ pub(crate) fn as_text<'a>(
     tag: usize,
     p: usize,
 )
-    ensures { λ _. ⌜ TextAt (env (now (store .entry)) (now (args .entry))) left at tag p (world (now (store .entry)) (now (text .entry)) (now (list .entry)) (now (work .entry)) (now (trail .entry)) (progressOf (now (st .entry)))) (world (now (store .entry)) (now (text .exit)) (now (list .exit)) (now (work .exit)) (now (trail .exit)) (progressOf (now (st .exit)))) (valueOf (now (value .exit))) ⌝ }
+    ensures { λ _. ⌜ TextAt (env (now (store .entry)) (lent (now (args .entry)) (now (places .entry)))) left at tag p (world (now (store .entry)) (now (text .entry)) (now (list .entry)) (now (work .entry)) (now (trail .entry)) (progressOf (now (st .entry)))) (world (now (store .entry)) (now (text .exit)) (now (list .exit)) (now (work .exit)) (now (trail .exit)) (progressOf (now (st .exit)))) (valueOf (now (value .exit))) ⌝ }
 {
     let was = st[ASIDE];
     let start = st[FRONT];
     set_aside(st);
     if tag == 4 {
-        message(store, args, text, list, work, trail, st, value, at);
+        message(store, args, places, text, list, work, trail, st, value, at);
         keep_text(work, st, value, start, was);
         return;
     }
@@ -196,6 +202,7 @@ pub(crate) fn as_text<'a>(
         term::refer(
             store,
             args,
+            places,
             text,
             list,
             work,
@@ -208,6 +215,6 @@ pub(crate) fn as_text<'a>(
         keep_text(work, st, value, start, was);
         return;
     }
-    expression::write(store, args, text, list, work, trail, st, value, left - 1, p);
+    expression::write(store, args, places, text, list, work, trail, st, value, left - 1, p);
     keep_text(work, st, value, start, was);
 }

@@ -4,7 +4,7 @@
 ghost use mathlib.Core.Path.{_≡_};
 ghost use Rattle.state.specs.Progress.{progressOf, scopeOf, scopedS};
 ghost use Rattle.state.specs.Setters.{newS};
-ghost use Rattle.resolver.specs.Relations.Meets.{world, env};
+ghost use Rattle.resolver.specs.Relations.Meets.{world, env, lent};
 ghost use Rattle.resolver.specs.Relations.Members.{PatternAt};
 use crate::pattern;
 use state::Scope;
@@ -16,6 +16,7 @@ use state::set_scope;
 pub(crate) fn write_by_value<'a>(
     store: &'a [u8],
     args: &'a [u8],
+    places: &'a [usize; 256],
     text: &mut [u8],
     list: &mut [u8],
     work: &mut [u8],
@@ -26,10 +27,10 @@ pub(crate) fn write_by_value<'a>(
     left: usize,
     at: usize,
 ) -> Scope
-    ensures { λ r. ⌜ PatternAt (env (now (store .entry)) (now (args .entry))) left at (world (now (store .entry)) (now (text .entry)) (now (list .entry)) (now (work .entry)) (now (trail .entry)) (scopedS scope (progressOf (now (st .entry))))) (world (now (store .entry)) (now (text .exit)) (now (list .exit)) (now (work .exit)) (now (trail .exit)) (progressOf (now (st .exit)))) × (r ≡ scopeOf (progressOf (now (st .exit)))) ⌝ }
+    ensures { λ r. ⌜ PatternAt (env (now (store .entry)) (lent (now (args .entry)) (now (places .entry)))) left at (world (now (store .entry)) (now (text .entry)) (now (list .entry)) (now (work .entry)) (now (trail .entry)) (scopedS scope (progressOf (now (st .entry))))) (world (now (store .entry)) (now (text .exit)) (now (list .exit)) (now (work .exit)) (now (trail .exit)) (progressOf (now (st .exit)))) × (r ≡ scopeOf (progressOf (now (st .exit)))) ⌝ }
 {
     set_scope(st, scope);
-    pattern::write(store, args, text, list, work, trail, st, value, left, at);
+    pattern::write(store, args, places, text, list, work, trail, st, value, left, at);
     scope_in(&*st)
 }
 
@@ -37,6 +38,7 @@ pub(crate) fn write_by_value<'a>(
 pub(crate) fn write<'a>(
     store: &'a [u8],
     args: &'a [u8],
+    places: &'a [usize; 256],
     text: &mut [u8],
     list: &mut [u8],
     work: &mut [u8],
@@ -47,11 +49,12 @@ pub(crate) fn write<'a>(
     left: usize,
     at: usize,
 )
-    ensures { λ _. ⌜ PatternAt (env (now (store .entry)) (now (args .entry))) left at (world (now (store .entry)) (now (text .entry)) (now (list .entry)) (now (work .entry)) (now (trail .entry)) (scopedS (now (scope .entry)) (progressOf (now (st .entry))))) (world (now (store .entry)) (now (text .exit)) (now (list .exit)) (now (work .exit)) (now (trail .exit)) (progressOf (now (st .exit)))) × (now (scope .exit) ≡ scopeOf (progressOf (now (st .exit)))) ⌝ }
+    ensures { λ _. ⌜ PatternAt (env (now (store .entry)) (lent (now (args .entry)) (now (places .entry)))) left at (world (now (store .entry)) (now (text .entry)) (now (list .entry)) (now (work .entry)) (now (trail .entry)) (scopedS (now (scope .entry)) (progressOf (now (st .entry))))) (world (now (store .entry)) (now (text .exit)) (now (list .exit)) (now (work .exit)) (now (trail .exit)) (progressOf (now (st .exit)))) × (now (scope .exit) ≡ scopeOf (progressOf (now (st .exit)))) ⌝ }
 {
     *scope = write_by_value(
         store,
         args,
+        places,
         text,
         list,
         work,
@@ -68,6 +71,7 @@ pub(crate) fn write<'a>(
 pub(crate) fn resolve<'a>(
     store: &'a [u8],
     args: &'a [u8],
+    places: &'a [usize; 256],
     text: &mut [u8],
     list: &mut [u8],
     work: &mut [u8],
@@ -76,12 +80,13 @@ pub(crate) fn resolve<'a>(
     value: &mut [usize; 10],
     q: usize,
 ) -> Scope
-    ensures { λ r. ⌜ PatternAt (env (now (store .entry)) (now (args .entry))) 32 q (world (now (store .entry)) (now (text .entry)) (now (list .entry)) (now (work .entry)) (now (trail .entry)) (scopedS (scopeOf (newS 0)) (progressOf (now (st .entry))))) (world (now (store .entry)) (now (text .exit)) (now (list .exit)) (now (work .exit)) (now (trail .exit)) (progressOf (now (st .exit)))) × (r ≡ scopeOf (progressOf (now (st .exit)))) ⌝ }
+    ensures { λ r. ⌜ PatternAt (env (now (store .entry)) (lent (now (args .entry)) (now (places .entry)))) 32 q (world (now (store .entry)) (now (text .entry)) (now (list .entry)) (now (work .entry)) (now (trail .entry)) (scopedS (scopeOf (newS 0)) (progressOf (now (st .entry))))) (world (now (store .entry)) (now (text .exit)) (now (list .exit)) (now (work .exit)) (now (trail .exit)) (progressOf (now (st .exit)))) × (r ≡ scopeOf (progressOf (now (st .exit)))) ⌝ }
 {
     let mut scope = new();
     write(
         store,
         args,
+        places,
         text,
         list,
         work,

@@ -1,7 +1,7 @@
 // Patterns, written: the elements in turn, the placeables begun, and the pattern that a reference leads to.
 // Patterns, expressions and inline expressions write each other. What falls at each call: placeables left, then nesting, then stage.
 ghost use Rattle.state.specs.Progress.{progressOf};
-ghost use Rattle.resolver.specs.Relations.Meets.{world, env};
+ghost use Rattle.resolver.specs.Relations.Meets.{world, env, lent};
 ghost use Rattle.resolver.specs.Relations.Members.{PatternAt, ElementAt, TrackAt};
 use crate::expression;
 use crate::scope::put::put_cut;
@@ -34,6 +34,7 @@ use writes::put::put_pdi;
 pub(crate) fn write<'a>(
     store: &'a [u8],
     args: &'a [u8],
+    places: &'a [usize; 256],
     text: &mut [u8],
     list: &mut [u8],
     work: &mut [u8],
@@ -43,7 +44,7 @@ pub(crate) fn write<'a>(
     left: usize,
     at: usize,
 )
-    ensures { λ _. ⌜ PatternAt (env (now (store .entry)) (now (args .entry))) left at (world (now (store .entry)) (now (text .entry)) (now (list .entry)) (now (work .entry)) (now (trail .entry)) (progressOf (now (st .entry)))) (world (now (store .entry)) (now (text .exit)) (now (list .exit)) (now (work .exit)) (now (trail .exit)) (progressOf (now (st .exit)))) ⌝ }
+    ensures { λ _. ⌜ PatternAt (env (now (store .entry)) (lent (now (args .entry)) (now (places .entry)))) left at (world (now (store .entry)) (now (text .entry)) (now (list .entry)) (now (work .entry)) (now (trail .entry)) (progressOf (now (st .entry)))) (world (now (store .entry)) (now (text .exit)) (now (list .exit)) (now (work .exit)) (now (trail .exit)) (progressOf (now (st .exit)))) ⌝ }
 {
     let Num::At(_, a) = read_u32(store, at) else {
         return;
@@ -58,6 +59,7 @@ pub(crate) fn write<'a>(
         element(
             store,
             args,
+            places,
             text,
             list,
             work,
@@ -80,6 +82,7 @@ pub(crate) fn write<'a>(
 pub(crate) fn element<'a>(
     store: &'a [u8],
     args: &'a [u8],
+    places: &'a [usize; 256],
     text: &mut [u8],
     list: &mut [u8],
     work: &mut [u8],
@@ -90,7 +93,7 @@ pub(crate) fn element<'a>(
     iso: bool,
     at: usize,
 )
-    ensures { λ _. ⌜ ElementAt (env (now (store .entry)) (now (args .entry))) left iso at (world (now (store .entry)) (now (text .entry)) (now (list .entry)) (now (work .entry)) (now (trail .entry)) (progressOf (now (st .entry)))) (world (now (store .entry)) (now (text .exit)) (now (list .exit)) (now (work .exit)) (now (trail .exit)) (progressOf (now (st .exit)))) ⌝ }
+    ensures { λ _. ⌜ ElementAt (env (now (store .entry)) (lent (now (args .entry)) (now (places .entry)))) left iso at (world (now (store .entry)) (now (text .entry)) (now (list .entry)) (now (work .entry)) (now (trail .entry)) (progressOf (now (st .entry)))) (world (now (store .entry)) (now (text .exit)) (now (list .exit)) (now (work .exit)) (now (trail .exit)) (progressOf (now (st .exit)))) ⌝ }
 {
     if st[REFUSED] != 0 {
         return;
@@ -118,7 +121,7 @@ pub(crate) fn element<'a>(
     begin(st);
     let marks = has_marks(store, iso, p);
     put_fsi(text, work, st, marks);
-    expression::write(store, args, text, list, work, trail, st, value, left, p);
+    expression::write(store, args, places, text, list, work, trail, st, value, left, p);
     put_cut(store, text, work, st, p);
     put_pdi(text, work, st, marks);
 }
@@ -127,6 +130,7 @@ pub(crate) fn element<'a>(
 pub(crate) fn track<'a>(
     store: &'a [u8],
     args: &'a [u8],
+    places: &'a [usize; 256],
     text: &mut [u8],
     list: &mut [u8],
     work: &mut [u8],
@@ -136,7 +140,7 @@ pub(crate) fn track<'a>(
     at: usize,
     q: usize,
 )
-    ensures { λ _. ⌜ TrackAt (env (now (store .entry)) (now (args .entry))) at q (world (now (store .entry)) (now (text .entry)) (now (list .entry)) (now (work .entry)) (now (trail .entry)) (progressOf (now (st .entry)))) (world (now (store .entry)) (now (text .exit)) (now (list .exit)) (now (work .exit)) (now (trail .exit)) (progressOf (now (st .exit)))) ⌝ }
+    ensures { λ _. ⌜ TrackAt (env (now (store .entry)) (lent (now (args .entry)) (now (places .entry)))) at q (world (now (store .entry)) (now (text .entry)) (now (list .entry)) (now (work .entry)) (now (trail .entry)) (progressOf (now (st .entry)))) (world (now (store .entry)) (now (text .exit)) (now (list .exit)) (now (work .exit)) (now (trail .exit)) (progressOf (now (st .exit)))) ⌝ }
 {
     if st[REFUSED] != 0 {
         return;
@@ -152,6 +156,6 @@ pub(crate) fn track<'a>(
     }
     trail[d] = q;
     set_depth(st, d + 1);
-    write(store, args, text, list, work, trail, st, value, 32, q);
+    write(store, args, places, text, list, work, trail, st, value, 32, q);
     set_depth(st, d);
 }

@@ -1,6 +1,6 @@
 // Term references, written: the arguments, and the term that is looked up.
 ghost use Rattle.state.specs.Progress.{progressOf};
-ghost use Rattle.resolver.specs.Relations.Meets.{world, env};
+ghost use Rattle.resolver.specs.Relations.Meets.{world, env, lent};
 ghost use Rattle.values.specs.Stored.{endOf};
 ghost use Rattle.resolver.specs.Relations.Members.{TermAt, FoundTermAt, PassedAt};
 use crate::inline;
@@ -28,6 +28,7 @@ use walks::skip_expression;
 pub(crate) fn refer<'a>(
     store: &'a [u8],
     args: &'a [u8],
+    places: &'a [usize; 256],
     text: &mut [u8],
     list: &mut [u8],
     work: &mut [u8],
@@ -37,7 +38,7 @@ pub(crate) fn refer<'a>(
     left: usize,
     at: usize,
 )
-    ensures { λ _. ⌜ TermAt (env (now (store .entry)) (now (args .entry))) left at (world (now (store .entry)) (now (text .entry)) (now (list .entry)) (now (work .entry)) (now (trail .entry)) (progressOf (now (st .entry)))) (world (now (store .entry)) (now (text .exit)) (now (list .exit)) (now (work .exit)) (now (trail .exit)) (progressOf (now (st .exit)))) ⌝ }
+    ensures { λ _. ⌜ TermAt (env (now (store .entry)) (lent (now (args .entry)) (now (places .entry)))) left at (world (now (store .entry)) (now (text .entry)) (now (list .entry)) (now (work .entry)) (now (trail .entry)) (progressOf (now (st .entry)))) (world (now (store .entry)) (now (text .exit)) (now (list .exit)) (now (work .exit)) (now (trail .exit)) (progressOf (now (st .exit)))) ⌝ }
 {
     if st[REFUSED] != 0 {
         return;
@@ -48,11 +49,11 @@ pub(crate) fn refer<'a>(
     let old = st[BACK];
     if flag == 0 {
         set_locals(st, 0, 0, old);
-        found(store, args, text, list, work, trail, st, value, at);
+        found(store, args, places, text, list, work, trail, st, value, at);
         clear_locals(st);
         return;
     }
-    each(store, args, text, list, work, trail, st, value, left, p);
+    each(store, args, places, text, list, work, trail, st, value, left, p);
     if st[REFUSED] != 0 {
         return;
     }
@@ -60,7 +61,7 @@ pub(crate) fn refer<'a>(
         return;
     };
     set_named(store, work, st, named, m);
-    found(store, args, text, list, work, trail, st, value, at);
+    found(store, args, places, text, list, work, trail, st, value, at);
     clear_locals(st);
     if st[REFUSED] != 0 {
         return;
@@ -72,6 +73,7 @@ pub(crate) fn refer<'a>(
 pub(crate) fn each<'a>(
     store: &'a [u8],
     args: &'a [u8],
+    places: &'a [usize; 256],
     text: &mut [u8],
     list: &mut [u8],
     work: &mut [u8],
@@ -81,7 +83,7 @@ pub(crate) fn each<'a>(
     left: usize,
     at: usize,
 )
-    ensures { λ _. ⌜ PassedAt (env (now (store .entry)) (now (args .entry))) left at (world (now (store .entry)) (now (text .entry)) (now (list .entry)) (now (work .entry)) (now (trail .entry)) (progressOf (now (st .entry)))) (world (now (store .entry)) (now (text .exit)) (now (list .exit)) (now (work .exit)) (now (trail .exit)) (progressOf (now (st .exit)))) (endOf (now (value .exit))) ⌝ }
+    ensures { λ _. ⌜ PassedAt (env (now (store .entry)) (lent (now (args .entry)) (now (places .entry)))) left at (world (now (store .entry)) (now (text .entry)) (now (list .entry)) (now (work .entry)) (now (trail .entry)) (progressOf (now (st .entry)))) (world (now (store .entry)) (now (text .exit)) (now (list .exit)) (now (work .exit)) (now (trail .exit)) (progressOf (now (st .exit)))) (endOf (now (value .exit))) ⌝ }
 {
     let Num::At(n, start) = read_u16(store, at) else {
         return;
@@ -89,7 +91,7 @@ pub(crate) fn each<'a>(
     let mut p = start;
     let mut i = n;
     while 0 < i {
-        inline::resolve(store, args, text, list, work, trail, st, value, left, p);
+        inline::resolve(store, args, places, text, list, work, trail, st, value, left, p);
         let Next::At(q) = skip_expression(store, p, left) else {
             return;
         };
@@ -103,6 +105,7 @@ pub(crate) fn each<'a>(
 pub(crate) fn found<'a>(
     store: &'a [u8],
     args: &'a [u8],
+    places: &'a [usize; 256],
     text: &mut [u8],
     list: &mut [u8],
     work: &mut [u8],
@@ -111,13 +114,13 @@ pub(crate) fn found<'a>(
     value: &mut [usize; 10],
     at: usize,
 )
-    ensures { λ _. ⌜ FoundTermAt (env (now (store .entry)) (now (args .entry))) at (world (now (store .entry)) (now (text .entry)) (now (list .entry)) (now (work .entry)) (now (trail .entry)) (progressOf (now (st .entry)))) (world (now (store .entry)) (now (text .exit)) (now (list .exit)) (now (work .exit)) (now (trail .exit)) (progressOf (now (st .exit)))) ⌝ }
+    ensures { λ _. ⌜ FoundTermAt (env (now (store .entry)) (lent (now (args .entry)) (now (places .entry)))) at (world (now (store .entry)) (now (text .entry)) (now (list .entry)) (now (work .entry)) (now (trail .entry)) (progressOf (now (st .entry)))) (world (now (store .entry)) (now (text .exit)) (now (list .exit)) (now (work .exit)) (now (trail .exit)) (progressOf (now (st .exit)))) ⌝ }
 {
     if st[REFUSED] != 0 {
         return;
     }
     match target_of(store, at, true) {
-        Target::At(q) => pattern::track(store, args, text, list, work, trail, st, value, at, q),
+        Target::At(q) => pattern::track(store, args, places, text, list, work, trail, st, value, at, q),
         Target::NoValue(_, _) => {}
         Target::Missing(lost) => {
             count_if(st, lost);

@@ -5,10 +5,14 @@ use mathlib.Core.List.{List}
 use Prim.Native.Nat.{ℕ, _+_, _≤_, _<_}
 use native.Mathlib.Omega.{arith}
 use lib.ListN.{length}
-use Rattle.records.specs.Got.{got, bad}
+use Rattle.records.specs.Got.{got}
 use Rattle.records.specs.Tree.{Pattern}
 use Rattle.records.specs.Decode.{entryPatternAt}
-use Rattle.records.specs.Images.{Entry, Store, Argument, storeOf, argumentsOf}
+use Rattle.records.specs.Images.{Entry, Store, Argument, storeOf}
+use Rattle.order.specs.Accepted.{accepted, judge}
+use Rattle.arguments.specs.Relations.Checked.{refusalOf}
+use Rattle.arguments.specs.Relations.Places.{Noted}
+use Rattle.arguments.proofs.Judging.{judged-refused}
 use Rattle.entries.specs.Lookup.{findIn, partOf}
 use Rattle.requests.specs.Image.{Request}
 use Rattle.requests.specs.Relations.Shown.{Shows}
@@ -25,7 +29,7 @@ use Rattle.state.specs.Progress.{Progress}
 use Rattle.state.specs.Setters.{refuseS}
 use Rattle.resolver.specs.declared.format.Part as code-part
 use Rattle.resolver.specs.declared.format.Part.the-variants as part-answer
-use Rattle.resolver.specs.Relations.Meets.{Env, env, Setup}
+use Rattle.resolver.specs.Relations.Meets.{lent, Env, env, Setup}
 use Rattle.resolver.specs.Relations.Runs.{messageIn, MessageFound, no-message, no-such-part, pattern-found, Rests, Grown, RanAs, ran-as, refused-as, RunOn}
 use Rattle.resolver.proofs.Patterns.{message-found}
 use Rattle.sheet_format.specs.Relations.Sheets.{idOf, attributeOf, imageOf, limits, MessageRan}
@@ -88,24 +92,24 @@ module _ (s sheet : Bytes) (q : Spans) (x l w : Bytes) (p : Progress) {f : code-
         go (no-message e′ o) = let z : _≡_ {A = ℕ} 0 1 = cc in absurd (omega arith)
         go (no-such-part y e′ o n) = let z : _≡_ {A = ℕ} 0 1 = cc in absurd (omega arith)
 
-    -- 13
-    pub message-malformed : {r : Progress} → argumentsOf (imageOf sheet q) ≡ bad → r ≡ refuseS 13 p → MessageRan s sheet q x l w p x l w r 0
-    message-malformed {r} b er = record {
+    -- 13 and 19
+    pub message-refused : {c : ℕ} {r : Progress} → c ≡ refusalOf (judge (imageOf sheet q)) → (c ≡ 0 → ⊥) → c < 256 → r ≡ refuseS c p → MessageRan s sheet q x l w p x l w r 0
+    message-refused {c} {r} b ne few er = record {
       runs = λ v used h a sh k rests. found-elim v used h a sh (λ y t end o n hp.
-          (refused-as 13 (message-arguments v (limits x l w) a k y o t n (ap argumentsOf (sym (sh .image)) ∙ b)) (λ z. omega arith) (omega arith) (ap (λ (i : Progress). i .refused) er), λ z. omega arith));
+          (refused-as c (message-arguments v (limits x l w) a k y o t n c (ap judge (sym (sh .image)) ∙ judged-refused (imageOf sheet q) b ne)) ne few (ap (λ (i : Progress). i .refused) er), λ z. omega arith));
     }
 
     -- its run
-    pub message-on : {args : List (Bytes × Argument)} {end : ℕ} {x′ l′ w′ : Bytes} {r : Progress} {n : ℕ} → argumentsOf (imageOf sheet q) ≡ got args end → RunOn (env s (imageOf sheet q)) at x l w p x′ l′ w′ r → n ≡ r .begun
+    pub message-on : {args : List (Bytes × Argument)} {places x′ l′ w′ : Bytes} {r : Progress} {n : ℕ} → judge (imageOf sheet q) ≡ accepted args → Noted (imageOf sheet q) places → RunOn (env s (lent (imageOf sheet q) places)) at x l w p x′ l′ w′ r → n ≡ r .begun
         → MessageRan s sheet q x l w p x′ l′ w′ r n
-    message-on {args} {end} {x′} {l′} {w′} {r} {n} ha ru en = record {
+    message-on {args} {places} {x′} {l′} {w′} {r} {n} ha nt ru en = record {
       runs = λ v used h a sh k rests. found-elim v used h a sh (λ y t f o pa hp.
-          let u : Setup (env s (imageOf sheet q)) = record { held = v; used = used; held-at = h; given = args; given-end = end; given-at = ha } in
+          let u : Setup (env s (lent (imageOf sheet q) places)) = record { held = v; used = used; held-at = h; given = args; given-at = ha; noted = nt } in
           let k₀ : Machine = withBegun 0 k in
           let g = ru .runs u t f hp k₀ (unfold withBegun in refl) (rests-apart 0 rests) in
           let tr = traceOf (settingOf v args) (findIn (v .items)) t in
           let runs : runMessage v (limits x l w) a k ≡ addBegun (k .begun) (exec (limits x l w) tr k₀) =
-          message-runs v (limits x l w) a k y o t pa args end (ap argumentsOf (sym (sh .image)) ∙ ha) ∙ ap (λ (m : Machine). exec (limits x l w) tr m) (again k) ∙ begun-apart (k .begun) (limits x l w) tr k₀ in (
+          message-runs v (limits x l w) a k y o t pa args (ap judge (sym (sh .image)) ∙ ha) ∙ ap (λ (m : Machine). exec (limits x l w) tr m) (again k) ∙ begun-apart (k .begun) (limits x l w) tr k₀ in (
             subst (λ (z : Ran). RanAs z x l p x′ l′ w′ r (k .begun + n)) (sym runs) (subst (λ (i : ℕ). RanAs (addBegun (k .begun) (exec (limits x l w) tr k₀)) x l p x′ l′ w′ r (k .begun + i)) (sym en) (ran-apart (k .begun) (g .0))),
             λ z. subst (λ (i : ℕ). i ≤ 101) (sym en) (g .1 z),
           ));

@@ -5,7 +5,6 @@ ghost use Rattle.resolver.specs.Relations.Runs.{messageIn};
 ghost use Rattle.sheet_format.specs.Relations.Sheets.{idOf, attributeOf, MessageRan};
 ghost use Rattle.state.specs.Progress.{progressOf};
 use arguments::check_arguments;
-use records::Next;
 use requests::Spans;
 use resolver::format::Part;
 use resolver::format::find_message;
@@ -24,7 +23,7 @@ fn find_request(store: &[u8], sheet: &[u8], q: Spans) -> Part
     find_message(store, &sheet[from..to], q.has, &sheet[start..end])
 }
 
-// The request's refusal, 11, 12 or 13, or its run, which goes on from where text, list and counts stand. How many placeables it began.
+// The request's refusal, 11, 12, 13 or 19, or its run, which goes on from where text, list and counts stand. How many placeables it began.
 pub(crate) fn run_message<'a>(
     store: &'a [u8],
     sheet: &'a [u8],
@@ -46,11 +45,13 @@ pub(crate) fn run_message<'a>(
             let start = q.image;
             let end = q.end;
             let args = &sheet[start..end];
-            let Next::At(_) = check_arguments(args) else {
-                refuse(st, 13);
+            let mut places = [0usize; 256];
+            let refused = check_arguments(args, &mut places);
+            if refused != 0 {
+                refuse(st, refused as usize);
                 return 0;
-            };
-            let scope = run_on(store, args, text, list, work, st, at);
+            }
+            let scope = run_on(store, args, &places, text, list, work, st, at);
             scope.begun
         }
     }

@@ -71,7 +71,6 @@ module _ (s : Bytes) (v : Store) (end : ℕ) (stored : storeOf s ≡ got v end) 
       part = g .part;
       has = g .has;
       arguments = g .arguments;
-      argumentsEnd = g .argumentsEnd;
       given = g .given;
       header = header;
     };
@@ -112,7 +111,7 @@ module _ (s : Bytes) (v : Store) (end : ℕ) (stored : storeOf s ≡ got v end) 
       let y = exec-above n (limitsOf b₁) (limitsOf b) t start n (f .machine) (from-start n z u) (f .runs) room in
       let goes : exec (limitsOf b) t n ≡ ran (y .0) = y .1 in
       let ends : ran (y .0) ≡ ran (beside n (f .machine)) = ap ran (is-beside n (f .machine) (y .0) (y .2)) in
-      let runs : runMessage (f .reached .store) (limitsOf b) r n ≡ exec (limitsOf b) t n = message-runs (f .reached .store) (limitsOf b) r n (f .reached .entry) (f .reached .found) (f .reached .part) (f .reached .has) (f .reached .arguments) (f .reached .argumentsEnd) (f .reached .given) in
+      let runs : runMessage (f .reached .store) (limitsOf b) r n ≡ exec (limitsOf b) t n = message-runs (f .reached .store) (limitsOf b) r n (f .reached .entry) (f .reached .found) (f .reached .part) (f .reached .has) (f .reached .arguments) (f .reached .given) in
       subst (λ (x : Store). runMessage x (limitsOf b) r n ≡ ran (beside n (f .machine)))
       (same-store v (f .reached .store) end (f .reached .storeEnd) s stored (f .reached .stored)) (runs ∙ (goes ∙ ends))
 

@@ -8,9 +8,11 @@ use native.Mathlib.Omega.{arith}
 use lib.ListN.{length}
 use lib.Dec.{leb}
 use borrow.Author.Tests.{leb-true, leb-false}
-use Rattle.records.specs.Got.{Got, got, bad}
+use Rattle.records.specs.Got.{got}
 use Rattle.records.specs.Tree.{Pattern}
-use Rattle.records.specs.Images.{Entry, Store, Argument, storeOf, argumentsOf}
+use Rattle.records.specs.Images.{Entry, Store, storeOf}
+use Rattle.order.specs.Accepted.{Judged, accepted, refusedFor, judge}
+use Rattle.order.proofs.Accepted.{refused-with}
 use Rattle.entries.specs.Lookup.{findIn, partOf}
 use Rattle.resolution.specs.Effect.{Bytes, Trace}
 use Rattle.resolution.specs.Resolve.{asMessage}
@@ -59,19 +61,19 @@ module _ (v : Store) (L : Limits) where
       let g : Ran-on v L r n (o .mid) = message-ran v L n (o .mid) r (o .first) in
       let m : Message-run (traced g) n (o .mid) = message-highest L (settingOf v (g .arguments)) (findIn (v .items)) (g .part) n z (o .mid) (g .runs) in
       let l : Largest rs (o .mid) n′ = messages-highest rs (o .mid) n′ (m .rest) (o .rest) in
-      record { rest = l .rest; high = omega (arith, l .high, m .high, message-use v (r .id) (r .attribute) (r .image) (g .entry) (g .found) (g .part) (g .has) (g .arguments) (g .argumentsEnd) (g .given)) }
+      record { rest = l .rest; high = omega (arith, l .high, m .high, message-use v (r .id) (r .attribute) (r .image) (g .entry) (g .found) (g .part) (g .has) (g .arguments) (g .given)) }
 
   -- a message is refused with 16 only where the workspace is shorter than its highest use
   module _ (n : Machine) (z : Resting n) where
-    arguments-starved : (p : Pattern) (g : Got (List (Bytes × Argument))) → runArguments v L p g n ≡ refused 16 → L .workLen < argumentsUse v p g
+    arguments-starved : (p : Pattern) (g : Judged) → ((c : ℕ) → g ≡ refusedFor c → c ≡ 16 → ⊥) → runArguments v L p g n ≡ refused 16 → L .workLen < argumentsUse v p g
     unfolding runArguments argumentsUse
-    arguments-starved p bad h = absurd (omega (arith, same-refusal 13 16 h))
-    arguments-starved p (got l e) h = message-starved L (settingOf v l) (findIn (v .items)) p n z h
+    arguments-starved p (refusedFor c) k h = absurd (k c refl (same-refusal c 16 h))
+    arguments-starved p (accepted l) k h = message-starved L (settingOf v l) (findIn (v .items)) p n z h
 
     part-starved : (o : Option Pattern) (image : Bytes) → runPart v L o image n ≡ refused 16 → L .workLen < partUse v o image
     unfolding runPart partUse
     part-starved none image h = absurd (omega (arith, same-refusal 12 16 h))
-    part-starved (some p) image h = arguments-starved p (argumentsOf image) h
+    part-starved (some p) image h = arguments-starved p (judge image) (refused-with (λ (c : ℕ). c ≡ 16 → ⊥) (λ e. omega arith) (λ e. omega arith) image) h
 
     entry-starved : (o : Option Entry) (a : Option Bytes) (image : Bytes) → runEntry v L o a image n ≡ refused 16 → L .workLen < entryUse v o a image
     unfolding runEntry entryUse
@@ -94,7 +96,7 @@ module _ (v : Store) (L : Limits) where
 module _ (v : Store) (L L′ : Limits) (wide : AsWide L L′) where
   -- a message in other buffers
   elsewhere : (r : Request) (n n′ : Machine) (g : Ran-on v L r n n′) → runMessage v L′ r n ≡ exec L′ (traced g) n
-  elsewhere r n n′ g = message-runs v L′ r n (g .entry) (g .found) (g .part) (g .has) (g .arguments) (g .argumentsEnd) (g .given)
+  elsewhere r n n′ g = message-runs v L′ r n (g .entry) (g .found) (g .part) (g .has) (g .arguments) (g .given)
 
   -- a workspace that holds the highest use: the same run
   sheet-enough : (rs : List Request) (n n′ : Machine) → n′ .high ≤ L′ .workLen → runSheet v L rs n ≡ ran n′ → runSheet v L′ rs n ≡ ran n′

@@ -3,13 +3,14 @@ use mathlib.Core.Path.{_≡_, refl, ap, sym, subst, _∙_}
 use mathlib.Core.List.{List, [], _∷_, _++_}
 use Prim.Native.Nat.{ℕ}
 use lib.ListN.{length, take}
-use Rattle.records.specs.Got.{got}
-use Rattle.records.specs.Images.{Store, Argument, argumentsOf}
+use Rattle.records.specs.Images.{Store, Argument}
+use Rattle.order.specs.Accepted.{accepted, judge}
 use Rattle.records.specs.Errors.{Error}
 use Rattle.records.specs.Valid.{All, ValidStore}
 use Rattle.texts.specs.ErrorList.{Brief}
 use Rattle.layout.specs.Exact.{Octets}
 use Rattle.layout.proofs.Theorems.{store-sound, arguments-sound}
+use Rattle.order.proofs.Accepted.{accepted-read}
 use Rattle.entries.specs.Lookup.{Find, findIn}
 use Rattle.resolution.specs.Effect.{Bytes, Out, Done}
 use Rattle.resolution.specs.Resolve.{Setting, bytesOf, resolve}
@@ -41,7 +42,7 @@ pub record Fine (T : Bytes → Type 0) (m : Machine) : Type 0 where
 
 -- a request whose arguments, if they are any, have texts as T asks
 abbrev pub FineRequest : (Bytes → Type 0) → Request → Type 0
-FineRequest T r = (l : List (Bytes × Argument)) (e : ℕ) → argumentsOf (r .image) ≡ got l e → All (FineNamed T) (valuesOf l)
+FineRequest T r = (l : List (Bytes × Argument)) → judge (r .image) ≡ accepted l → All (FineNamed T) (valuesOf l)
 
 module _ (T : Bytes → Type 0) (U : Leaf → Type 0) (keeps : Keeps T U) where
   module _ (v : Store) (valid : ValidStore v) (leaves : InItems U (v .items)) (L : Limits) where
@@ -52,7 +53,7 @@ module _ (T : Bytes → Type 0) (U : Leaf → Type 0) (keeps : Keeps T U) where
         let st : Setting = settingOf v (g .arguments) in
         let find : Find = findIn (v .items) in
         let out : Out Done = resolve st find maxPatterns (g .part) (bytesOf (g .part) ∷ []) fresh in
-        let good : Good T Brief Any out = resolves T U keeps v valid leaves (g .arguments) (given (g .arguments) (g .argumentsEnd) (g .given)) (r .id) (r .attribute) (g .entry) (g .part) (g .found) (g .has) in
+        let good : Good T Brief Any out = resolves T U keeps v valid leaves (g .arguments) (given (g .arguments) (g .given)) (r .id) (r .attribute) (g .entry) (g .part) (g .found) (g .has) in
         let net : Netted n n′ (out .text) (out .kept) = netted st find maxPatterns (g .part) (bytesOf (g .part) ∷ []) fresh L n n′ (g .runs) in
         let made : n′ .written ≡ n .written ++ out .text = net .made ∙ ap (λ (k : ℕ). n .written ++ outward k (out .text)) (f .nest) in
         let listed : n′ .errors ≡ n .errors ++ reports (out .trace) = exec-tallied L (traceOf st find (g .part)) n n′ (g .runs) .errors in
@@ -92,7 +93,7 @@ module _ (s image : Bytes) (b : Buffers) (t e k u w : ℕ) where
 
 -- every finished sheet's text is well-formed, and its errors fit their records
 request-fine : (r : Request) → RequestOk r → FineRequest Utf8 r
-request-fine r ok l e given = image-fine l (arguments-sound (ok .octets) given .0)
+request-fine r ok l given = image-fine l (arguments-sound (ok .octets) (accepted-read (r .image) l given .1) .0)
 
 pub sheet-fine : (s : Bytes) → Octets s → (image : Bytes) → Octets image → (b : Buffers) (f : Finishes s image b) → Fine Utf8 (f .machine)
 sheet-fine s os image oi b f =

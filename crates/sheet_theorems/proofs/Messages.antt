@@ -6,9 +6,10 @@ use mathlib.Core.Option.{Option, none, some}
 use Prim.Native.Nat.{ℕ}
 use lib.ListN.{length}
 use lib.Dec.{leb}
-use Rattle.records.specs.Got.{Got, got, bad}
+use Rattle.records.specs.Got.{got, bad}
 use Rattle.records.specs.Tree.{Pattern}
-use Rattle.records.specs.Images.{Entry, Store, Argument, storeOf, argumentsOf}
+use Rattle.records.specs.Images.{Entry, Store, Argument, storeOf}
+use Rattle.order.specs.Accepted.{Judged, accepted, refusedFor, judge}
 use Rattle.records.specs.Errors.{listHeader}
 use Rattle.entries.specs.Lookup.{findIn, partOf}
 use Rattle.resolution.specs.Effect.{Bytes}
@@ -52,14 +53,14 @@ module _ (v : Store) (L : Limits) (r : Request) (m : Machine) where
     message-part h = rw found (rw h)
 
     module _ (p : Pattern) (has : partOf (r .attribute) e ≡ some p) where
-      pub message-arguments : argumentsOf (r .image) ≡ bad → runMessage v L r m ≡ refused 13
+      pub message-arguments : (n : ℕ) → judge (r .image) ≡ refusedFor n → runMessage v L r m ≡ refused n
       unfolding runMessage runEntry runPart runArguments
-      message-arguments h = rw found (rw has (rw h))
+      message-arguments n h = rw found (rw has (rw h))
 
-      pub message-runs : (l : List (Bytes × Argument)) (end : ℕ) → argumentsOf (r .image) ≡ got l end
+      pub message-runs : (l : List (Bytes × Argument)) → judge (r .image) ≡ accepted l
           → runMessage v L r m ≡ exec L (traceOf (settingOf v l) (findIn (v .items)) p) m
       unfolding runMessage runEntry runPart runArguments
-      message-runs l end h = rw found (rw has (rw h))
+      message-runs l h = rw found (rw has (rw h))
 
 -- the messages one after the other
 module _ (v : Store) (L : Limits) where
@@ -82,19 +83,18 @@ pub record Ran-on (v : Store) (L : Limits) (r : Request) (n n′ : Machine) : Ty
   pub part : Pattern
   pub has : partOf (r .attribute) entry ≡ some part
   pub arguments : List (Bytes × Argument)
-  pub argumentsEnd : ℕ
-  pub given : argumentsOf (r .image) ≡ got arguments argumentsEnd
+  pub given : judge (r .image) ≡ accepted arguments
   pub runs : exec L (traceOf (settingOf v arguments) (findIn (v .items)) part) n ≡ ran n′
 
 module _ (v : Store) (L : Limits) (n n′ : Machine) where
-  arguments-ran : (p : Pattern) (g : Got (List (Bytes × Argument))) → runArguments v L p g n ≡ ran n′
-      → (l : List (Bytes × Argument)) × (e : ℕ) × (g ≡ got l e) × (exec L (traceOf (settingOf v l) (findIn (v .items)) p) n ≡ ran n′)
+  arguments-ran : (p : Pattern) (g : Judged) → runArguments v L p g n ≡ ran n′
+      → (l : List (Bytes × Argument)) × (g ≡ accepted l) × (exec L (traceOf (settingOf v l) (findIn (v .items)) p) n ≡ ran n′)
   unfolding runArguments
-  arguments-ran p bad h = absurd (not-refused 13 n′ h)
-  arguments-ran p (got l e) h = (l, e, refl, h)
+  arguments-ran p (refusedFor c) h = absurd (not-refused c n′ h)
+  arguments-ran p (accepted l) h = (l, refl, h)
 
   part-ran : (o : Option Pattern) (image : Bytes) → runPart v L o image n ≡ ran n′
-      → (p : Pattern) × (o ≡ some p) × (runArguments v L p (argumentsOf image) n ≡ ran n′)
+      → (p : Pattern) × (o ≡ some p) × (runArguments v L p (judge image) n ≡ ran n′)
   unfolding runPart
   part-ran none image h = absurd (not-refused 12 n′ h)
   part-ran (some p) image h = (p, refl, h)
@@ -111,8 +111,8 @@ module _ (v : Store) (L : Limits) (n n′ : Machine) where
   message-ran r h =
       let e = entry-ran (asMessage (findIn (v .items) (r .id))) (r .attribute) (r .image) h in
       let p = part-ran (partOf (r .attribute) (e .0)) (r .image) (e .2) in
-      let l = arguments-ran (p .0) (argumentsOf (r .image)) (p .2) in
-      record { entry = e .0; found = e .1; part = p .0; has = p .1; arguments = l .0; argumentsEnd = l .1; given = l .2; runs = l .3 }
+      let l = arguments-ran (p .0) (judge (r .image)) (p .2) in
+      record { entry = e .0; found = e .1; part = p .0; has = p .1; arguments = l .0; given = l .1; runs = l .2 }
 
 -- the machine after the first message
 pub record First (v : Store) (L : Limits) (r : Request) (rs : List Request) (n n′ : Machine) : Type 0 where

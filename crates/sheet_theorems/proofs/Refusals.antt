@@ -9,7 +9,9 @@ use lib.Dec.{leb}
 use borrow.Author.Tests.{leb-true}
 use Rattle.records.specs.Got.{Got, got, bad}
 use Rattle.records.specs.Tree.{Pattern}
-use Rattle.records.specs.Images.{Entry, Store, Argument, storeOf, argumentsOf}
+use Rattle.records.specs.Images.{Entry, Store, storeOf}
+use Rattle.order.specs.Accepted.{Judged, accepted, refusedFor, judge}
+use Rattle.order.proofs.Accepted.{refused-with}
 use Rattle.records.specs.Errors.{encErrors, listHeader}
 use Rattle.entries.specs.Lookup.{findIn, partOf}
 use Rattle.resolution.specs.Effect.{Bytes}
@@ -34,14 +36,14 @@ module _ (v : Store) (L : Limits) (r : Request) (m : Machine) (c : ℕ) (h : run
   met {d} x q = subst SheetRunning (same-refusal d c (sym q ∙ h)) x
 
   module _ (e : Entry) (found : asMessage (findIn (v .items) (r .id)) ≡ some e) where
-    at-arguments : (p : Pattern) → partOf (r .attribute) e ≡ some p → (g : Got (List (Bytes × Argument))) → argumentsOf (r .image) ≡ g → SheetRunning c
-    at-arguments p has bad q = met SheetRunning.arguments (message-arguments v L r m e found p has q)
-    at-arguments p has (got l z) q =
-        SheetRunning.run (exec-refused L (traceOf (settingOf v l) (findIn (v .items)) p) m c (sym (message-runs v L r m e found p has l z q) ∙ h))
+    at-arguments : (p : Pattern) → partOf (r .attribute) e ≡ some p → (g : Judged) → judge (r .image) ≡ g → SheetRunning c
+    at-arguments p has (refusedFor n) q = met (refused-with SheetRunning SheetRunning.arguments SheetRunning.order (r .image) n q) (message-arguments v L r m e found p has n q)
+    at-arguments p has (accepted l) q =
+        SheetRunning.run (exec-refused L (traceOf (settingOf v l) (findIn (v .items)) p) m c (sym (message-runs v L r m e found p has l q) ∙ h))
 
     at-part : (o : Option Pattern) → partOf (r .attribute) e ≡ o → SheetRunning c
     at-part none q = met SheetRunning.part (message-part v L r m e found q)
-    at-part (some p) q = at-arguments p q (argumentsOf (r .image)) refl
+    at-part (some p) q = at-arguments p q (judge (r .image)) refl
 
   at-entry : (o : Option Entry) → asMessage (findIn (v .items) (r .id)) ≡ o → SheetRunning c
   at-entry none q = met SheetRunning.message (message-none v L r m q)

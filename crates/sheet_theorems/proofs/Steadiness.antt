@@ -53,7 +53,7 @@ module _ (v : Store) (new : List Item) (more : Extends (findIn (v .items)) (find
       let found : asMessage (find′ (r .id)) ≡ some (g .entry) = ap asMessage (more (r .id) _ held ∙ sym held) ∙ g .found in
       let runs : exec L′ (resolve st find′ maxPatterns (g .part) (bytesOf (g .part) ∷ []) fresh .trace) n ≡ ran n′ =
       rw (steady st find find′ more maxPatterns (g .part) (bytesOf (g .part) ∷ []) fresh quiet) (exec-wider L L′ wide t n n′ (g .runs)) in
-      message-runs (withItems v new) L′ r n (g .entry) found (g .part) (g .has) (g .arguments) (g .argumentsEnd) (g .given) ∙ runs
+      message-runs (withItems v new) L′ r n (g .entry) found (g .part) (g .has) (g .arguments) (g .given) ∙ runs
 
   sheet-again : (rs : List Request) (n n′ : Machine) → runSheet v L rs n ≡ ran n′ → n′ .unfounds ≡ 0 → runSheet (withItems v new) L′ rs n ≡ ran n′
   unfolding runSheet

@@ -22,11 +22,12 @@ pub data SheetBefore : ℕ → Type 0 where
   sheet : SheetBefore 18
   header : SheetBefore 7
 
--- those that a message meets: 11, 12, 13, and in its run 15, 7, 16 and 17
+-- those that a message meets: 11, 12, 13, 19, and in its run 15, 7, 16 and 17
 pub data SheetRunning : ℕ → Type 0 where
   message : SheetRunning 11
   part : SheetRunning 12
   arguments : SheetRunning 13
+  order : SheetRunning 19
   run : {n : ℕ} → Running n → SheetRunning n
 
 -- "The first refusal that a message meets is the sheet's": the messages before it ran, it is refused behind them, and none after it counts

@@ -6,7 +6,8 @@ use lib.ListN.{length}
 use lib.Dec.{leb}
 use Rattle.records.specs.Got.{Got, got, bad}
 use Rattle.records.specs.Tree.{Pattern}
-use Rattle.records.specs.Images.{Entry, Store, Argument, storeOf, argumentsOf}
+use Rattle.records.specs.Images.{Entry, Store, storeOf}
+use Rattle.order.specs.Accepted.{Judged, accepted, refusedFor, judge}
 use Rattle.records.specs.Errors.{listHeader}
 use Rattle.entries.specs.Lookup.{findIn, partOf}
 use Rattle.resolution.specs.Effect.{Bytes}
@@ -16,16 +17,16 @@ use Rattle.resolution.specs.Format.{Buffers, Formatted, limitsOf, refuse, orRef
 use Rattle.theorems.specs.Finished.{traceOf, settingOf}
 use Rattle.requests.specs.Image.{Request, sheetOf}
 
--- One message, from a machine on: 13, "what is wrong inside is its message's 13", and then its run. "Each message starts with no placeables begun": its
+-- One message, from a machine on: 13 or 19, "what is wrong inside is its message's 13", and then its run. "Each message starts with no placeables begun": its
 -- trace is that of a formatting, from a fresh state. "The workspace is empty at each message's start": every trace leaves it so.
-unfoldable pub runArguments : Store → Limits → Pattern → Got (List (Bytes × Argument)) → Machine → Ran
-runArguments v L p bad m = refused 13
-runArguments v L p (got args e) m = exec L (traceOf (settingOf v args) (findIn (v .items)) p) m
+unfoldable pub runArguments : Store → Limits → Pattern → Judged → Machine → Ran
+runArguments v L p (refusedFor n) m = refused n
+runArguments v L p (accepted args) m = exec L (traceOf (settingOf v args) (findIn (v .items)) p) m
 
 -- 12, where it has no such value or attribute
 unfoldable pub runPart : Store → Limits → Option Pattern → Bytes → Machine → Ran
 runPart v L none image m = refused 12
-runPart v L (some p) image m = runArguments v L p (argumentsOf image) m
+runPart v L (some p) image m = runArguments v L p (judge image) m
 
 -- 11, where there is no such message
 unfoldable pub runEntry : Store → Limits → Option Entry → Option Bytes → Bytes → Machine → Ran

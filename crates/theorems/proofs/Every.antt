@@ -8,7 +8,8 @@ use Rattle.decimals.specs.Bytes.{sameBytes}
 use Rattle.records.specs.Tree.{Pattern}
 use Rattle.records.specs.Images.{Attribute, Entry, Item}
 use Rattle.records.specs.Valid.{All, IfAny}
-use Rattle.entries.specs.Lookup.{Holder, firstEntry, lastEntry, holderAfter, findFrom, firstNamed, findIn, partOf}
+use Rattle.entries.specs.Lookup.{Holder, firstEntry, lastEntry, holderAfter, findFrom, findIn, partOf}
+use Rattle.records.specs.Names.{firstNamed}
 use Rattle.records.specs.Optional.{orElse, optionOf}
 use Rattle.theorems.specs.Leaves.{InEntry, InItem}
 

@@ -11,7 +11,8 @@ use lib.Seq.{take-append-seam}
 use borrow.Author.Tests.{leb-true, le-leb}
 use Rattle.records.specs.Got.{got}
 use Rattle.records.specs.Tree.{Pattern}
-use Rattle.records.specs.Images.{Entry, Store, Argument, argumentsOf}
+use Rattle.records.specs.Images.{Entry, Store, Argument}
+use Rattle.order.specs.Accepted.{accepted, judge}
 use Rattle.records.specs.Errors.{encErrors, listHeader}
 use Rattle.entries.specs.Lookup.{Find, findIn, partOf}
 use Rattle.growth.specs.Items.{atFront}
@@ -33,15 +34,15 @@ use Rattle.theorems.proofs.Steadiness.{steadiness}
 
 -- the highest use of a message that has its parts
 pub message-use : (v : Store) (id : Bytes) (a : Option Bytes) (image : Bytes) (e : Entry) → asMessage (findIn (v .items) id) ≡ some e
-    → (p : Pattern) → partOf a e ≡ some p → (args : List (Bytes × Argument)) (z : ℕ) → argumentsOf image ≡ got args z
+    → (p : Pattern) → partOf a e ≡ some p → (args : List (Bytes × Argument)) → judge image ≡ accepted args
     → messageUse v id a image ≡ highest (traceOf (settingOf v args) (findIn (v .items)) p) empty
 unfolding messageUse entryUse partUse argumentsUse
-message-use v id a image e found p has args z given = rw found (rw has (rw given))
+message-use v id a image e found p has args given = rw found (rw has (rw given))
 
 reached-use : (s id : Bytes) (a : Option Bytes) (image : Bytes) (b : Buffers) (r : Reached s id a image b)
     → highestUse s id a image ≡ highest (traceOf (settingOf (r .store) (r .arguments)) (findIn (r .store .items)) (r .part)) empty
 unfolding highestUse storeUse
-reached-use s id a image b r = rw (r .stored) (message-use (r .store) id a image (r .entry) (r .found) (r .part) (r .has) (r .arguments) (r .argumentsEnd) (r .given))
+reached-use s id a image b r = rw (r .stored) (message-use (r .store) id a image (r .entry) (r .found) (r .part) (r .has) (r .arguments) (r .given))
 
 pub start-rests : Resting start
 unfolding start
@@ -88,7 +89,6 @@ reached-again s id a image b b′ l r = record {
   part = r .part;
   has = r .has;
   arguments = r .arguments;
-  argumentsEnd = r .argumentsEnd;
   given = r .given;
   header = header-again b b′ l (r .header);
 }

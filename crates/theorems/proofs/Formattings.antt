@@ -11,7 +11,8 @@ use lib.Dec.{leb}
 use borrow.Author.Tests.{leb-true}
 use Rattle.records.specs.Got.{Got, got, bad}
 use Rattle.records.specs.Tree.{Pattern}
-use Rattle.records.specs.Images.{Entry, Store, Argument, storeOf}
+use Rattle.records.specs.Images.{Entry, Store, storeOf}
+use Rattle.order.specs.Accepted.{Judged, accepted, refusedFor}
 use Rattle.records.specs.Errors.{encErrors, listHeader}
 use Rattle.entries.specs.Lookup.{Find, findIn}
 use Rattle.growth.specs.Items.{atFront}
@@ -102,10 +103,10 @@ module _ (b : Buffers) where
       }
   sized-end st find p t (refused n) h = record { text = length-replicate _ _; list = length-replicate _ _; work = length-replicate _ _ }
 
-  sized-arguments : (store : Store) (p : Pattern) (g : Got (List (Bytes × Argument))) → Sized b (formatArguments store p g b .buffers)
+  sized-arguments : (store : Store) (p : Pattern) (g : Judged) → Sized b (formatArguments store p g b .buffers)
   unfolding formatArguments formatWith refuse
-  sized-arguments store p (got args z) = sized-test _ 7 _ (λ t. sized-end (settingOf store args) (findIn (store .items)) p t _ refl)
-  sized-arguments store p bad = sized-same
+  sized-arguments store p (accepted args) = sized-test _ 7 _ (λ t. sized-end (settingOf store args) (findIn (store .items)) p t _ refl)
+  sized-arguments store p (refusedFor n) = sized-same
 
   module _ (image : Bytes) where
     sized-part : (store : Store) (o : Option Pattern) → Sized b (formatPart store o image b .buffers)

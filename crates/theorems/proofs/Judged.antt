@@ -9,7 +9,8 @@ use lib.Dec.{leb}
 use Rattle.records.specs.Got.{Got, got, bad}
 use Rattle.rules.specs.Rules.{isId}
 use Rattle.records.specs.Tree.{Pattern}
-use Rattle.records.specs.Images.{Entry, Store, Argument, storeOf, argumentsOf}
+use Rattle.records.specs.Images.{Entry, Store, Argument, storeOf}
+use Rattle.order.specs.Accepted.{Judged as Verdict, accepted, refusedFor, judge}
 use Rattle.records.specs.Errors.{listHeader}
 use Rattle.entries.specs.Lookup.{findIn, partOf}
 use Rattle.resolution.specs.Effect.{Bytes}
@@ -37,22 +38,22 @@ module _ (s : Bytes) (id : Bytes) (a : Option Bytes) (image : Bytes) (b : Buffer
     module _ (h₂ : isId id && isIdOrNone a ≡ true) where
       module _ (e : Entry) (h₃ : asMessage (findIn (v .items) id) ≡ some e) where
         module _ (p : Pattern) (h₄ : partOf a e ≡ some p) where
-          module _ (l : List (Bytes × Argument)) (y : ℕ) (h₅ : argumentsOf image ≡ got l y) where
+          module _ (l : List (Bytes × Argument)) (h₅ : judge image ≡ accepted l) where
             at-header : (x : Bool) → leb listHeader (length (b .list)) ≡ x → Judged s id a image b
             unfolding format formatStore formatEntry formatPart formatArguments formatWith orRefuse
             at-header true q =
-                Judged.reached (record { store = v; storeEnd = z; stored = h₁; ids = h₂; entry = e; found = h₃; part = p; has = h₄; arguments = l; argumentsEnd = y; given = h₅; header = q })
+                Judged.reached (record { store = v; storeEnd = z; stored = h₁; ids = h₂; entry = e; found = h₃; part = p; has = h₄; arguments = l; given = h₅; header = q })
             at-header false q = Judged.before 7 (rw h₁ (rw h₂ (rw h₃ (rw h₄ (rw h₅ (rw q))))))
 
-          at-arguments : (g : Got (List (Bytes × Argument))) → argumentsOf image ≡ g → Judged s id a image b
+          at-arguments : (g : Verdict) → judge image ≡ g → Judged s id a image b
           unfolding format formatStore formatEntry formatPart formatArguments orRefuse
-          at-arguments bad q = Judged.before 13 (rw h₁ (rw h₂ (rw h₃ (rw h₄ (rw q)))))
-          at-arguments (got l y) q = at-header l y q (leb listHeader (length (b .list))) refl
+          at-arguments (refusedFor n) q = Judged.before n (rw h₁ (rw h₂ (rw h₃ (rw h₄ (rw q)))))
+          at-arguments (accepted l) q = at-header l q (leb listHeader (length (b .list))) refl
 
         at-part : (o : Option Pattern) → partOf a e ≡ o → Judged s id a image b
         unfolding format formatStore formatEntry formatPart orRefuse
         at-part none q = Judged.before 12 (rw h₁ (rw h₂ (rw h₃ (rw q))))
-        at-part (some p) q = at-arguments p q (argumentsOf image) refl
+        at-part (some p) q = at-arguments p q (judge image) refl
 
       at-entry : (o : Option Entry) → asMessage (findIn (v .items) id) ≡ o → Judged s id a image b
       unfolding format formatStore formatEntry orRefuse

@@ -10,7 +10,8 @@ use lib.Dec.{leb}
 use Rattle.records.specs.Got.{Got, got, bad}
 use Rattle.rules.specs.Rules.{isId}
 use Rattle.records.specs.Tree.{Pattern}
-use Rattle.records.specs.Images.{Entry, Store, Argument, storeOf, argumentsOf}
+use Rattle.records.specs.Images.{Entry, Store, Argument, storeOf}
+use Rattle.order.specs.Accepted.{Judged, accepted, refusedFor, judge}
 use Rattle.records.specs.Errors.{listHeader}
 use Rattle.entries.specs.Lookup.{findIn, partOf}
 use Rattle.resolution.specs.Effect.{Bytes}
@@ -47,15 +48,15 @@ module _ (b : Buffers) (t e k u w : ℕ) where
       let m = run-ended r (l .1) in
       (l .0, m .0, m .1)
 
-  arguments-read : (store : Store) (p : Pattern) (g : Got (List (Bytes × Argument))) → formatArguments store p g b .answer ≡ finished t e k u w
-      → (args : List (Bytes × Argument)) × (z : ℕ) × (g ≡ got args z) × (formatWith store p args b .answer ≡ finished t e k u w)
+  arguments-read : (store : Store) (p : Pattern) (g : Judged) → formatArguments store p g b .answer ≡ finished t e k u w
+      → (args : List (Bytes × Argument)) × (g ≡ accepted args) × (formatWith store p args b .answer ≡ finished t e k u w)
   unfolding formatArguments refuse
-  arguments-read store p (got args z) h = (args, z, refl, h)
-  arguments-read store p bad h = absurd (not-before 13 t e k u w h)
+  arguments-read store p (accepted args) h = (args, refl, h)
+  arguments-read store p (refusedFor n) h = absurd (not-before n t e k u w h)
 
   module _ (image : Bytes) where
     part-found : (store : Store) (o : Option Pattern) → formatPart store o image b .answer ≡ finished t e k u w
-        → (p : Pattern) × (o ≡ some p) × (formatArguments store p (argumentsOf image) b .answer ≡ finished t e k u w)
+        → (p : Pattern) × (o ≡ some p) × (formatArguments store p (judge image) b .answer ≡ finished t e k u w)
     unfolding formatPart refuse
     part-found store (some p) h = (p, refl, h)
     part-found store none h = absurd (not-before 12 t e k u w h)
@@ -82,7 +83,7 @@ module _ (s id : Bytes) (a : Option Bytes) (image : Bytes) (b : Buffers) where
       let at-entry = entry-found b t e k u w image (at-store .0) a _ (at-ids .1) in
       let at-part = part-found b t e k u w image (at-store .0) _ (at-entry .2) in
       let at-arguments = arguments-read b t e k u w (at-store .0) (at-part .0) _ (at-part .2) in
-      let at-run = pattern-ran b t e k u w (at-store .0) (at-part .0) (at-arguments .0) (at-arguments .3) in
+      let at-run = pattern-ran b t e k u w (at-store .0) (at-part .0) (at-arguments .0) (at-arguments .2) in
       record {
         reached = record {
           store = at-store .0;
@@ -94,8 +95,7 @@ module _ (s id : Bytes) (a : Option Bytes) (image : Bytes) (b : Buffers) where
           part = at-part .0;
           has = at-part .1;
           arguments = at-arguments .0;
-          argumentsEnd = at-arguments .1;
-          given = at-arguments .2;
+          given = at-arguments .1;
           header = at-run .0;
         };
         machine = at-run .1;

@@ -21,6 +21,7 @@ use Rattle.texts.proofs.ErrorList.{recordable, errors-read}
 use Rattle.layout.specs.Exact.{Octets}
 use Rattle.layout.proofs.Octets.{and-right}
 use Rattle.layout.proofs.Theorems.{store-sound, arguments-sound}
+use Rattle.order.proofs.Accepted.{accepted-read}
 use Rattle.entries.specs.Lookup.{findIn}
 use Rattle.resolution.specs.Effect.{Bytes}
 use Rattle.resolution.specs.Resolve.{fsi, pdi}
@@ -97,7 +98,7 @@ module _ (s : Bytes) (os : Octets s) (id : Bytes) (a : Option Bytes) (image : By
       let v : Store = f .reached .store in
       let l : List (Bytes × Argument) = f .reached .arguments in
       let valid : ValidStore v = store-sound s os (f .reached .stored) .0 in
-      resolves Utf8 ValidLeaf utf8-keeps v valid (store-leaves v valid) l (image-fine l (arguments-sound oi (f .reached .given) .0)) id a (f .reached .entry) (f .reached .part) (f .reached .found) (f .reached .has)
+      resolves Utf8 ValidLeaf utf8-keeps v valid (store-leaves v valid) l (image-fine l (arguments-sound oi (accepted-read image l (f .reached .given) .1) .0)) id a (f .reached .entry) (f .reached .part) (f .reached .found) (f .reached .has)
 
   module _ (t e k u w : ℕ) (h : format s id a image b .answer ≡ finished t e k u w) where
     utf8-finished : Utf8 (take t (format s id a image b .buffers .text))

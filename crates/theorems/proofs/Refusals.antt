@@ -6,7 +6,9 @@ use mathlib.Core.Option.{Option, none, some}
 use Prim.Native.Nat.{ℕ, zero, suc}
 use Rattle.records.specs.Got.{Got, got, bad}
 use Rattle.records.specs.Tree.{Pattern}
-use Rattle.records.specs.Images.{Entry, Store, Argument, storeOf}
+use Rattle.records.specs.Images.{Entry, Store, storeOf}
+use Rattle.order.specs.Accepted.{Judged, accepted, refusedFor, judge}
+use Rattle.order.proofs.Accepted.{refused-with}
 use Rattle.entries.specs.Lookup.{Find, findIn}
 use Rattle.resolution.specs.Effect.{Bytes, Effect, put, report, begin, expand, unfound, open-text, keep-text, free, merged, Trace}
 use Rattle.resolution.specs.Resolve.{Setting}
@@ -58,15 +60,15 @@ module _ (b : Buffers) where
   numbered-end st find p (ran m) h = tt
   numbered-end st find p (refused c) h = run-refused (limitsOf b) st find p c h
 
-  numbered-arguments : (store : Store) (p : Pattern) (g : Got (List (Bytes × Argument))) → Numbered (formatArguments store p g b .answer)
+  numbered-arguments : (store : Store) (p : Pattern) (g : Judged) → ((n : ℕ) → g ≡ refusedFor n → Before n) → Numbered (formatArguments store p g b .answer)
   unfolding formatArguments formatWith refuse
-  numbered-arguments store p (got args z) = numbered-test _ 7 _ Before.header (numbered-end (settingOf store args) (findIn (store .items)) p _ refl)
-  numbered-arguments store p bad = Before.arguments
+  numbered-arguments store p (accepted args) h = numbered-test _ 7 _ Before.header (numbered-end (settingOf store args) (findIn (store .items)) p _ refl)
+  numbered-arguments store p (refusedFor n) h = h n refl
 
   module _ (image : Bytes) where
     numbered-part : (store : Store) (o : Option Pattern) → Numbered (formatPart store o image b .answer)
     unfolding formatPart refuse
-    numbered-part store (some p) = numbered-arguments store p _
+    numbered-part store (some p) = numbered-arguments store p (judge image) (refused-with Before Before.arguments Before.order image)
     numbered-part store none = Before.part
 
     numbered-entry : (store : Store) (a : Option Bytes) (o : Option Entry) → Numbered (formatEntry store o a image b .answer)

@@ -150,7 +150,6 @@ module _ (s : Bytes) (oct : Octets s) (xs : List Addition) (bytes : AllInBytes x
             part = f .reached .part;
             has = f .reached .has;
             arguments = f .reached .arguments;
-            argumentsEnd = f .reached .argumentsEnd;
             given = f .reached .given;
             header = le-leb listHeader (length (b′ .list)) room;
           };

@@ -18,7 +18,7 @@ use Rattle.entries.specs.Lookup.{Holder, Find, partOf}
 use Rattle.records.specs.Optional.{orElse, optionOf}
 use Rattle.resolution.specs.Effect.{Bytes, report, merged, Locals, M, Done, ret, _>>=_, _>>_, emit, write, isDirty, getLocals, setLocals, onlyIf, entered, capture, release}
 use Rattle.resolution.specs.Resolve.{Setting, Trail, Given, dotted, errorText, errorOf, braced, bare, fsi, pdi, mark, cutShort, held, stringIf, stringValue, literalValue, namedValues, writeRefError, lookUp, asMessage, asTerm, trackIf, track, onPart, missingPart, messageFound, termFound, writeMessage, writeTerm, pushed, noteIf, noteOne, noteMerges, mergesOf, call, callFunction, writeResult, orWrong, foundOr, variableIn, getVariable, writeVariable, writePattern, writeElements, writeElement, writeExpression, writeNth, writeVariant, writeInline, resolveInline, termArguments, getArguments, resolve}
-use Rattle.records.specs.Names.{lastNamed}
+use Rattle.records.specs.Names.{firstNamed}
 use Rattle.theorems.specs.Leaves.{Leaf, literalLeaves, namedLeaves, leavesOf, elementsLeaves, elementLeaves, expressionLeaves, inlineLeaves, argumentsLeaves, inlinesLeaves, variantsLeaves, variantLeaves}
 use Rattle.theorems.proofs.Every.{all-left, all-right}
 use Rattle.unescape.proofs.Reading.{unescape-plain}
@@ -67,7 +67,7 @@ module _ (T : Bytes → Type 0) (E : Error → Type 0) (as′ : List (Bytes × V
   abbrev pub GoodLeaf : Leaf → Type 0
   GoodLeaf (Leaf.text t) = T t
   GoodLeaf (Leaf.string s) = T (unescape s)
-  GoodLeaf (Leaf.variable i) = Ascii i × (lastNamed i as′ ≡ none → E (reference Referred.variable i none))
+  GoodLeaf (Leaf.variable i) = Ascii i × (firstNamed i as′ ≡ none → E (reference Referred.variable i none))
   GoodLeaf (Leaf.function i) = Ascii i × E (reference Referred.function i none)
   GoodLeaf (Leaf.message i a) =
       Ascii i × IfAny Ascii a × E (reference Referred.message i a) × E (noValue i) × ((e : Entry) (q : Pattern) → asMessage (find i) ≡ some e → partOf a e ≡ some q → G q)
@@ -109,15 +109,14 @@ module _ (T : Bytes → Type 0) (E : Error → Type 0) (as′ : List (Bytes × V
   error-of-ascii (select x vs) h = error-ascii x (all-left _ (inlineLeaves x) (variantsLeaves vs) h)
 
 module _ (T : Bytes → Type 0) where
-  last-fine : (i : Bytes) (l : List (Bytes × Value)) → All (FineNamed T) l → IfAny (Fine T) (lastNamed i l)
-  unfolding lastNamed orElse optionOf
-  last-fine i [] h = tt
-  last-fine i (e ∷ es) h = go (lastNamed i es) (sameBytes (e .0) i) (last-fine i es (h .1))
+  first-fine : (i : Bytes) (l : List (Bytes × Value)) → All (FineNamed T) l → IfAny (Fine T) (firstNamed i l)
+  unfolding firstNamed orElse optionOf
+  first-fine i [] h = tt
+  first-fine i (e ∷ es) h = go (sameBytes (e .0) i) (first-fine i es (h .1))
     where
-      go : (o : Option Value) (b : Bool) → IfAny (Fine T) o → IfAny (Fine T) (orElse o (optionOf b (e .1)))
-      go none true k = h .0
-      go none false k = tt
-      go (some v) b k = k
+      go : (b : Bool) → IfAny (Fine T) (firstNamed i es) → IfAny (Fine T) (orElse (optionOf b (e .1)) (firstNamed i es))
+      go true k = h .0
+      go false k = k
 
   number-fine : (vs : List Value) (ns : List (Bytes × Value)) → Fine T (numberFunction vs ns)
   unfolding numberFunction
@@ -239,8 +238,8 @@ module _ (T : Bytes → Type 0) (E : Error → Type 0) (P : Pred) (c : Closed T 
 
     kVariableIn : (i : Bytes) → GoodLeaf T E as′ find G (Leaf.variable i) → (l : Locals) → FineLocals T l → P (Option Value) (IfAny (Fine T)) (variableIn as′ i l)
     unfolding variableIn
-    kVariableIn i h none k = kFoundOr (lastNamed i as′) (λ e. c .kReport _ (h .1 e)) (last-fine T i as′ fine)
-    kVariableIn i h (some l) k = kFoundOr (lastNamed i l) (λ e. kDone) (last-fine T i l k)
+    kVariableIn i h none k = kFoundOr (firstNamed i as′) (λ e. c .kReport _ (h .1 e)) (first-fine T i as′ fine)
+    kVariableIn i h (some l) k = kFoundOr (firstNamed i l) (λ e. kDone) (first-fine T i l k)
 
     kVariable : (i : Bytes) → GoodLeaf T E as′ find G (Leaf.variable i) → P (Option Value) (IfAny (Fine T)) (getVariable as′ i)
     unfolding getVariable

@@ -10,7 +10,8 @@ use Rattle.records.specs.Got.{got}
 use Rattle.records.specs.Bytes.{be}
 use Rattle.rules.specs.Rules.{isId}
 use Rattle.records.specs.Tree.{Pattern}
-use Rattle.records.specs.Images.{Entry, Store, Argument, storeOf, argumentsOf}
+use Rattle.records.specs.Images.{Entry, Store, Argument, storeOf}
+use Rattle.order.specs.Accepted.{accepted, judge}
 use Rattle.records.specs.Errors.{Error, overriding, reference, noValue, missingDefault, cyclic, tooManyPlaceables, encErrors, listHeader}
 use Rattle.entries.specs.Lookup.{Find, findIn, partOf}
 use Rattle.growth.specs.Items.{atFront}
@@ -74,8 +75,7 @@ pub record Reached (s : Bytes) (id : Bytes) (a : Option Bytes) (image : Bytes) (
   pub part : Pattern
   pub has : partOf a entry ≡ some part
   pub arguments : List (Bytes × Argument)
-  pub argumentsEnd : ℕ
-  pub given : argumentsOf image ≡ got arguments argumentsEnd
+  pub given : judge image ≡ accepted arguments
   pub header : leb listHeader (length (b .list)) ≡ true
 
 -- a formatting that finishes: it reaches its run, and the run leads to a machine
@@ -126,6 +126,7 @@ pub data Before : ℕ → Type 0 where
   message : Before 11
   part : Before 12
   arguments : Before 13
+  order : Before 19
   header : Before 7
 
 pub data Running : ℕ → Type 0 where

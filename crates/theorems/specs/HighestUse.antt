@@ -7,7 +7,8 @@ use Prim.Native.Nat.{ℕ, _+_, _-_, max}
 use lib.ListN.{length}
 use Rattle.records.specs.Got.{Got, got, bad}
 use Rattle.records.specs.Tree.{Pattern}
-use Rattle.records.specs.Images.{Entry, Store, Argument, storeOf, argumentsOf}
+use Rattle.records.specs.Images.{Entry, Store, storeOf}
+use Rattle.order.specs.Accepted.{Judged, accepted, refusedFor, judge}
 use Rattle.entries.specs.Lookup.{findIn, partOf}
 use Rattle.resolution.specs.Effect.{Bytes, Effect, put, report, begin, expand, unfound, open-text, keep-text, free, merged, Trace}
 use Rattle.resolution.specs.Resolve.{asMessage}
@@ -60,13 +61,13 @@ highest (e ∷ t) w = max (useOf w) (highest t (workspaceAfter e w))
 
 -- Of a message of a bundle, its value or an attribute, with an arguments image: the highest use of its trace, from an empty workspace. Where one of these is not there,
 -- nothing is resolved.
-unfoldable pub argumentsUse : Store → Pattern → Got (List (Bytes × Argument)) → ℕ
-argumentsUse v p bad = 0
-argumentsUse v p (got args e) = highest (traceOf (settingOf v args) (findIn (v .items)) p) empty
+unfoldable pub argumentsUse : Store → Pattern → Judged → ℕ
+argumentsUse v p (refusedFor n) = 0
+argumentsUse v p (accepted args) = highest (traceOf (settingOf v args) (findIn (v .items)) p) empty
 
 unfoldable pub partUse : Store → Option Pattern → Bytes → ℕ
 partUse v none image = 0
-partUse v (some p) image = argumentsUse v p (argumentsOf image)
+partUse v (some p) image = argumentsUse v p (judge image)
 
 unfoldable pub entryUse : Store → Option Entry → Option Bytes → Bytes → ℕ
 entryUse v none a image = 0

@@ -1,5 +1,4 @@
--- What the code answers for a name, on any bytes: the arguments that can be read, from position 7 on (count at 5), each an Id's Str and a value by its
--- lengths; of equal names the last. No rule for the bytes of a name or a value is looked at.
+-- What the code reads of arguments, on any bytes: each an Id's Str and a value by its lengths. No rule for the bytes of a name or a value is looked at.
 use Prim.Native.Nat.{ℕ, zero, suc}
 use mathlib.Core.List.{List, [], _∷_}
 use mathlib.Core.Option.{Option, some, none}
@@ -7,7 +6,9 @@ use lib.Dec.{eqb}
 use Rattle.records.specs.Got.{Got, got, bad, Parser, after, pick}
 use Rattle.records.specs.Bytes.{byteAt, numberAt, spanAt, strAt}
 use Rattle.records.specs.Decode.{as-a}
-use Rattle.records.specs.Names.{lastNamed}
+use Rattle.order.specs.Relations.Compared.{orderOf}
+use Rattle.order.specs.declared.Order.{Order}
+use Rattle.order.specs.declared.Order.the-variants as order
 use Rattle.arguments.specs.declared.Given.{Given}
 use Rattle.arguments.specs.declared.Given.the-variants as given
 
@@ -45,14 +46,16 @@ unfoldable pub readable : {A : Type 0} → ℕ → Parser A → List ℕ → ℕ
 readable zero p s at = []
 readable (suc n) p s at = readOr [] (p s at) (λ a e. a ∷ readable n p s e)
 
--- the arguments that can be read
-unfoldable pub rowsOf : List ℕ → List (List ℕ × Given)
-rowsOf s = readOr [] (numberAt 2 s 5) (λ n e. readable n rowAt s e)
-
 unfoldable pub orMissing : Option Given → Given
 orMissing none = given.Missing
 orMissing (some v) = v
 
--- what they give for a name
-unfoldable pub givenBy : List ℕ → List ℕ → Given
-givenBy s name = orMissing (lastNamed name (rowsOf s))
+-- the value of a name, in rows that are looked at one by one up to the first greater name
+unfoldable pub soughtBy : {A : Type 0} → Order → A → Option A → Option A
+soughtBy order.Less v o = o
+soughtBy order.Same v o = some v
+soughtBy order.Greater v o = none
+
+unfoldable pub sought : {A : Type 0} → List ℕ → List (List ℕ × A) → Option A
+sought name [] = none
+sought name (a ∷ l) = soughtBy (orderOf (a .0) name) (a .1) (sought name l)

@@ -18,11 +18,11 @@ use Rattle.decimals.specs.Bytes.{sameBytes}
 use Rattle.records.specs.Tree.{Literal, Named}
 use Rattle.records.specs.Decode.{many, namedAt, literalAt, stringAt, literalNumberAt}
 use Rattle.records.proofs.Laws.{span-in}
-use Rattle.records.proofs.Last.{or-none, or-true, or-false, last-cons as last-pair}
+use Rattle.records.proofs.First.{named-here, named-past}
 use Rattle.records.proofs.Views.{both, never, ruled-elim, id-elim, literal-elim, named-elim, many-nil}
 use Rattle.records.specs.Optional.{orElse, optionOf}
 use Rattle.resolution.specs.Effect.{Bytes}
-use Rattle.records.specs.Names.{lastNamed}
+use Rattle.records.specs.Names.{firstNamed}
 use Rattle.literals.specs.Relations.Shown.{literalOf}
 use Rattle.arguments.specs.Relations.Given.{between}
 use Rattle.arguments.proofs.Laws.{between-in}
@@ -160,70 +160,65 @@ module _ (s : List ℕ) (tag a e base : ℕ) where
 pub named-uncons : {w : List ℕ} {low base : ℕ} {x : List ℕ × Literal} {l : Named} → NamedIn w low base (x ∷ l) → (takes (x .1) ≤ base) × (base ≤ length w) × TextIn w base (x .1) × NamedIn w low (base - takes (x .1)) l
 named-uncons (named-more t b x r) = (t, b, x, r)
 
--- the search for a name: what was found so far, and the named arguments that are left
-pub record Seeks (s a w : List ℕ) (low f : ℕ) (name : Bytes) (i p end : ℕ) (found : code-local.Local) (whole : Option Value) : Type 0 where
+-- the search for a name: the named arguments that are left have it as all of them do
+pub record Seeks (s a w : List ℕ) (low f : ℕ) (name : Bytes) (i p end : ℕ) (whole : Option Value) : Type 0 where
   pub rest : Named
-  pub so-far : Option Value
   pub left : many [] _∷_ i namedAt s p ≡ got rest f
   pub texts : NamedIn w low end rest
-  pub here : LocalIs s a w low found so-far
-  pub same : whole ≡ orElse (lastNamed name (namedTexts rest)) so-far
+  pub same : whole ≡ firstNamed name (namedTexts rest)
 
-last-nil : (name : Bytes) (o : Option Value) → orElse (lastNamed name (namedTexts [])) o ≡ o
-unfolding lastNamed namedTexts orElse
-last-nil name o = refl
+seek-nil : (name : Bytes) → firstNamed name (namedTexts []) ≡ none
+unfolding firstNamed namedTexts
+seek-nil name = refl
 
-last-cons : (name : Bytes) (x : List ℕ × Literal) (l : Named) (o : Option Value) (t : Bool) → sameBytes (x .0) name ≡ t
-    → orElse (lastNamed name (namedTexts (x ∷ l))) o ≡ orElse (lastNamed name (namedTexts l)) (orElse (optionOf t (literalText (x .1))) o)
-unfolding namedTexts
-last-cons name x l o t e = last-pair name (x .0, literalText (x .1)) (namedTexts l) o t e
+module _ (name : Bytes) (x : List ℕ × Literal) (l : Named) where
+  seek-first : sameBytes (x .0) name ≡ true → firstNamed name (namedTexts (x ∷ l)) ≡ some (literalText (x .1))
+  unfolding namedTexts
+  seek-first h = named-here name (x .0, literalText (x .1)) (namedTexts l) h
 
-pub seek-start : {s a w : List ℕ} {low f : ℕ} (name : Bytes) {count at base : ℕ} {found : code-local.Local} {ns : Named} → many [] _∷_ count namedAt s at ≡ got ns f → NamedIn w low base ns → found ≡ loc.Missing
-    → Seeks s a w low f name count at base found (lastNamed name (namedTexts ns))
-seek-start name {ns = ns} h n e = record { rest = ns; so-far = none; left = h; texts = n; here = is-missing e refl; same = sym (or-none _) }
+  seek-past : sameBytes (x .0) name ≡ false → firstNamed name (namedTexts (x ∷ l)) ≡ firstNamed name (namedTexts l)
+  unfolding namedTexts
+  seek-past h = named-past name (x .0, literalText (x .1)) (namedTexts l) h
 
-module _ {s a w : List ℕ} {low f : ℕ} {name : Bytes} {i p end : ℕ} {found : code-local.Local} {whole : Option Value} (k : Seeks s a w low f name i p end found whole) where
-  pub seek-end : i ≤ 0 → LocalIs s a w low found whole
-  seek-end z = many-nil [] _∷_ namedAt s i p z (k .left) (λ e _.
-      subst (λ (o : Option Value). LocalIs s a w low found o) (sym (k .same ∙ ap (λ (l : Named). orElse (lastNamed name (namedTexts l)) (k .so-far)) e ∙ last-nil name (k .so-far))) (k .here))
+pub seek-start : {s : List ℕ} (a : List ℕ) {w : List ℕ} {low f : ℕ} (name : Bytes) {count at base : ℕ} {ns : Named} → many [] _∷_ count namedAt s at ≡ got ns f → NamedIn w low base ns
+    → Seeks s a w low f name count at base (firstNamed name (namedTexts ns))
+seek-start a name {ns = ns} h n = record { rest = ns; left = h; texts = n; same = refl }
+
+module _ {s a w : List ℕ} {low f : ℕ} {name : Bytes} {i p end : ℕ} {whole : Option Value} (k : Seeks s a w low f name i p end whole) where
+  pub seek-end : i ≤ 0 → {found : code-local.Local} → found ≡ loc.Missing → LocalIs s a w low found whole
+  seek-end z q = many-nil [] _∷_ namedAt s i p z (k .left) (λ e _. is-missing q (k .same ∙ ap (λ (l : Named). firstNamed name (namedTexts l)) e ∙ seek-nil name))
 
   module _ {r : code-named.NamedRead} (z : 0 < i) (read : NamedReads s p r) where
     pub seek-never : {C : Type 0} → r ≡ named.Bad → C
     seek-never h = named-never s p read i z (k .left) h
 
-    module _ {sp : NamedSpan} (h : r ≡ named.Is sp) {n : ℕ} (tk : TakenAt s (sp .tag) (sp .start) (sp .end) n) where
+    module _ {sp : NamedSpan} (h : r ≡ named.Is sp) where
       seek-with : {C : Type 0} → ((x : List ℕ × Literal) (t : Named) → x .0 ≡ part s (sp .from) (sp .to - sp .from) → LiteralIs s (sp .tag) (sp .start) (sp .end) (x .1) → many [] _∷_ (i - 1) namedAt s (sp .end) ≡ got t f
-          → NamedIn w low end (x ∷ t) → n ≡ takes (x .1) → whole ≡ orElse (lastNamed name (namedTexts (x ∷ t))) (k .so-far) → C) → C
+          → NamedIn w low end (x ∷ t) → whole ≡ firstNamed name (namedTexts (x ∷ t)) → C) → C
       seek-with c = named-first s p read i z (k .left) h (λ x t en li ht e.
-          let q = read .inside sp h in
-          c x t en li ht (subst (NamedIn w low end) e (k .texts)) (tk (x .1) li (q .2) (q .3)) (k .same ∙ ap (λ (l : Named). orElse (lastNamed name (namedTexts l)) (k .so-far)) e))
+          c x t en li ht (subst (NamedIn w low end) e (k .texts)) (k .same ∙ ap (λ (l : Named). firstNamed name (namedTexts l)) e))
 
-      pub seek-room : n ≤ end
-      seek-room = seek-with (λ x t en li ht ni e same. let q = named-uncons ni .0 in omega arith)
-
-      pub seek-later : {found′ : code-local.Local} → sameBytes (part s (sp .from) (sp .to - sp .from)) name ≡ false → found′ ≡ found → Seeks s a w low f name (i - 1) (sp .end) (end - n) found′ whole
-      seek-later {found′} nt ef = seek-with (λ x t en li ht ni e same.
-          let q = named-uncons ni in
-          record {
-            rest = t;
-            so-far = k .so-far;
-            left = ht;
-            texts = subst (λ (j : ℕ). NamedIn w low (end - j) t) (sym e) (q .3);
-            here = subst (λ (o : code-local.Local). LocalIs s a w low o (k .so-far)) (sym ef) (k .here);
-            same = same ∙ last-cons name x t (k .so-far) false (ap (λ (b : Bytes). sameBytes b name) en ∙ nt) ∙ ap (orElse (lastNamed name (namedTexts t))) (or-false _ _);
-          })
-
-      pub seek-here : {found′ : code-local.Local} {c : code-value.Value} → sameBytes (part s (sp .from) (sp .to - sp .from)) name ≡ true → LiteralAt s (sp .tag) (sp .start) (sp .end) end c → found′ ≡ loc.Is c
-          → Seeks s a w low f name (i - 1) (sp .end) (end - n) found′ whole
-      seek-here {found′} {c} yt la ef = seek-with (λ x t en li ht ni e same.
+      pub seek-here : {found : code-local.Local} {c : code-value.Value} → sameBytes (part s (sp .from) (sp .to - sp .from)) name ≡ true → LiteralAt s (sp .tag) (sp .start) (sp .end) end c → found ≡ loc.Is c
+          → LocalIs s a w low found whole
+      seek-here {found} {c} yt la ef = seek-with (λ x t en li ht ni same.
           let q = named-uncons ni in
           let j = read .inside sp h in
           let lo = named-low (q .3) in
-          record {
-            rest = t;
-            so-far = some (literalText (x .1));
-            left = ht;
-            texts = subst (λ (j : ℕ). NamedIn w low (end - j) t) (sym e) (q .3);
-            here = is-there c (literalText (x .1)) ef refl (la (x .1) li (j .2) (j .3) a w low lo (q .0) (q .1) (q .2));
-            same = same ∙ last-cons name x t (k .so-far) true (ap (λ (b : Bytes). sameBytes b name) en ∙ yt) ∙ ap (orElse (lastNamed name (namedTexts t))) (or-true _ _);
-          })
+          is-there c (literalText (x .1)) ef (same ∙ seek-first name x t (ap (λ (b : Bytes). sameBytes b name) en ∙ yt)) (la (x .1) li (j .2) (j .3) a w low lo (q .0) (q .1) (q .2)))
+
+      module _ {n : ℕ} (tk : TakenAt s (sp .tag) (sp .start) (sp .end) n) where
+        taken-is : (x : List ℕ × Literal) → LiteralIs s (sp .tag) (sp .start) (sp .end) (x .1) → n ≡ takes (x .1)
+        taken-is x li = let q = read .inside sp h in tk (x .1) li (q .2) (q .3)
+
+        pub seek-room : n ≤ end
+        seek-room = seek-with (λ x t en li ht ni same. let q = named-uncons ni .0 in let e = taken-is x li in omega arith)
+
+        pub seek-later : sameBytes (part s (sp .from) (sp .to - sp .from)) name ≡ false → Seeks s a w low f name (i - 1) (sp .end) (end - n) whole
+        seek-later nt = seek-with (λ x t en li ht ni same.
+            let q = named-uncons ni in
+            record {
+              rest = t;
+              left = ht;
+              texts = subst (λ (j : ℕ). NamedIn w low (end - j) t) (sym (taken-is x li)) (q .3);
+              same = same ∙ seek-past name x t (ap (λ (b : Bytes). sameBytes b name) en ∙ nt);
+            })

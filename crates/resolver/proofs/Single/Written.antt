@@ -15,7 +15,7 @@ use Rattle.resolution.specs.Effect.{Bytes, report, _>>_, emit, write}
 use Rattle.resolution.specs.Resolve.{braced, writeRefError, writeResult}
 use Rattle.values.specs.declared.Value as code-value
 use Rattle.values.specs.declared.Value.the-variants as val
-use Rattle.resolver.specs.Relations.Meets.{World, Env, env, Kept, Acts, Holds, in-store, in-args, in-work, is-number, is-nothing, is-wrong}
+use Rattle.resolver.specs.Relations.Meets.{World, Env, lent, env, Kept, Acts, Holds, in-store, in-args, in-work, is-number, is-nothing, is-wrong}
 use Rattle.resolver.specs.Relations.Leaves.{ResultIs, has-result, no-function, ResultAt}
 use Rattle.resolver.proofs.Single.Laws.{kept-then, acts-then}
 use Rattle.resolver.proofs.Single.Steps.{runs-as}
@@ -62,36 +62,36 @@ result-missing : {i a w : List ℕ} {low : ℕ} {found : Bool} {c : code-value.V
 result-missing e (has-result v f eo h) = let z : _≡_ {A = ℕ} 0 1 = cc in absurd (omega arith)
 result-missing e (no-function _ _ eo) = eo
 
-module _ (s args : List ℕ) (a b : ℕ) {found : Bool} {c : code-value.Value} where
+module _ (s args places : List ℕ) (a b : ℕ) {found : Bool} {c : code-value.Value} where
   -- where the name is no part of the store, nothing is asked but that what was begun and refused stays
-  result-in : {w v : World} → Kept w v → (a ≤ b → b ≤ length s → ResultAt (env s args) a b found c w v) → ResultAt (env s args) a b found c w v
+  result-in : {w v : World} → Kept w v → (a ≤ b → b ≤ length s → ResultAt (env s (lent args places)) a b found c w v) → ResultAt (env s (lent args places)) a b found c w v
   result-in kp h = record { kept = kp; runs = λ o r p q. h p q .runs o r p q }
 
-  wrong-part : {w v : World} → found ≡ true → c ≡ val.Wrong → Acts (write (part s a (b - a) ++ (40 ∷ 41 ∷ []))) w v → ResultAt (env s args) a b found c w v
+  wrong-part : {w v : World} → found ≡ true → c ≡ val.Wrong → Acts (write (part s a (b - a) ++ (40 ∷ 41 ∷ []))) w v → ResultAt (env s (lent args places)) a b found c w v
   wrong-part f e h = record {
     kept = h .kept;
     runs = λ o r p q n. result-there f r (λ y eo k. runs-as (ap (writeResult (part s a (b - a))) (eo ∙ ap some (holds-wrong k e)) ∙ result-wrong-text (part s a (b - a))) (h .runs));
   }
 
-  pub result-value : {w v : World} → found ≡ true → (c ≡ val.Wrong → ⊥) → Kept w v → ((y : Value) → Holds s args (w .work) (w .st .back) c y → Acts (write (valueText y)) w v) → ResultAt (env s args) a b found c w v
+  pub result-value : {w v : World} → found ≡ true → (c ≡ val.Wrong → ⊥) → Kept w v → ((y : Value) → Holds s args (w .work) (w .st .back) c y → Acts (write (valueText y)) w v) → ResultAt (env s (lent args places)) a b found c w v
   result-value f e kp h = record {
     kept = kp;
     runs = λ o r p q n. result-there f r (λ y eo k. runs-as (ap (writeResult (part s a (b - a))) eo ∙ result-text (part s a (b - a)) y (holds-other k e)) (h y k .runs));
   }
 
   none-part : {w u v : World} → found ≡ false → Kept w u → (length (part s a (b - a)) ≤ 255 → Acts (emit (report (reference Referred.function (part s a (b - a)) none))) w u) → Acts (write (123 ∷ part s a (b - a) ++ (40 ∷ 41 ∷ 125 ∷ []))) u v
-      → ResultAt (env s args) a b found c w v
+      → ResultAt (env s (lent args places)) a b found c w v
   none-part f kp h g = record {
     kept = kept-then kp (g .kept);
     runs = λ o r p q n. runs-as (ap (writeResult (part s a (b - a))) (result-missing f r) ∙ result-none-text (part s a (b - a))) (acts-then (h (part-small s a (b - a) n)) g .runs);
   }
 
   module _ {n : Bytes} (en : n ≡ between s a b) where
-    pub result-wrong : {w v : World} → found ≡ true → c ≡ val.Wrong → Acts (write (n ++ (40 ∷ 41 ∷ []))) w v → ResultAt (env s args) a b found c w v
+    pub result-wrong : {w v : World} → found ≡ true → c ≡ val.Wrong → Acts (write (n ++ (40 ∷ 41 ∷ []))) w v → ResultAt (env s (lent args places)) a b found c w v
     result-wrong {w} {v} f e h = result-in (h .kept) (λ p q. wrong-part f e (subst (λ (m : Bytes). Acts (write (m ++ (40 ∷ 41 ∷ []))) w v) (en ∙ between-in s a b p q) h))
 
     pub result-none : {w u v : World} → found ≡ false → Kept w u → (length n ≤ 255 → Acts (emit (report (reference Referred.function n none))) w u) → Acts (write (123 ∷ n ++ (40 ∷ 41 ∷ 125 ∷ []))) u v
-        → ResultAt (env s args) a b found c w v
+        → ResultAt (env s (lent args places)) a b found c w v
     result-none {w} {u} {v} f kp h g = result-in (kept-then kp (g .kept)) (λ p q.
         let e = en ∙ between-in s a b p q in
         none-part f kp (subst (λ (m : Bytes). length m ≤ 255 → Acts (emit (report (reference Referred.function m none))) w u) e h) (subst (λ (m : Bytes). Acts (write (123 ∷ m ++ (40 ∷ 41 ∷ 125 ∷ []))) u v) e g))

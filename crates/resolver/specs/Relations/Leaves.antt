@@ -29,7 +29,7 @@ use Rattle.state.specs.Setters.{begunS, localsS}
 use Rattle.decimals.specs.declared.types.Number as code-number
 use Rattle.resolution.specs.Effect.{Bytes, Locals, State, ret, _>>=_, _>>_, emit, write, report}
 use Rattle.resolution.specs.Resolve.{dotted, braced, errorText, errorOf, cutShort, stringValue, namedValues, mergesOf, writeRefError, getVariable, writeVariable, orWrong, writeResult}
-use Rattle.records.specs.Names.{lastNamed}
+use Rattle.records.specs.Names.{firstNamed}
 use Rattle.resolution.specs.Exec.{Machine, Limits, refused}
 use Rattle.resolver.specs.Relations.Meets.{World, world, namedTexts, TextIn, NamedIn, Live, Runs, Kept, Acts, Holds, Env, Setup, settingOf}
 
@@ -40,8 +40,8 @@ pub data LocalIs (i a w : List ℕ) (low : ℕ) (r : code-local.Local) (o : Opti
 
 -- the value that a variable has: among the term's arguments where there are any, else among the formatting's
 unfoldable pub variableOf : List (Bytes × Value) → Bytes → Locals → Option Value
-variableOf args i none = lastNamed i args
-variableOf args i (some l) = lastNamed i l
+variableOf args i none = firstNamed i args
+variableOf args i (some l) = firstNamed i l
 
 -- the words that stand in the place of an expression: `{???{-{$.()`
 abbrev pub errorWords : List ℕ
@@ -140,12 +140,12 @@ pub record VariableValueAt (e : Env) (a b : ℕ) (w v : World) (c : code-value.V
   pub runs : (u : Setup e) → a ≤ b → b ≤ length (e .store) → b - a ≤ 255 → w .store ≡ e .store
       → Runs (getVariable (settingOf e u .arguments) (part (e .store) a (b - a)) >>= λ o. orWrong o) w v
   pub holds : (u : Setup e) → a ≤ b → b ≤ length (e .store) → b - a ≤ 255 → w .store ≡ e .store → (L : Limits) (s : State) (k : Machine) → Live L w s k → v .st .refused ≡ 0
-      → Holds (e .store) (e .args) (v .work) (v .st .back) c ((getVariable (settingOf e u .arguments) (part (e .store) a (b - a)) >>= λ o. orWrong o) s .value)
+      → Holds (e .store) (e .given .args) (v .work) (v .st .back) c ((getVariable (settingOf e u .arguments) (part (e .store) a (b - a)) >>= λ o. orWrong o) s .value)
 
 -- a function's result, written: w is the world in which it was known
 pub record ResultAt (e : Env) (a b : ℕ) (found : Bool) (c : code-value.Value) (w v : World) : Type 0 where
   pub kept : Kept w v
-  pub runs : (o : Option Value) → ResultIs (e .store) (e .args) (w .work) (w .st .back) found c o → a ≤ b → b ≤ length (e .store) → b - a ≤ 255
+  pub runs : (o : Option Value) → ResultIs (e .store) (e .given .args) (w .work) (w .st .back) found c o → a ≤ b → b ≤ length (e .store) → b - a ≤ 255
       → Runs (writeResult (part (e .store) a (b - a)) o) w v
 
 -- `write_ref_error` of the message or term reference at `at`

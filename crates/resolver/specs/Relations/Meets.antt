@@ -15,7 +15,8 @@ use Rattle.records.specs.Got.{got}
 use Rattle.records.specs.Bytes.{part}
 use Rattle.records.specs.Tree.{Literal, Named, Pattern, and, or}
 use Rattle.records.specs.Decode.{many, namedAt}
-use Rattle.records.specs.Images.{Store, Argument, storeOf, argumentsOf}
+use Rattle.records.specs.Images.{Store, Argument, storeOf}
+use Rattle.order.specs.Accepted.{accepted, judge}
 use Rattle.records.specs.Errors.{encError}
 use Rattle.records.specs.Encode.{encAll}
 use Rattle.entries.specs.Lookup.{Find, findIn}
@@ -24,6 +25,7 @@ use Rattle.state.specs.Progress.{Progress}
 use Rattle.values.specs.declared.Value as code-value
 use Rattle.values.specs.declared.Value.the-variants as val
 use Rattle.arguments.specs.Relations.Given.{between}
+use Rattle.arguments.specs.Relations.Places.{Noted}
 use Rattle.state.specs.Setters.{maxUnfound}
 use Rattle.resolution.specs.Effect.{Bytes, Locals, State, Out, M, Done}
 use Rattle.resolution.specs.Resolve.{Setting, Trail, held, resolve}
@@ -186,21 +188,29 @@ heldValue i a w (val.Number n) = numeric (told n)
 heldValue i a w val.Nothing = nothing
 heldValue i a w val.Wrong = wrong
 
+-- an arguments image, and the places of its arguments
+pub record Lent : Type 0 where
+  pub args : List ℕ
+  pub places : List ℕ
+
+abbrev pub lent : List ℕ → List ℕ → Lent
+lent a p = record { args = a; places = p }
+
 -- what is read, and what the definition makes of it
 pub record Env : Type 0 where
   pub store : List ℕ
-  pub args : List ℕ
+  pub given : Lent
 
-abbrev pub env : List ℕ → List ℕ → Env
-env i a = record { store = i; args = a }
+abbrev pub env : List ℕ → Lent → Env
+env i g = record { store = i; given = g }
 
 pub record Setup (e : Env) : Type 0 where
   pub held : Store
   pub used : ℕ
   pub held-at : storeOf (e .store) ≡ got held used
   pub given : List (List ℕ × Argument)
-  pub given-end : ℕ
-  pub given-at : argumentsOf (e .args) ≡ got given given-end
+  pub given-at : judge (e .given .args) ≡ accepted given
+  pub noted : Noted (e .given .args) (e .given .places)
 
 abbrev pub settingOf : (e : Env) → Setup e → Setting
 settingOf e u = record { locale = u .held .locale; isolating = u .held .isolating; arguments = valuesOf (u .given) }

@@ -58,7 +58,7 @@ pub record ValueAt (e : Env) (left at : ℕ) (w v : World) (x : code-value.Value
       → (n : ℕ) (t : Trail) → Here e w 0 n t → Runs (resolveInline (settingOf e u) (findOf e u) (crossOf e u n) t y) w v
   pub holds : (u : Setup e) (y : Inline) (f : ℕ) → inline left (e .store) at ≡ got y f
       → (n : ℕ) (t : Trail) → Here e w 0 n t → (L : Limits) (s : State) (k : Machine) → Live L w s k → v .st .refused ≡ 0
-      → Holds (e .store) (e .args) (v .work) (v .st .back) x (resolveInline (settingOf e u) (findOf e u) (crossOf e u n) t y s .value)
+      → Holds (e .store) (e .given .args) (v .work) (v .st .back) x (resolveInline (settingOf e u) (findOf e u) (crossOf e u n) t y s .value)
 
 -- a select, past its tag, whose parts nest at most `left` deep
 pub record SelectAt (e : Env) (left at : ℕ) (w v : World) : Type 0 where
@@ -118,7 +118,7 @@ pub record CalledAt (e : Env) (left at : ℕ) (w v : World) (found : Bool) (c : 
       → Runs (release (getArguments (settingOf e u) (findOf e u) (crossOf e u n) t xs ns >>= λ g. callFunction (findOf e u) i g)) w v
   pub result : (u : Setup e) (i : Bytes) (p : ℕ) (xs : Inlines) (ns : Named) (f : ℕ) → idAt (e .store) at ≡ got i p → argumentsAt (inline left) (e .store) p ≡ got (xs, ns) f
       → (n : ℕ) (t : Trail) → Here e w 0 n t → (L : Limits) (s : State) (m : Machine) → Live L w s m → v .st .refused ≡ 0
-      → ResultIs (e .store) (e .args) (v .work) (v .st .back) found c
+      → ResultIs (e .store) (e .given .args) (v .work) (v .st .back) found c
       (release (getArguments (settingOf e u) (findOf e u) (crossOf e u n) t xs ns >>= λ g. callFunction (findOf e u) i g) s .value)
 
 -- a message, a term or an inline placeable as a text of its own
@@ -128,7 +128,7 @@ pub record TextValueAt (e : Env) (left at : ℕ) (w v : World) (x : code-value.V
       → (n : ℕ) (t : Trail) → Here e w 0 n t → Runs (held (capture (writeInline (settingOf e u) (findOf e u) (crossOf e u n) t y))) w v
   pub holds : (u : Setup e) (y : Inline) (f : ℕ) → inline left (e .store) at ≡ got y f
       → (n : ℕ) (t : Trail) → Here e w 0 n t → (L : Limits) (s : State) (k : Machine) → Live L w s k → v .st .refused ≡ 0
-      → Holds (e .store) (e .args) (v .work) (v .st .back) x (held (capture (writeInline (settingOf e u) (findOf e u) (crossOf e u n) t y)) s .value)
+      → Holds (e .store) (e .given .args) (v .work) (v .st .back) x (held (capture (writeInline (settingOf e u) (findOf e u) (crossOf e u n) t y)) s .value)
 
 -- the same, where its tag is known, and that it is one of these
 abbrev pub TextAt : Env → ℕ → ℕ → ℕ → ℕ → World → World → code-value.Value → Type 0

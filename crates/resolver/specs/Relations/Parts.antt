@@ -14,7 +14,7 @@ use Rattle.values.specs.declared.Value as code-value
 use Rattle.state.specs.declared.Reference.{Reference}
 use Rattle.state.specs.declared.Referring.{Referring}
 use Rattle.state.specs.declared.Reference.the-variants as ref
-use Rattle.resolver.specs.Relations.Meets.{World, world, Env, env}
+use Rattle.resolver.specs.Relations.Meets.{Lent, World, world, Env, env}
 use Rattle.resolver.specs.Relations.Leaves.{ReferenceIs}
 use Rattle.resolver.specs.Relations.Members.{InlineAt, ValueAt, TextValueAt, CalledAt, TermAt}
 
@@ -44,4 +44,4 @@ pub record TextKept (start was : ℕ) (w : List ℕ) (st : Progress) (w′ : Lis
 -- the Flag of a term reference's arguments, its tag at `at`, and the position past it
 pub data TermFlag (s : List ℕ) (at : ℕ) (r : Num) : Type 0 where
   flagged : (flag p : ℕ) (q : Reference) (y : Referring) → r ≡ num.At flag p → ReferenceIs s (at + 1) q → q ≡ ref.Is y → byteAt s (y .end) ≡ got flag p → TermFlag s at r
-  unflagged : r ≡ num.Bad → ((image : List ℕ) (left : ℕ) (w : World) → TermAt (env s image) left at w w) → TermFlag s at r
+  unflagged : r ≡ num.Bad → ((image : Lent) (left : ℕ) (w : World) → TermAt (env s image) left at w w) → TermFlag s at r

@@ -9,7 +9,8 @@ use Rattle.records.specs.Got.{got}
 use Rattle.records.specs.Bytes.{part}
 use Rattle.records.specs.Tree.{Pattern}
 use Rattle.records.specs.Decode.{entryPatternAt}
-use Rattle.records.specs.Images.{Entry, Store, storeOf, argumentsOf}
+use Rattle.records.specs.Images.{Entry, Store, storeOf}
+use Rattle.order.specs.Accepted.{judge}
 use Rattle.records.specs.Encode.{encAll}
 use Rattle.records.specs.Errors.{encError}
 use Rattle.texts.specs.Relations.Report.{headed}
@@ -61,7 +62,7 @@ pub data MessageFound (s : Bytes) (v : Store) (id : Bytes) (a : Option Bytes) (r
 pub data PatternFound (s id : Bytes) (a : Option Bytes) (r : code-part.Part) : Type 0 where
   refuses : (n : ℕ) → r ≡ part-answer.Refused n → ((image : Bytes) (b : Buffers) → format s id a image b ≡ refuse n b) → PatternFound s id a r
   finds : (q : ℕ) (st : Store) (used : ℕ) (p : Pattern) (f : ℕ) → r ≡ part-answer.At q → storeOf s ≡ got st used → entryPatternAt s q ≡ got p f
-      → ((image : Bytes) (b : Buffers) → format s id a image b ≡ formatArguments st p (argumentsOf image) b) → PatternFound s id a r
+      → ((image : Bytes) (b : Buffers) → format s id a image b ≡ formatArguments st p (judge image) b) → PatternFound s id a r
 
 -- the state and the buffers are at the machine k, and no message is being formatted: no workspace text is open, and nothing is in use
 pub record Rests (x l w : Bytes) (p : Progress) (k : Machine) : Type 0 where

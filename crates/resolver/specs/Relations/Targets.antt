@@ -12,7 +12,7 @@ use Rattle.texts.specs.declared.errors.Referred.the-variants as referred
 use Rattle.resolution.specs.Effect.{report, emit}
 use Rattle.state.specs.Progress.{Progress}
 use Rattle.state.specs.Setters.{countedS}
-use Rattle.resolver.specs.Relations.Meets.{World, world, Kept, Acts, env}
+use Rattle.resolver.specs.Relations.Meets.{Lent, World, world, Kept, Acts, env}
 use Rattle.resolver.specs.Relations.Leaves.{ErrorAt, RefErrorAt}
 use Rattle.resolver.specs.Relations.Members.{TrackAt, MessageAt, FoundTermAt}
 use Rattle.entries.specs.declared.Found.{Found}
@@ -34,24 +34,24 @@ inOrder a b c d = leb a b && (leb b c && leb c d)
 
 -- a message reference at `at`
 pub data MessageTarget (s : List ℕ) (at : ℕ) (r : code-target.Target) : Type 0 where
-  message-goes : (q : ℕ) → r ≡ target.At q → ((image : List ℕ) (w v : World) → TrackAt (env s image) at q w v → MessageAt (env s image) at w v) → MessageTarget s at r
+  message-goes : (q : ℕ) → r ≡ target.At q → ((image : Lent) (w v : World) → TrackAt (env s image) at q w v → MessageAt (env s image) at w v) → MessageTarget s at r
   message-lacks : (from to : ℕ) → r ≡ target.NoValue from to → from ≤ to → to ≤ length s
-      → ((image x l w l1 x′ w′ t : List ℕ) (st s1 s′ : Progress)
+      → ((image : Lent) (x l w l1 x′ w′ t : List ℕ) (st s1 s′ : Progress)
       → ((i x w t : List ℕ) → Kept (world i x l w t st) (world i x l1 w t s1))
       × (length (part s from (to - from)) ≤ 255 → (i x w t : List ℕ) → Acts (emit (report (noValue (part s from (to - from))))) (world i x l w t st) (world i x l1 w t s1))
       → ErrorAt s at x w s1 x′ w′ s′ → MessageAt (env s image) at (world s x l w t st) (world s x′ l1 w′ t s′)) → MessageTarget s at r
   message-misses : (lost : Bool) → r ≡ target.Missing lost
-      → ((image x l w x′ l′ w′ t : List ℕ) (st s′ : Progress) → RefErrorAt s at (referredOf referred.Message) x l w (countIf lost st) x′ l′ w′ s′
+      → ((image : Lent) (x l w x′ l′ w′ t : List ℕ) (st s′ : Progress) → RefErrorAt s at (referredOf referred.Message) x l w (countIf lost st) x′ l′ w′ s′
       → MessageAt (env s image) at (world s x l w t st) (world s x′ l′ w′ t s′)) → MessageTarget s at r
-  message-bad : r ≡ target.Bad → ((image : List ℕ) (w : World) → MessageAt (env s image) at w w) → MessageTarget s at r
+  message-bad : r ≡ target.Bad → ((image : Lent) (w : World) → MessageAt (env s image) at w w) → MessageTarget s at r
 
 -- a term reference at `at`, its arguments known
 pub data TermTarget (s : List ℕ) (at : ℕ) (r : code-target.Target) : Type 0 where
-  term-goes : (q : ℕ) → r ≡ target.At q → ((image : List ℕ) (w v : World) → TrackAt (env s image) at q w v → FoundTermAt (env s image) at w v) → TermTarget s at r
+  term-goes : (q : ℕ) → r ≡ target.At q → ((image : Lent) (w v : World) → TrackAt (env s image) at q w v → FoundTermAt (env s image) at w v) → TermTarget s at r
   term-misses : (lost : Bool) → r ≡ target.Missing lost
-      → ((image x l w x′ l′ w′ t : List ℕ) (st s′ : Progress) → RefErrorAt s at (referredOf referred.Term) x l w (countIf lost st) x′ l′ w′ s′
+      → ((image : Lent) (x l w x′ l′ w′ t : List ℕ) (st s′ : Progress) → RefErrorAt s at (referredOf referred.Term) x l w (countIf lost st) x′ l′ w′ s′
       → FoundTermAt (env s image) at (world s x l w t st) (world s x′ l′ w′ t s′)) → TermTarget s at r
-  term-bad : r ≡ target.Bad → ((image : List ℕ) (w : World) → FoundTermAt (env s image) at w w) → TermTarget s at r
+  term-bad : r ≡ target.Bad → ((image : Lent) (w : World) → FoundTermAt (env s image) at w w) → TermTarget s at r
 
 -- a reference of the kind that is asked for: a term's, or a message's
 abbrev pub TargetAt : Bool → List ℕ → ℕ → code-target.Target → Type 0

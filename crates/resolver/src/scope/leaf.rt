@@ -4,7 +4,7 @@ ghost use mathlib.Core.List.{List};
 ghost use Prim.Native.Nat.{ℕ};
 ghost use Rattle.state.specs.Progress.{progressOf};
 ghost use Rattle.values.specs.Stored.{valueOf, foundIn};
-ghost use Rattle.resolver.specs.Relations.Meets.{world, env};
+ghost use Rattle.resolver.specs.Relations.Meets.{world, env, lent};
 ghost use Rattle.resolver.specs.Relations.Targets.{inOrder};
 ghost use Rattle.resolver.specs.Relations.Parts.{LeafWritten, LeafResolved, CallWritten, TextKept};
 use crate::scope::put::put_value;
@@ -28,6 +28,7 @@ use writes::put::put_literal;
 pub(crate) fn write_leaf<'a>(
     store: &'a [u8],
     args: &'a [u8],
+    places: &'a [usize; 256],
     text: &mut [u8],
     list: &mut [u8],
     work: &mut [u8],
@@ -35,7 +36,7 @@ pub(crate) fn write_leaf<'a>(
     tag: usize,
     p: usize,
 )
-    ensures { λ _. ⌜ ((t : List ℕ) → LeafWritten (env (now (store .entry)) (now (args .entry))) tag p (world (now (store .entry)) (now (text .entry)) (now (list .entry)) (now (work .entry)) t (progressOf (now (st .entry)))) (world (now (store .entry)) (now (text .exit)) (now (list .exit)) (now (work .exit)) t (progressOf (now (st .exit))))) ⌝ }
+    ensures { λ _. ⌜ ((t : List ℕ) → LeafWritten (env (now (store .entry)) (lent (now (args .entry)) (now (places .entry)))) tag p (world (now (store .entry)) (now (text .entry)) (now (list .entry)) (now (work .entry)) t (progressOf (now (st .entry)))) (world (now (store .entry)) (now (text .exit)) (now (list .exit)) (now (work .exit)) t (progressOf (now (st .exit))))) ⌝ }
 {
     let Num::At(a, e) = read_str(store, p) else {
         return;
@@ -49,7 +50,7 @@ pub(crate) fn write_leaf<'a>(
         return;
     }
     if tag == 6 {
-        write_variable(store, args, text, list, work, st, a, e);
+        write_variable(store, args, places, text, list, work, st, a, e);
     }
 }
 
@@ -57,6 +58,7 @@ pub(crate) fn write_leaf<'a>(
 pub(crate) fn resolve_leaf<'a>(
     store: &'a [u8],
     args: &'a [u8],
+    places: &'a [usize; 256],
     list: &mut [u8],
     work: &mut [u8],
     st: &mut [usize; 16],
@@ -64,7 +66,7 @@ pub(crate) fn resolve_leaf<'a>(
     tag: usize,
     p: usize,
 )
-    ensures { λ _. ⌜ ((x t : List ℕ) → LeafResolved (env (now (store .entry)) (now (args .entry))) tag p (world (now (store .entry)) x (now (list .entry)) (now (work .entry)) t (progressOf (now (st .entry)))) (world (now (store .entry)) x (now (list .exit)) (now (work .exit)) t (progressOf (now (st .exit)))) (valueOf (now (value .exit)))) ⌝ }
+    ensures { λ _. ⌜ ((x t : List ℕ) → LeafResolved (env (now (store .entry)) (lent (now (args .entry)) (now (places .entry)))) tag p (world (now (store .entry)) x (now (list .entry)) (now (work .entry)) t (progressOf (now (st .entry)))) (world (now (store .entry)) x (now (list .exit)) (now (work .exit)) t (progressOf (now (st .exit)))) (valueOf (now (value .exit)))) ⌝ }
 {
     let Num::At(a, e) = read_str(store, p) else {
         return;
@@ -79,7 +81,7 @@ pub(crate) fn resolve_leaf<'a>(
         return;
     }
     if tag == 6 {
-        let v = resolve_variable(store, args, list, st, a, e);
+        let v = resolve_variable(store, args, places, list, st, a, e);
         hold(value, v);
     }
 }
@@ -95,7 +97,7 @@ pub(crate) fn write_called<'a>(
     value: &[usize; 10],
     p: usize,
 )
-    ensures { λ _. ⌜ ((t : List ℕ) → CallWritten (env (now (store .entry)) (now (args .entry))) p (foundIn (now (value .entry))) (valueOf (now (value .entry))) (world (now (store .entry)) (now (text .entry)) (now (list .entry)) (now (work .entry)) t (progressOf (now (st .entry)))) (world (now (store .entry)) (now (text .exit)) (now (list .exit)) (now (work .exit)) t (progressOf (now (st .exit))))) ⌝ }
+    ensures { λ _. ⌜ ((t g : List ℕ) → CallWritten (env (now (store .entry)) (lent (now (args .entry)) g)) p (foundIn (now (value .entry))) (valueOf (now (value .entry))) (world (now (store .entry)) (now (text .entry)) (now (list .entry)) (now (work .entry)) t (progressOf (now (st .entry)))) (world (now (store .entry)) (now (text .exit)) (now (list .exit)) (now (work .exit)) t (progressOf (now (st .exit))))) ⌝ }
 {
     let Num::At(a, e) = read_str(store, p) else {
         return;

@@ -10,10 +10,10 @@ ghost use Rattle.records.specs.Got.{got};
 ghost use Rattle.records.specs.Tree.{Named};
 ghost use Rattle.records.specs.Decode.{many, namedAt};
 ghost use Rattle.resolution.specs.Effect.{State};
-ghost use Rattle.records.specs.Names.{lastNamed};
+ghost use Rattle.records.specs.Names.{firstNamed};
 ghost use Rattle.resolution.specs.Exec.{Limits, Machine};
 ghost use Rattle.resolution.specs.Format.{valuesOf};
-ghost use Rattle.resolver.specs.Relations.Meets.{world, env, Setup, Live, NamedIn, namedTexts};
+ghost use Rattle.resolver.specs.Relations.Meets.{world, env, Setup, Live, NamedIn, namedTexts, lent};
 ghost use Rattle.resolver.specs.Relations.Leaves.{LocalIs, variableOf, StringAt, NamedAt, NamedSet};
 ghost use Rattle.arguments.specs.Relations.Given.{Within, meant, between};
 ghost use Rattle.resolver.specs.Relations.Values.{literalValued, TakenAt, LiteralAt, NamedReads, Ranged, valueOfSome};
@@ -212,11 +212,10 @@ pub(crate) fn literal_at(s: &[u8], tag: usize, a: usize, e: usize, base: usize) 
     Value::Work(base - n, base)
 }
 
-// A term's argument of a name: among the named arguments at `at`, whose texts end at `base` in the workspace. Of equal names the last holds.
+// A term's argument of a name: the first among the named arguments at `at`, whose texts end at `base` in the workspace.
 pub(crate) fn find_local(s: &[u8], at: usize, count: usize, base: usize, name: &[u8]) -> Local
-    ensures { λ r. ⌜ ((a w : List ℕ) (low f : ℕ) (ns : Named) → many [] _∷_ count namedAt (now (s .entry)) at ≡ got ns f → NamedIn w low base ns → LocalIs (now (s .entry)) a w low r (lastNamed (now (name .entry)) (namedTexts ns))) ⌝ }
+    ensures { λ r. ⌜ ((a w : List ℕ) (low f : ℕ) (ns : Named) → many [] _∷_ count namedAt (now (s .entry)) at ≡ got ns f → NamedIn w low base ns → LocalIs (now (s .entry)) a w low r (firstNamed (now (name .entry)) (namedTexts ns))) ⌝ }
 {
-    let mut found = Local::Missing;
     let mut p = at;
     let mut end = base;
     let mut i = count;
@@ -228,7 +227,7 @@ pub(crate) fn find_local(s: &[u8], at: usize, count: usize, base: usize, name: &
         let q = n.to;
         let e = n.end;
         if same_bytes(&s[b..q], name) {
-            found = Local::Is(literal_at(s, n.tag, n.start, e, end));
+            return Local::Is(literal_at(s, n.tag, n.start, e, end));
         }
         let k = taken(s, n.tag, n.start, e);
         if end < k {
@@ -238,7 +237,7 @@ pub(crate) fn find_local(s: &[u8], at: usize, count: usize, base: usize, name: &
         p = e;
         i -= 1;
     }
-    found
+    Local::Missing
 }
 
 // An argument as a value.
@@ -259,11 +258,11 @@ pub(crate) fn argument_value(found: Given) -> Local
 }
 
 // A variable: a term's argument where there are any, else the formatting's. A missing one is no Is.
-pub(crate) fn find_variable(s: &[u8], args: &[u8], st: &[usize; 16], name: &[u8]) -> Local
-    ensures { λ r. ⌜ ((u : Setup (env (now (s .entry)) (now (args .entry)))) (x l w t : List ℕ) (L : Limits) (q : State) (k : Machine) → Live L (world (now (s .entry)) x l w t (progressOf (now (st .entry)))) q k → LocalIs (now (s .entry)) (now (args .entry)) w ((progressOf (now (st .entry))) .back) r (variableOf (valuesOf (u .given)) (now (name .entry)) (q .locals))) ⌝ }
+pub(crate) fn find_variable(s: &[u8], args: &[u8], places: &[usize; 256], st: &[usize; 16], name: &[u8]) -> Local
+    ensures { λ r. ⌜ ((u : Setup (env (now (s .entry)) (lent (now (args .entry)) (now (places .entry))))) (x l w t : List ℕ) (L : Limits) (q : State) (k : Machine) → Live L (world (now (s .entry)) x l w t (progressOf (now (st .entry)))) q k → LocalIs (now (s .entry)) (now (args .entry)) w ((progressOf (now (st .entry))) .back) r (variableOf (valuesOf (u .given)) (now (name .entry)) (q .locals))) ⌝ }
 {
     if st[LOCAL] == 1 {
         return find_local(s, st[LOCAL_AT], st[LOCAL_COUNT], st[LOCAL_BASE], name);
     }
-    argument_value(find_argument(args, name))
+    argument_value(find_argument(args, places, name))
 }

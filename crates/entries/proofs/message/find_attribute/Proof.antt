@@ -1,5 +1,5 @@
 -- `entries::message::find_attribute` meets its contract: the attributes stand behind the Id and the value.
-use Rattle.entries.specs.Lookup.{firstNamed}
+use Rattle.records.specs.Names.{firstNamed}
 use Rattle.entries.specs.Relations.Meets.{atPosition}
 use borrow.Author.Needs.{needs}
 use mathlib.Core.Path.{_∙_, ap, sym}

@@ -90,46 +90,46 @@ abbrev pub μ : Progress → ℕ → ℕ
 μ s stage = (102 - s .begun) * 2000 + stage
 
 abbrev pub μ-call-each : cycle.Measures 7 call-each-kinds.ps ℕ
-μ-call-each κs a = μ (progressOf (now (a .1 .1 .1 .1 .1 .1 .0))) (1000 + a .1 .1 .1 .1 .1 .1 .1 .1 .0 * 10 + 7)
+μ-call-each κs a = μ (progressOf (now (a .1 .1 .1 .1 .1 .1 .1 .0))) (1000 + a .1 .1 .1 .1 .1 .1 .1 .1 .1 .0 * 10 + 7)
 
 abbrev pub μ-call-function : cycle.Measures 7 call-function-kinds.ps ℕ
-μ-call-function κs a = μ (progressOf (now (a .1 .1 .1 .1 .1 .1 .0))) (1000 + a .1 .1 .1 .1 .1 .1 .1 .1 .0 * 10 + 8)
+μ-call-function κs a = μ (progressOf (now (a .1 .1 .1 .1 .1 .1 .1 .0))) (1000 + a .1 .1 .1 .1 .1 .1 .1 .1 .1 .0 * 10 + 8)
 
 abbrev pub μ-expression-select : cycle.Measures 7 expression-select-kinds.ps ℕ
-μ-expression-select κs a = μ (progressOf (now (a .1 .1 .1 .1 .1 .1 .0))) (1000 + a .1 .1 .1 .1 .1 .1 .1 .1 .0 * 10 + 7)
+μ-expression-select κs a = μ (progressOf (now (a .1 .1 .1 .1 .1 .1 .1 .0))) (1000 + a .1 .1 .1 .1 .1 .1 .1 .1 .1 .0 * 10 + 7)
 
 abbrev pub μ-expression-write : cycle.Measures 7 expression-write-kinds.ps ℕ
-μ-expression-write κs a = μ (progressOf (now (a .1 .1 .1 .1 .1 .1 .0))) (1000 + a .1 .1 .1 .1 .1 .1 .1 .1 .0 * 10 + 9)
+μ-expression-write κs a = μ (progressOf (now (a .1 .1 .1 .1 .1 .1 .1 .0))) (1000 + a .1 .1 .1 .1 .1 .1 .1 .1 .1 .0 * 10 + 9)
 
 abbrev pub μ-inline-as-text : cycle.Measures 7 inline-as-text-kinds.ps ℕ
-μ-inline-as-text κs a = μ (progressOf (now (a .1 .1 .1 .1 .1 .1 .0))) (1000 + a .1 .1 .1 .1 .1 .1 .1 .1 .0 * 10 + 5)
+μ-inline-as-text κs a = μ (progressOf (now (a .1 .1 .1 .1 .1 .1 .1 .0))) (1000 + a .1 .1 .1 .1 .1 .1 .1 .1 .1 .0 * 10 + 5)
 
 abbrev pub μ-inline-message : cycle.Measures 7 inline-message-kinds.ps ℕ
-μ-inline-message κs a = μ (progressOf (now (a .1 .1 .1 .1 .1 .1 .0))) 330
+μ-inline-message κs a = μ (progressOf (now (a .1 .1 .1 .1 .1 .1 .1 .0))) 330
 
 abbrev pub μ-inline-resolve : cycle.Measures 7 inline-resolve-kinds.ps ℕ
-μ-inline-resolve κs a = μ (progressOf (now (a .1 .1 .1 .1 .1 .1 .0))) (1000 + a .1 .1 .1 .1 .1 .1 .1 .1 .0 * 10 + 6)
+μ-inline-resolve κs a = μ (progressOf (now (a .1 .1 .1 .1 .1 .1 .1 .0))) (1000 + a .1 .1 .1 .1 .1 .1 .1 .1 .1 .0 * 10 + 6)
 
 abbrev pub μ-inline-write : cycle.Measures 7 inline-write-kinds.ps ℕ
-μ-inline-write κs a = μ (progressOf (now (a .1 .1 .1 .1 .1 .1 .0))) (1000 + a .1 .1 .1 .1 .1 .1 .1 .1 .0 * 10 + 4)
+μ-inline-write κs a = μ (progressOf (now (a .1 .1 .1 .1 .1 .1 .1 .0))) (1000 + a .1 .1 .1 .1 .1 .1 .1 .1 .1 .0 * 10 + 4)
 
 abbrev pub μ-pattern-element : cycle.Measures 7 pattern-element-kinds.ps ℕ
-μ-pattern-element κs a = μ (progressOf (now (a .1 .1 .1 .1 .1 .1 .0))) (a .1 .1 .1 .1 .1 .1 .1 .1 .0 * 10)
+μ-pattern-element κs a = μ (progressOf (now (a .1 .1 .1 .1 .1 .1 .1 .0))) (a .1 .1 .1 .1 .1 .1 .1 .1 .1 .0 * 10)
 
 abbrev pub μ-pattern-track : cycle.Measures 7 pattern-track-kinds.ps ℕ
-μ-pattern-track κs a = μ (progressOf (now (a .1 .1 .1 .1 .1 .1 .0))) 325
+μ-pattern-track κs a = μ (progressOf (now (a .1 .1 .1 .1 .1 .1 .1 .0))) 325
 
 abbrev pub μ-pattern-write : cycle.Measures 7 pattern-write-kinds.ps ℕ
-μ-pattern-write κs a = μ (progressOf (now (a .1 .1 .1 .1 .1 .1 .0))) (a .1 .1 .1 .1 .1 .1 .1 .1 .0 * 10 + 1)
+μ-pattern-write κs a = μ (progressOf (now (a .1 .1 .1 .1 .1 .1 .1 .0))) (a .1 .1 .1 .1 .1 .1 .1 .1 .1 .0 * 10 + 1)
 
 abbrev pub μ-term-each : cycle.Measures 7 term-each-kinds.ps ℕ
-μ-term-each κs a = μ (progressOf (now (a .1 .1 .1 .1 .1 .1 .0))) (1000 + a .1 .1 .1 .1 .1 .1 .1 .1 .0 * 10 + 7)
+μ-term-each κs a = μ (progressOf (now (a .1 .1 .1 .1 .1 .1 .1 .0))) (1000 + a .1 .1 .1 .1 .1 .1 .1 .1 .1 .0 * 10 + 7)
 
 abbrev pub μ-term-found : cycle.Measures 7 term-found-kinds.ps ℕ
-μ-term-found κs a = μ (progressOf (now (a .1 .1 .1 .1 .1 .1 .0))) 330
+μ-term-found κs a = μ (progressOf (now (a .1 .1 .1 .1 .1 .1 .1 .0))) 330
 
 abbrev pub μ-term-refer : cycle.Measures 7 term-refer-kinds.ps ℕ
-μ-term-refer κs a = μ (progressOf (now (a .1 .1 .1 .1 .1 .1 .0))) (1000 + a .1 .1 .1 .1 .1 .1 .1 .1 .0 * 10 + 8)
+μ-term-refer κs a = μ (progressOf (now (a .1 .1 .1 .1 .1 .1 .1 .0))) (1000 + a .1 .1 .1 .1 .1 .1 .1 .1 .1 .0 * 10 + 8)
 
 -- what `call-each` is given at the measure t, and what a call of it asks below t
 abbrev pub call-each-at : ℕ → In 7 call-each-kinds.ps

@@ -34,13 +34,13 @@ pub apply-requires : (t : ℕ) → call-function-lts.Need-apply-requires (call-f
 apply-requires t c κs = search needs
 
 pub same-length : (t : ℕ) → call-function-lts.Need-same-length (call-function-claims t) (call-function-at t) call-function-reads.Post
-same-length t c = c .before .before .before .before .before .before .before .before .before .before .before .before .each .kept .1 .1 .0
+same-length t c = c .before .before .before .before .before .before .before .before .before .before .before .before .each .kept .1 .1 .1 .0
 
 pub same-length-2 : (t : ℕ) → call-function-lts.Need-same-length-2 (call-function-claims t) (call-function-at t) call-function-reads.Post
-same-length-2 t c = c .before .before .before .before .before .before .before .before .before .before .before .before .each .kept .1 .1 .1 .0
+same-length-2 t c = c .before .before .before .before .before .before .before .before .before .before .before .before .each .kept .1 .1 .1 .1 .0
 
 pub same-length-3 : (t : ℕ) → call-function-lts.Need-same-length-3 (call-function-claims t) (call-function-at t) call-function-reads.Post
-same-length-3 t c = c .before .before .apply .kept .1 .0 ∙ c .before .before .before .before .before .before .before .before .before .before .before .before .each .kept .1 .1 .1 .1 .0
+same-length-3 t c = c .before .before .apply .kept .1 .0 ∙ c .before .before .before .before .before .before .before .before .before .before .before .before .each .kept .1 .1 .1 .1 .1 .0
 
 pub returns-2 : (t : ℕ) → call-function-lts.Need-returns-2 (call-function-claims t) (call-function-at t) call-function-reads.Post
 returns-2 t c =

@@ -79,10 +79,10 @@ pub list-plain-requires : (t : ℕ) → expression-select-lts.Need-list-plain-re
 list-plain-requires t c κs = search needs
 
 pub same-length-7 : (t : ℕ) → expression-select-lts.Need-same-length-7 (expression-select-claims t) (expression-select-at t) expression-select-reads.Post
-same-length-7 t c = c .before .before .before .before .before .before .before .before .before .before .before .before .before .before .before .before .before .before .before .before .before .before .before .before .resolve .kept .1 .1 .0
+same-length-7 t c = c .before .before .before .before .before .before .before .before .before .before .before .before .before .before .before .before .before .before .before .before .before .before .before .before .resolve .kept .1 .1 .1 .0
 
 pub same-length-8 : (t : ℕ) → expression-select-lts.Need-same-length-8 (expression-select-claims t) (expression-select-at t) expression-select-reads.Post
-same-length-8 t c = c .before .before .list-plain .kept .0 ∙ c .before .before .before .before .before .before .before .before .before .before .before .before .before .before .before .before .before .before .before .before .before .before .before .before .resolve .kept .1 .1 .1 .0
+same-length-8 t c = c .before .before .list-plain .kept .0 ∙ c .before .before .before .before .before .before .before .before .before .before .before .before .before .before .before .before .before .before .before .before .before .before .before .before .resolve .kept .1 .1 .1 .1 .0
 
 pub same-length-9 : (t : ℕ) → expression-select-lts.Need-same-length-9 (expression-select-claims t) (expression-select-at t) expression-select-reads.Post
 same-length-9 t c = search needs
@@ -95,13 +95,13 @@ pub write-requires : (t : ℕ) → expression-select-lts.Need-write-requires (ex
 write-requires t c κs = let k = ap (λ (s : Progress). s .begun) (c .before .before .before .before .before .before .before .before .before .before .before .before .before .before .before .before .set-back .ensures) in let j = c .before .before .before .before .before .before .before .before .before .before .before .before .before .before .before .before .before .before .before .before .before .before .before .before .before .before .resolve .ensures .kept .begun in (omega (arith, c .before .before .before .before .before .before .before .before .before .before .before .before .before .before .before .before .before .before .before .before .before .before .before .before .before .before .before .before .before .before .before .before .before .before .before .before .before .before .before .before .before .pre .0), tt)
 
 pub same-length-10 : (t : ℕ) → expression-select-lts.Need-same-length-10 (expression-select-claims t) (expression-select-at t) expression-select-reads.Post
-same-length-10 t c = c .before .before .before .before .before .before .write .kept .1 .1 .0 ∙ c .before .before .before .before .before .before .before .before .before .before .before .before .before .before .before .before .before .before .before .before .before .before .before .before .before .before .before .before .before .before .before .before .before .resolve .kept .1 .1 .0
+same-length-10 t c = c .before .before .before .before .before .before .write .kept .1 .1 .1 .0 ∙ c .before .before .before .before .before .before .before .before .before .before .before .before .before .before .before .before .before .before .before .before .before .before .before .before .before .before .before .before .before .before .before .before .before .resolve .kept .1 .1 .1 .0
 
 pub same-length-11 : (t : ℕ) → expression-select-lts.Need-same-length-11 (expression-select-claims t) (expression-select-at t) expression-select-reads.Post
-same-length-11 t c = c .before .before .before .before .before .before .write .kept .1 .1 .1 .0 ∙ c .before .before .before .before .before .before .before .before .before .before .before .before .before .before .before .before .before .before .before .before .before .before .before .before .before .before .before .before .before .before .before .before .before .resolve .kept .1 .1 .1 .0
+same-length-11 t c = c .before .before .before .before .before .before .write .kept .1 .1 .1 .1 .0 ∙ c .before .before .before .before .before .before .before .before .before .before .before .before .before .before .before .before .before .before .before .before .before .before .before .before .before .before .before .before .before .before .before .before .before .resolve .kept .1 .1 .1 .1 .0
 
 pub same-length-12 : (t : ℕ) → expression-select-lts.Need-same-length-12 (expression-select-claims t) (expression-select-at t) expression-select-reads.Post
-same-length-12 t c = c .before .before .before .before .before .before .write .kept .1 .1 .1 .1 .0 ∙ c .before .before .before .before .before .before .before .before .before .before .before .before .before .before .before .before .before .before .before .before .before .before .before .before .before .before .before .before .before .before .before .before .before .resolve .kept .1 .1 .1 .1 .0
+same-length-12 t c = c .before .before .before .before .before .before .write .kept .1 .1 .1 .1 .1 .0 ∙ c .before .before .before .before .before .before .before .before .before .before .before .before .before .before .before .before .before .before .before .before .before .before .before .before .before .before .before .before .before .before .before .before .before .resolve .kept .1 .1 .1 .1 .1 .0
 
 pub returns-5 : (t : ℕ) → expression-select-lts.Need-returns-5 (expression-select-claims t) (expression-select-at t) expression-select-reads.Post
 returns-5 t c = select-chosen _ _ _ (world (now (c .before .before .before .before .before .before .before .before .before .before .before .before .before .before .before .before .before .before .before .before .before .before .before .before .before .before .before .before .before .before .before .before .before .before .before .before .before .before .before .before .before .before .before .before .before .before .before .before .args .store)) (now (c .before .before .before .before .before .before .before .before .before .before .before .before .before .before .before .before .before .before .before .before .before .before .before .before .before .before .before .before .before .before .before .before .before .before .before .before .before .before .before .before .before .before .before .before .before .before .before .before .args .text)) (now (c .before .before .before .before .before .before .before .before .before .before .before .before .before .before .before .before .before .before .before .before .before .before .before .before .before .before .before .before .before .before .before .before .before .before .before .before .before .before .before .before .before .before .before .before .before .before .before .before .args .list)) (now (c .before .before .before .before .before .before .before .before .before .before .before .before .before .before .before .before .before .before .before .before .before .before .before .before .before .before .before .before .before .before .before .before .before .before .before .before .before .before .before .before .before .before .before .before .before .before .before .before .args .work)) (now (c .before .before .before .before .before .before .before .before .before .before .before .before .before .before .before .before .before .before .before .before .before .before .before .before .before .before .before .before .before .before .before .before .before .before .before .before .before .before .before .before .before .before .before .before .before .before .before .before .args .trail)) (progressOf (now (c .before .before .before .before .before .before .before .before .before .before .before .before .before .before .before .before .before .before .before .before .before .before .before .before .before .before .before .before .before .before .before .before .before .before .before .before .before .before .before .before .before .before .before .before .before .before .before .before .args .st)))) _ _ (c .before .before .before .before .before .before .before .before .before .before .before .before .before .before .before .before .before .before .before .before .before .before .before .before .before .before .before .before .before .before .before .before .before .resolve .ensures) (c .before .before .before .before .before .before .before .before .before .before .before .before .before .before .before .before .before .before .before .before .before .before .before .set-back .ensures) (inline-passed _ _ _ (c .before .before .before .before .before .before .before .before .before .before .before .before .before .before .before .before .before .before .before .before .before .before .skip-expression .ensures)) _ (c .before .before .before .before .before .before .before .before .before .before .before .before .before .before .before .before .before .before .before .before .q .given .1) (c .before .before .before .before .before .before .before .before .before .before .before .before .before .before .before .before .choose .ensures) (c .before .before .before .before .before .before .before .before .before .before .before .before .before .before .to .given .1) (c .before .before .before .before .before .before .write .ensures)

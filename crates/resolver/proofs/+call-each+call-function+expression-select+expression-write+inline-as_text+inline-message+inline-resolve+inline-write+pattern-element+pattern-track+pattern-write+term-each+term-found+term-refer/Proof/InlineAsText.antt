@@ -28,13 +28,13 @@ pub keep-text-requires : (t : ℕ) → inline-as-text-lts.Need-keep-text-require
 keep-text-requires t c κs = search needs
 
 pub same-length : (t : ℕ) → inline-as-text-lts.Need-same-length (inline-as-text-claims t) (inline-as-text-at t) inline-as-text-reads.Post
-same-length t c = c .before .before .before .before .before .before .before .before .before .before .before .before .message .kept .1 .1 .0
+same-length t c = c .before .before .before .before .before .before .before .before .before .before .before .before .message .kept .1 .1 .1 .0
 
 pub same-length-2 : (t : ℕ) → inline-as-text-lts.Need-same-length-2 (inline-as-text-claims t) (inline-as-text-at t) inline-as-text-reads.Post
-same-length-2 t c = c .before .before .before .before .before .before .before .before .before .before .before .before .message .kept .1 .1 .1 .0
+same-length-2 t c = c .before .before .before .before .before .before .before .before .before .before .before .before .message .kept .1 .1 .1 .1 .0
 
 pub same-length-3 : (t : ℕ) → inline-as-text-lts.Need-same-length-3 (inline-as-text-claims t) (inline-as-text-at t) inline-as-text-reads.Post
-same-length-3 t c = c .before .before .keep-text .kept .0 ∙ c .before .before .before .before .before .before .before .before .before .before .before .before .message .kept .1 .1 .1 .1 .0
+same-length-3 t c = c .before .before .keep-text .kept .0 ∙ c .before .before .before .before .before .before .before .before .before .before .before .before .message .kept .1 .1 .1 .1 .1 .0
 
 pub returns : (t : ℕ) → inline-as-text-lts.Need-returns (inline-as-text-claims t) (inline-as-text-at t) inline-as-text-reads.Post
 returns t c = λ hb ht. c .before .before .keep-text .ensures .kept _ _ _ (now (c .before .before .before .before .before .before .before .before .before .before .before .before .before .before .before .before .before .before .before .before .before .before .before .before .before .before .before .before .before .args .text)) (now (c .before .before .before .before .before .before .before .before .before .before .before .before .before .before .before .before .before .before .before .before .before .before .before .before .before .before .before .before .before .args .list)) (now (c .before .before .before .before .before .before .before .before .before .before .before .before .before .before .before .before .before .before .before .before .before .before .before .before .before .before .before .before .before .args .work)) (now (c .before .before .before .before .before .before .before .before .before .before .before .before .before .before .before .before .before .before .before .before .before .before .before .before .before .before .before .before .before .args .trail)) (progressOf (now (c .before .before .before .before .before .before .before .before .before .before .before .before .before .before .before .before .before .before .before .before .before .before .before .before .before .before .before .before .before .args .st))) (c .before .before .before .before .before .before .before .before .before .before .before .before .before .before .before .before .before .before .before .before .set-aside .ensures) _ _ _ _ (inline-message _ _ _ _ _ hb (c .before .before .before .before .before .before .before .before .before .before .before .before .before .before .before .before .before .before .before .if1 .taken) (c .before .before .before .before .before .before .before .before .before .before .before .before .message .ensures)) refl refl
@@ -52,13 +52,13 @@ pub keep-text-requires-2 : (t : ℕ) → inline-as-text-lts.Need-keep-text-requi
 keep-text-requires-2 t c κs = search needs
 
 pub same-length-4 : (t : ℕ) → inline-as-text-lts.Need-same-length-4 (inline-as-text-claims t) (inline-as-text-at t) inline-as-text-reads.Post
-same-length-4 t c = c .before .before .before .before .before .before .before .before .before .before .before .before .refer .kept .1 .1 .0
+same-length-4 t c = c .before .before .before .before .before .before .before .before .before .before .before .before .refer .kept .1 .1 .1 .0
 
 pub same-length-5 : (t : ℕ) → inline-as-text-lts.Need-same-length-5 (inline-as-text-claims t) (inline-as-text-at t) inline-as-text-reads.Post
-same-length-5 t c = c .before .before .before .before .before .before .before .before .before .before .before .before .refer .kept .1 .1 .1 .0
+same-length-5 t c = c .before .before .before .before .before .before .before .before .before .before .before .before .refer .kept .1 .1 .1 .1 .0
 
 pub same-length-6 : (t : ℕ) → inline-as-text-lts.Need-same-length-6 (inline-as-text-claims t) (inline-as-text-at t) inline-as-text-reads.Post
-same-length-6 t c = c .before .before .keep-text2 .kept .0 ∙ c .before .before .before .before .before .before .before .before .before .before .before .before .refer .kept .1 .1 .1 .1 .0
+same-length-6 t c = c .before .before .keep-text2 .kept .0 ∙ c .before .before .before .before .before .before .before .before .before .before .before .before .refer .kept .1 .1 .1 .1 .1 .0
 
 pub returns-3 : (t : ℕ) → inline-as-text-lts.Need-returns-3 (inline-as-text-claims t) (inline-as-text-at t) inline-as-text-reads.Post
 returns-3 t c = λ hb ht. c .before .before .keep-text2 .ensures .kept _ _ _ (now (c .before .before .before .before .before .before .before .before .before .before .before .before .before .before .before .before .before .before .before .before .before .before .before .before .before .before .before .before .before .before .before .args .text)) (now (c .before .before .before .before .before .before .before .before .before .before .before .before .before .before .before .before .before .before .before .before .before .before .before .before .before .before .before .before .before .before .before .args .list)) (now (c .before .before .before .before .before .before .before .before .before .before .before .before .before .before .before .before .before .before .before .before .before .before .before .before .before .before .before .before .before .before .before .args .work)) (now (c .before .before .before .before .before .before .before .before .before .before .before .before .before .before .before .before .before .before .before .before .before .before .before .before .before .before .before .before .before .before .before .args .trail)) (progressOf (now (c .before .before .before .before .before .before .before .before .before .before .before .before .before .before .before .before .before .before .before .before .before .before .before .before .before .before .before .before .before .before .before .args .st))) (c .before .before .before .before .before .before .before .before .before .before .before .before .before .before .before .before .before .before .before .before .before .before .set-aside .ensures) _ _ _ _ (inline-term _ _ _ _ _ hb (c .before .before .before .before .before .before .before .before .before .before .before .before .before .before .before .before .before .before .before .if3 .taken) (c .before .before .before .before .before .before .before .before .before .before .before .before .refer .ensures)) refl refl
@@ -73,13 +73,13 @@ pub keep-text-requires-3 : (t : ℕ) → inline-as-text-lts.Need-keep-text-requi
 keep-text-requires-3 t c κs = search needs
 
 pub same-length-7 : (t : ℕ) → inline-as-text-lts.Need-same-length-7 (inline-as-text-claims t) (inline-as-text-at t) inline-as-text-reads.Post
-same-length-7 t c = c .before .before .before .before .before .before .before .before .before .before .before .before .write .kept .1 .1 .0
+same-length-7 t c = c .before .before .before .before .before .before .before .before .before .before .before .before .write .kept .1 .1 .1 .0
 
 pub same-length-8 : (t : ℕ) → inline-as-text-lts.Need-same-length-8 (inline-as-text-claims t) (inline-as-text-at t) inline-as-text-reads.Post
-same-length-8 t c = c .before .before .before .before .before .before .before .before .before .before .before .before .write .kept .1 .1 .1 .0
+same-length-8 t c = c .before .before .before .before .before .before .before .before .before .before .before .before .write .kept .1 .1 .1 .1 .0
 
 pub same-length-9 : (t : ℕ) → inline-as-text-lts.Need-same-length-9 (inline-as-text-claims t) (inline-as-text-at t) inline-as-text-reads.Post
-same-length-9 t c = c .before .before .keep-text3 .kept .0 ∙ c .before .before .before .before .before .before .before .before .before .before .before .before .write .kept .1 .1 .1 .1 .0
+same-length-9 t c = c .before .before .keep-text3 .kept .0 ∙ c .before .before .before .before .before .before .before .before .before .before .before .before .write .kept .1 .1 .1 .1 .1 .0
 
 pub returns-4 : (t : ℕ) → inline-as-text-lts.Need-returns-4 (inline-as-text-claims t) (inline-as-text-at t) inline-as-text-reads.Post
 returns-4 t c = λ hb ht. c .before .before .keep-text3 .ensures .kept _ _ _ (now (c .before .before .before .before .before .before .before .before .before .before .before .before .before .before .before .before .before .before .before .before .before .before .before .before .before .before .before .before .before .before .before .args .text)) (now (c .before .before .before .before .before .before .before .before .before .before .before .before .before .before .before .before .before .before .before .before .before .before .before .before .before .before .before .before .before .before .before .args .list)) (now (c .before .before .before .before .before .before .before .before .before .before .before .before .before .before .before .before .before .before .before .before .before .before .before .before .before .before .before .before .before .before .before .args .work)) (now (c .before .before .before .before .before .before .before .before .before .before .before .before .before .before .before .before .before .before .before .before .before .before .before .before .before .before .before .before .before .before .before .args .trail)) (progressOf (now (c .before .before .before .before .before .before .before .before .before .before .before .before .before .before .before .before .before .before .before .before .before .before .before .before .before .before .before .before .before .before .before .args .st))) (c .before .before .before .before .before .before .before .before .before .before .before .before .before .before .before .before .before .before .before .before .before .before .set-aside .ensures) _ _ _ _ (inline-nested _ _ _ _ _ hb (text-tag _ ht (λ q. absurd (c .before .before .before .before .before .before .before .before .before .before .before .before .before .before .before .before .before .before .before .before .before .if1 .left q)) (λ q. absurd (c .before .before .before .before .before .before .before .before .before .before .before .before .before .before .before .before .before .before .before .if3 .left q)) (λ q. q)) (c .before .before .before .before .before .before .before .before .before .before .before .before .write .ensures)) refl refl

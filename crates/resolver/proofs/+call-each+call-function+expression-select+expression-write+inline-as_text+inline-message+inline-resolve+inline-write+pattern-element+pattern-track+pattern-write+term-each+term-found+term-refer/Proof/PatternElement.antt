@@ -126,13 +126,13 @@ pub put-pdi-requires : (t : ℕ) → pattern-element-lts.Need-put-pdi-requires (
 put-pdi-requires t c κs = search needs
 
 pub same-length-4 : (t : ℕ) → pattern-element-lts.Need-same-length-4 (pattern-element-claims t) (pattern-element-at t) pattern-element-reads.Post
-same-length-4 t c = c .before .before .before .before .put-pdi .kept .0 ∙ c .before .before .before .before .before .before .before .before .before .before .before .before .put-cut .kept .1 .0 ∙ c .before .before .before .before .before .before .before .before .before .before .before .before .before .before .before .before .before .before .before .before .before .before .write .kept .1 .1 .0 ∙ c .before .before .before .before .before .before .before .before .before .before .before .before .before .before .before .before .before .before .before .before .before .before .before .before .before .before .before .before .before .before .before .before .before .put-fsi .kept .0
+same-length-4 t c = c .before .before .before .before .put-pdi .kept .0 ∙ c .before .before .before .before .before .before .before .before .before .before .before .before .put-cut .kept .1 .0 ∙ c .before .before .before .before .before .before .before .before .before .before .before .before .before .before .before .before .before .before .before .before .before .before .write .kept .1 .1 .1 .0 ∙ c .before .before .before .before .before .before .before .before .before .before .before .before .before .before .before .before .before .before .before .before .before .before .before .before .before .before .before .before .before .before .before .before .before .put-fsi .kept .0
 
 pub same-length-5 : (t : ℕ) → pattern-element-lts.Need-same-length-5 (pattern-element-claims t) (pattern-element-at t) pattern-element-reads.Post
 same-length-5 t c = search needs
 
 pub same-length-6 : (t : ℕ) → pattern-element-lts.Need-same-length-6 (pattern-element-claims t) (pattern-element-at t) pattern-element-reads.Post
-same-length-6 t c = c .before .before .before .before .put-pdi .kept .1 .0 ∙ c .before .before .before .before .before .before .before .before .before .before .before .before .put-cut .kept .1 .1 .0 ∙ c .before .before .before .before .before .before .before .before .before .before .before .before .before .before .before .before .before .before .before .before .before .before .write .kept .1 .1 .1 .1 .0 ∙ c .before .before .before .before .before .before .before .before .before .before .before .before .before .before .before .before .before .before .before .before .before .before .before .before .before .before .before .before .before .before .before .before .before .put-fsi .kept .1 .0
+same-length-6 t c = c .before .before .before .before .put-pdi .kept .1 .0 ∙ c .before .before .before .before .before .before .before .before .before .before .before .before .put-cut .kept .1 .1 .0 ∙ c .before .before .before .before .before .before .before .before .before .before .before .before .before .before .before .before .before .before .before .before .before .before .write .kept .1 .1 .1 .1 .1 .0 ∙ c .before .before .before .before .before .before .before .before .before .before .before .before .before .before .before .before .before .before .before .before .before .before .before .before .before .before .before .before .before .before .before .before .before .put-fsi .kept .1 .0
 
 pub returns-8 : (t : ℕ) → pattern-element-lts.Need-returns-8 (pattern-element-claims t) (pattern-element-at t) pattern-element-reads.Post
 returns-8 t c =

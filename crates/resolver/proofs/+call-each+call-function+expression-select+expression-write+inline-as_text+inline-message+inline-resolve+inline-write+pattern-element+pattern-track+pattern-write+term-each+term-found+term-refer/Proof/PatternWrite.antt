@@ -3,7 +3,7 @@ use Prim.Native.Nat.{_≤_, ℕ}
 use Rattle.heads.proofs.Heads.{isolating-is}
 use Rattle.records.proofs.Views.{num-is, num-none}
 use Rattle.resolver.proofs.Elements.{elements-more, elements-none, elements-stop, pattern-all, pattern-none, pattern-worse}
-use Rattle.resolver.specs.Relations.Meets.{World, env, world}
+use Rattle.resolver.specs.Relations.Meets.{lent, World, env, world}
 use Rattle.resolver.specs.Relations.Members.{ElementsAt}
 use Rattle.state.specs.Progress.{progressOf}
 use Rattle.walks.proofs.Passing.{element-passed}
@@ -18,12 +18,12 @@ use Rattle.resolver.proofs.+call-each+call-function+expression-select+e
 use Rattle.resolver.proofs.+call-each+call-function+expression-select+expression-write+inline-as_text+inline-message+inline-resolve+inline-write+pattern-element+pattern-track+pattern-write+term-each+term-found+term-refer.Proof.Base.{pattern-write-at, pattern-write-claims}
 
 abbrev pub Inv-loop : pattern-write-lts.InvT-loop
-Inv-loop store args text₀ list₀ work₀ trail₀ st₀ value₀ left at a n start iso p₀ i₀ text list work trail st value p i =
+Inv-loop store args places text₀ list₀ work₀ trail₀ st₀ value₀ left at a n start iso p₀ i₀ text list work trail st value p i =
     (length text ≡ length text₀) × (length list ≡ length list₀) × (length work ≡ length work₀) × (progressOf st₀ .begun ≤ progressOf st .begun)
-    × ((v : World) → ElementsAt (env store args) left iso i p (world store text list work trail (progressOf st)) v → ElementsAt (env store args) left iso i₀ p₀ (world store text₀ list₀ work₀ trail₀ (progressOf st₀)) v)
+    × ((v : World) → ElementsAt (env store (lent args places)) left iso i p (world store text list work trail (progressOf st)) v → ElementsAt (env store (lent args places)) left iso i₀ p₀ (world store text₀ list₀ work₀ trail₀ (progressOf st₀)) v)
 
 abbrev pub μ-loop : pattern-write-lts.MeasureT-loop
-μ-loop store args text₀ list₀ work₀ trail₀ st₀ value₀ left at a n start iso p₀ i₀ text list work trail st value p i = i
+μ-loop store args places text₀ list₀ work₀ trail₀ st₀ value₀ left at a n start iso p₀ i₀ text list work trail st value p i = i
 
 pub read-u32-requires : (t : ℕ) → pattern-write-lts.Need-read-u32-requires (pattern-write-claims t) (pattern-write-at t) pattern-write-reads.Post Inv-loop μ-loop
 read-u32-requires t c κs = search needs
@@ -68,13 +68,13 @@ pub enum-told-3 : (t : ℕ) → pattern-write-lts.Need-enum-told-3 (pattern-writ
 enum-told-3 t c = search needs
 
 pub same-length : (t : ℕ) → pattern-write-lts.Need-same-length (pattern-write-claims t) (pattern-write-at t) pattern-write-reads.Post Inv-loop μ-loop
-same-length t c = c .before .before .before .before .before .before .before .before .before .element .kept .1 .1 .0 ∙ c .before .before .before .before .before .before .before .before .before .before .before .before .before .before .before .before .before .loop .inv .0
+same-length t c = c .before .before .before .before .before .before .before .before .before .element .kept .1 .1 .1 .0 ∙ c .before .before .before .before .before .before .before .before .before .before .before .before .before .before .before .before .before .loop .inv .0
 
 pub same-length-2 : (t : ℕ) → pattern-write-lts.Need-same-length-2 (pattern-write-claims t) (pattern-write-at t) pattern-write-reads.Post Inv-loop μ-loop
-same-length-2 t c = c .before .before .before .before .before .before .before .before .before .element .kept .1 .1 .1 .0 ∙ c .before .before .before .before .before .before .before .before .before .before .before .before .before .before .before .before .before .loop .inv .1
+same-length-2 t c = c .before .before .before .before .before .before .before .before .before .element .kept .1 .1 .1 .1 .0 ∙ c .before .before .before .before .before .before .before .before .before .before .before .before .before .before .before .before .before .loop .inv .1
 
 pub same-length-3 : (t : ℕ) → pattern-write-lts.Need-same-length-3 (pattern-write-claims t) (pattern-write-at t) pattern-write-reads.Post Inv-loop μ-loop
-same-length-3 t c = c .before .before .before .before .before .before .before .before .before .element .kept .1 .1 .1 .1 .0 ∙ c .before .before .before .before .before .before .before .before .before .before .before .before .before .before .before .before .before .loop .inv .2
+same-length-3 t c = c .before .before .before .before .before .before .before .before .before .element .kept .1 .1 .1 .1 .1 .0 ∙ c .before .before .before .before .before .before .before .before .before .before .before .before .before .before .before .before .before .loop .inv .2
 
 pub returns-3 : (t : ℕ) → pattern-write-lts.Need-returns-3 (pattern-write-claims t) (pattern-write-at t) pattern-write-reads.Post Inv-loop μ-loop
 returns-3 t c = pattern-all _ _ _ _ _ _ _ _ (num-is (c .before .before .before .before .before .before .before .before .before .before .before .before .before .before .before .before .before .before .before .before .before .before .before .before .before .before .read-u32 .ensures) (c .before .before .before .before .before .before .before .before .before .before .before .before .before .before .before .before .before .before .before .before .before .before .before .before .a .given .1)) (num-is (c .before .before .before .before .before .before .before .before .before .before .before .before .before .before .before .before .before .before .before .before .before .before .read-u16 .ensures) (c .before .before .before .before .before .before .before .before .before .before .before .before .before .before .before .before .before .before .before .before .n .given .1)) (isolating-is _ _ (c .before .before .before .before .before .before .before .before .before .before .before .before .before .before .before .before .before .before .isolates .ensures)) (c .before .before .before .before .before .before .before .before .before .before .before .before .before .before .before .before .before .loop .inv .4 _ (elements-stop _ _ _ _ _ (c .before .before .before .before .before .before .before .before .before .before .before .before .before .before .before .before .loop-test .taken) (c .before .before .before .before .before .before .before .before .before .element .ensures) (element-passed _ _ _ (c .before .before .skip-element .ensures)) (c .enum-told3 .given .1)))
@@ -87,9 +87,9 @@ loop-less t c = omega arith
 
 pub loop-again : (t : ℕ) → pattern-write-lts.Need-loop-again (pattern-write-claims t) (pattern-write-at t) pattern-write-reads.Post Inv-loop μ-loop
 loop-again t c = (
-  c .before .before .before .before .before .before .before .before .before .before .element .kept .1 .1 .0 ∙ c .before .before .before .before .before .before .before .before .before .before .before .before .before .before .before .before .before .before .loop .inv .0,
-  c .before .before .before .before .before .before .before .before .before .before .element .kept .1 .1 .1 .0 ∙ c .before .before .before .before .before .before .before .before .before .before .before .before .before .before .before .before .before .before .loop .inv .1,
-  c .before .before .before .before .before .before .before .before .before .before .element .kept .1 .1 .1 .1 .0 ∙ c .before .before .before .before .before .before .before .before .before .before .before .before .before .before .before .before .before .before .loop .inv .2,
+  c .before .before .before .before .before .before .before .before .before .before .element .kept .1 .1 .1 .0 ∙ c .before .before .before .before .before .before .before .before .before .before .before .before .before .before .before .before .before .before .loop .inv .0,
+  c .before .before .before .before .before .before .before .before .before .before .element .kept .1 .1 .1 .1 .0 ∙ c .before .before .before .before .before .before .before .before .before .before .before .before .before .before .before .before .before .before .loop .inv .1,
+  c .before .before .before .before .before .before .before .before .before .before .element .kept .1 .1 .1 .1 .1 .0 ∙ c .before .before .before .before .before .before .before .before .before .before .before .before .before .before .before .before .before .before .loop .inv .2,
   le-trans (c .before .before .before .before .before .before .before .before .before .before .before .before .before .before .before .before .before .before .loop .inv .3) (c .before .before .before .before .before .before .before .before .before .before .element .ensures .kept .begun),
   λ v h. c .before .before .before .before .before .before .before .before .before .before .before .before .before .before .before .before .before .before .loop .inv .4 v (elements-more _ _ _ _ _ (c .before .before .before .before .before .before .before .before .before .before .before .before .before .before .before .before .before .loop-test .taken) (c .before .before .before .before .before .before .before .before .before .before .element .ensures) (element-passed _ _ _ (c .before .before .before .skip-element .ensures)) (c .before .q .given .1) v h),
 )

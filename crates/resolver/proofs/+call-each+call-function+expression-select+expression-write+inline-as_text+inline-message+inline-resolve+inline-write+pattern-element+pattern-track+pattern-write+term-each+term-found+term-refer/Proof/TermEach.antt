@@ -3,7 +3,7 @@ use Prim.Native.Nat.{_≤_, ℕ}
 use Rattle.records.proofs.Views.{num-is, num-none}
 use Rattle.resolver.proofs.Calls.{InlinesAt, Taken, inlines-more, inlines-none, inlines-stop, none-yet, positional-all, positional-none}
 use Rattle.resolver.proofs.Parts.{positional-as, positional-stop, taken-next}
-use Rattle.resolver.specs.Relations.Meets.{World, env, world}
+use Rattle.resolver.specs.Relations.Meets.{lent, World, env, world}
 use Rattle.state.specs.Progress.{progressOf}
 use Rattle.walks.proofs.Passing.{inline-passed}
 use borrow.Author.Needs.{needs}
@@ -19,13 +19,13 @@ use Rattle.resolver.proofs.+call-each+call-function+expression-select+e
 use Rattle.resolver.proofs.+call-each+call-function+expression-select+expression-write+inline-as_text+inline-message+inline-resolve+inline-write+pattern-element+pattern-track+pattern-write+term-each+term-found+term-refer.Proof.Base.{term-each-at, term-each-claims}
 
 abbrev pub Inv-loop : term-each-lts.InvT-loop
-Inv-loop store args text₀ list₀ work₀ trail₀ st₀ value₀ left at n start p₀ i₀ text list work trail st value p i =
+Inv-loop store args places text₀ list₀ work₀ trail₀ st₀ value₀ left at n start p₀ i₀ text list work trail st value p i =
     (length text ≡ length text₀) × (length list ≡ length list₀) × (length work ≡ length work₀) × (progressOf st₀ .begun ≤ progressOf st .begun)
-    × ((first : code-value.Value) × Taken (env store args) left i₀ p₀ (world store text₀ list₀ work₀ trail₀ (progressOf st₀)) i p first (world store text list work trail (progressOf st)))
-    × ((v : World) (end : ℕ) → InlinesAt (env store args) left i p (world store text list work trail (progressOf st)) v end → InlinesAt (env store args) left i₀ p₀ (world store text₀ list₀ work₀ trail₀ (progressOf st₀)) v end)
+    × ((first : code-value.Value) × Taken (env store (lent args places)) left i₀ p₀ (world store text₀ list₀ work₀ trail₀ (progressOf st₀)) i p first (world store text list work trail (progressOf st)))
+    × ((v : World) (end : ℕ) → InlinesAt (env store (lent args places)) left i p (world store text list work trail (progressOf st)) v end → InlinesAt (env store (lent args places)) left i₀ p₀ (world store text₀ list₀ work₀ trail₀ (progressOf st₀)) v end)
 
 abbrev pub μ-loop : term-each-lts.MeasureT-loop
-μ-loop store args text₀ list₀ work₀ trail₀ st₀ value₀ left at n start p₀ i₀ text list work trail st value p i = i
+μ-loop store args places text₀ list₀ work₀ trail₀ st₀ value₀ left at n start p₀ i₀ text list work trail st value p i = i
 
 pub read-u16-requires : (t : ℕ) → term-each-lts.Need-read-u16-requires (term-each-claims t) (term-each-at t) term-each-reads.Post Inv-loop μ-loop
 read-u16-requires t c κs = search needs
@@ -55,13 +55,13 @@ pub enum-told-2 : (t : ℕ) → term-each-lts.Need-enum-told-2 (term-each-claims
 enum-told-2 t c = search needs
 
 pub same-length : (t : ℕ) → term-each-lts.Need-same-length (term-each-claims t) (term-each-at t) term-each-reads.Post Inv-loop μ-loop
-same-length t c = c .before .before .before .before .before .before .before .before .before .resolve .kept .1 .1 .0 ∙ c .before .before .before .before .before .before .before .before .before .before .before .before .before .before .before .before .before .loop .inv .0
+same-length t c = c .before .before .before .before .before .before .before .before .before .resolve .kept .1 .1 .1 .0 ∙ c .before .before .before .before .before .before .before .before .before .before .before .before .before .before .before .before .before .loop .inv .0
 
 pub same-length-2 : (t : ℕ) → term-each-lts.Need-same-length-2 (term-each-claims t) (term-each-at t) term-each-reads.Post Inv-loop μ-loop
-same-length-2 t c = c .before .before .before .before .before .before .before .before .before .resolve .kept .1 .1 .1 .0 ∙ c .before .before .before .before .before .before .before .before .before .before .before .before .before .before .before .before .before .loop .inv .1
+same-length-2 t c = c .before .before .before .before .before .before .before .before .before .resolve .kept .1 .1 .1 .1 .0 ∙ c .before .before .before .before .before .before .before .before .before .before .before .before .before .before .before .before .before .loop .inv .1
 
 pub same-length-3 : (t : ℕ) → term-each-lts.Need-same-length-3 (term-each-claims t) (term-each-at t) term-each-reads.Post Inv-loop μ-loop
-same-length-3 t c = c .before .before .before .before .before .before .before .before .before .resolve .kept .1 .1 .1 .1 .0 ∙ c .before .before .before .before .before .before .before .before .before .before .before .before .before .before .before .before .before .loop .inv .2
+same-length-3 t c = c .before .before .before .before .before .before .before .before .before .resolve .kept .1 .1 .1 .1 .1 .0 ∙ c .before .before .before .before .before .before .before .before .before .before .before .before .before .before .before .before .before .loop .inv .2
 
 pub returns-2 : (t : ℕ) → term-each-lts.Need-returns-2 (term-each-claims t) (term-each-at t) term-each-reads.Post Inv-loop μ-loop
 returns-2 t c = (val.Wrong, positional-stop _ _ _ (num-is (c .before .before .before .before .before .before .before .before .before .before .before .before .before .before .before .before .before .before .before .before .before .read-u16 .ensures) (c .before .before .before .before .before .before .before .before .before .before .before .before .before .before .before .before .before .before .before .n .given .1)) (λ end. c .before .before .before .before .before .before .before .before .before .before .before .before .before .before .before .before .before .loop .inv .5 _ end (inlines-stop _ _ _ _ (c .before .before .before .before .before .before .before .before .before .before .before .before .before .before .before .before .loop-test .taken) (c .before .before .before .before .before .before .before .before .before .resolve .ensures) (inline-passed _ _ _ (c .before .before .skip-expression .ensures)) (c .enum-told2 .given .1) end)) _ _)
@@ -74,9 +74,9 @@ loop-less t c = omega arith
 
 pub loop-again : (t : ℕ) → term-each-lts.Need-loop-again (term-each-claims t) (term-each-at t) term-each-reads.Post Inv-loop μ-loop
 loop-again t c = (
-  c .before .before .before .before .before .before .before .before .before .before .resolve .kept .1 .1 .0 ∙ c .before .before .before .before .before .before .before .before .before .before .before .before .before .before .before .before .before .before .loop .inv .0,
-  c .before .before .before .before .before .before .before .before .before .before .resolve .kept .1 .1 .1 .0 ∙ c .before .before .before .before .before .before .before .before .before .before .before .before .before .before .before .before .before .before .loop .inv .1,
-  c .before .before .before .before .before .before .before .before .before .before .resolve .kept .1 .1 .1 .1 .0 ∙ c .before .before .before .before .before .before .before .before .before .before .before .before .before .before .before .before .before .before .loop .inv .2,
+  c .before .before .before .before .before .before .before .before .before .before .resolve .kept .1 .1 .1 .0 ∙ c .before .before .before .before .before .before .before .before .before .before .before .before .before .before .before .before .before .before .loop .inv .0,
+  c .before .before .before .before .before .before .before .before .before .before .resolve .kept .1 .1 .1 .1 .0 ∙ c .before .before .before .before .before .before .before .before .before .before .before .before .before .before .before .before .before .before .loop .inv .1,
+  c .before .before .before .before .before .before .before .before .before .before .resolve .kept .1 .1 .1 .1 .1 .0 ∙ c .before .before .before .before .before .before .before .before .before .before .before .before .before .before .before .before .before .before .loop .inv .2,
   le-trans (c .before .before .before .before .before .before .before .before .before .before .before .before .before .before .before .before .before .before .loop .inv .3) (c .before .before .before .before .before .before .before .before .before .before .resolve .ensures .kept .begun),
   taken-next _ (c .before .before .before .before .before .before .before .before .before .before .before .before .before .before .before .before .before .loop-test .taken) (c .before .before .before .before .before .before .before .before .before .before .before .before .before .before .before .before .before .before .loop .inv .4 .1) (c .before .before .before .before .before .before .before .before .before .before .resolve .ensures),
   λ v e h. c .before .before .before .before .before .before .before .before .before .before .before .before .before .before .before .before .before .before .loop .inv .5 v e (inlines-more _ _ _ _ (c .before .before .before .before .before .before .before .before .before .before .before .before .before .before .before .before .before .loop-test .taken) (c .before .before .before .before .before .before .before .before .before .before .resolve .ensures) (inline-passed _ _ _ (c .before .before .before .skip-expression .ensures)) (c .before .q .given .1) v e h),

@@ -17,16 +17,16 @@ resolve-requires : tie.Need-resolve-requires
 resolve-requires c κs = search needs
 
 same-length : tie.Need-same-length
-same-length c = c .before .before .before .before .before .before .resolve .kept .1 .1 .0
+same-length c = c .before .before .before .before .before .before .resolve .kept .1 .1 .1 .0
 
 same-length-2 : tie.Need-same-length-2
-same-length-2 c = c .before .before .before .before .before .before .resolve .kept .1 .1 .1 .0
+same-length-2 c = c .before .before .before .before .before .before .resolve .kept .1 .1 .1 .1 .0
 
 same-length-3 : tie.Need-same-length-3
-same-length-3 c = c .before .before .before .before .before .before .resolve .kept .1 .1 .1 .1 .0
+same-length-3 c = c .before .before .before .before .before .before .resolve .kept .1 .1 .1 .1 .1 .0
 
 returns : tie.Need-returns
-returns c = (record { text-size = c .before .before .before .before .before .before .resolve .kept .1 .1 .0; list-size = c .before .before .before .before .before .before .resolve .kept .1 .1 .1 .0; work-size = c .before .before .before .before .before .before .resolve .kept .1 .1 .1 .1 .0; runs = λ u p f hp k z r. run-on _ _ _ _ _ _ _ (ap length (c .before .before .before .before .before .before .before .before .before .before .before .before .before .enter .ensures .1)) (ap (λ (l : List ℕ). getD l 0 0) (c .before .before .before .before .before .before .before .before .before .before .before .before .before .enter .ensures .1)) (from-state (ap (scopedS (scopeOf (newS 0))) (c .before .before .before .before .before .before .before .before .before .before .before .before .before .enter .ensures .0)) (c .before .before .before .before .before .before .resolve .ensures .0)) k z r u p f hp }, c .before .before .before .before .before .before .resolve .ensures .1)
+returns c = (record { text-size = c .before .before .before .before .before .before .resolve .kept .1 .1 .1 .0; list-size = c .before .before .before .before .before .before .resolve .kept .1 .1 .1 .1 .0; work-size = c .before .before .before .before .before .before .resolve .kept .1 .1 .1 .1 .1 .0; runs = λ u p f hp k z r. run-on _ _ _ _ _ _ _ (ap length (c .before .before .before .before .before .before .before .before .before .before .before .before .before .enter .ensures .1)) (ap (λ (l : List ℕ). getD l 0 0) (c .before .before .before .before .before .before .before .before .before .before .before .before .before .enter .ensures .1)) (from-state (ap (scopedS (scopeOf (newS 0))) (c .before .before .before .before .before .before .before .before .before .before .before .before .before .enter .ensures .0)) (c .before .before .before .before .before .before .resolve .ensures .0)) k z r u p f hp }, c .before .before .before .before .before .before .resolve .ensures .1)
 
 pub run-on-spec : {M : Type 1} → statement M
 run-on-spec = tie.close (tie.spec enter-requires resolve-requires same-length same-length-2 same-length-3 returns)

@@ -15,7 +15,7 @@ enum-told : tie.Need-enum-told
 enum-told c = search needs
 
 returns : tie.Need-returns
-returns c = λ t left at tag w₀ hb is g. inline-uncalled _ _ _ _ _ hb is (str-bad _ _ (c .before .before .read-str .ensures) (c .enum-told .given .1)) g
+returns c = λ t q left at tag w₀ hb is g. inline-uncalled _ _ _ _ _ hb is (str-bad _ _ (c .before .before .read-str .ensures) (c .enum-told .given .1)) g
 
 write-result-requires : tie.Need-write-result-requires
 write-result-requires c κs = search needs
@@ -30,7 +30,7 @@ same-length-3 : tie.Need-same-length-3
 same-length-3 c = search needs
 
 returns-2 : tie.Need-returns-2
-returns-2 c = λ t left at tag w₀ hb is g. inline-called _ _ _ _ _ hb (c .before .before .before .before .before .before .before .before .before .before .before .before .before .before .read-str .ensures) (c .before .before .before .before .before .before .before .before .before .before .before .before .a .given .1) is g (c .before .before .before .before .before .before .write-result .ensures _)
+returns-2 c = λ t q left at tag w₀ hb is g. inline-called _ _ _ _ _ hb (c .before .before .before .before .before .before .before .before .before .before .before .before .before .before .read-str .ensures) (c .before .before .before .before .before .before .before .before .before .before .before .before .a .given .1) is g (c .before .before .before .before .before .before .write-result .ensures _ _)
 
 pub write-called-spec : {M : Type 1} → statement M
 write-called-spec = tie.close (tie.spec read-str-requires enum-known-a enum-told returns write-result-requires same-length same-length-2 same-length-3 returns-2)

@@ -24,10 +24,10 @@ same-length : tie.Need-same-length
 same-length c = search needs
 
 returns : tie.Need-returns
-returns c = λ x w t. resolve-missing _ _ _ _ x _ w t _ (c .before .before .before .before .before .before .before .before .before .text-of .ensures) (λ u L q k lv. c .before .before .before .before .before .before .before .find-variable .ensures u x _ w t L q k lv) (c .before .before .before .before .before .enum-told .given .1) (missing-acts (c .before .before .list-variable .ensures))
+returns c = λ x w t. resolve-missing _ _ _ _ _ x _ w t _ (c .before .before .before .before .before .before .before .before .before .text-of .ensures) (λ u L q k lv. c .before .before .before .before .before .before .before .find-variable .ensures u x _ w t L q k lv) (c .before .before .before .before .before .enum-told .given .1) (missing-acts (c .before .before .list-variable .ensures))
 
 returns-2 : tie.Need-returns-2
-returns-2 c = λ x w t. resolve-found _ _ _ _ x _ w t _ (c .before .before .before .before .before .text-of .ensures) (λ u L q k lv. c .before .before .before .find-variable .ensures u x _ w t L q k lv) (c .before .v .given .1)
+returns-2 c = λ x w t. resolve-found _ _ _ _ _ x _ w t _ (c .before .before .before .before .before .text-of .ensures) (λ u L q k lv. c .before .before .before .find-variable .ensures u x _ w t L q k lv) (c .before .v .given .1)
 
 pub resolve-variable-spec : {M : Type 1} → statement M
 resolve-variable-spec = tie.close (tie.spec text-of-requires find-variable-requires enum-known-v enum-told list-variable-requires same-length returns returns-2)

@@ -39,7 +39,7 @@ same-length-3 : tie.Need-same-length-3
 same-length-3 c = search needs
 
 returns : tie.Need-returns
-returns c = λ t. write-missing _ _ _ _ _ _ _ t _ (c .before .before .before .before .before .before .before .before .before .before .before .before .before .before .before .before .before .before .before .text-of .ensures) (λ u L q k lv. c .before .before .before .before .before .before .before .before .before .before .before .before .before .before .before .before .before .find-variable .ensures u _ _ _ t L q k lv) (c .before .before .before .before .before .before .before .before .before .before .before .before .before .before .before .enum-told .given .1) (missing-acts (c .before .before .before .before .before .before .before .before .before .before .before .before .list-variable .ensures)) (braced-acts _ _ _ (c .before .before .before .before .put-braced .ensures) _ _ t)
+returns c = λ t. write-missing _ _ _ _ _ _ _ _ t _ (c .before .before .before .before .before .before .before .before .before .before .before .before .before .before .before .before .before .before .before .text-of .ensures) (λ u L q k lv. c .before .before .before .before .before .before .before .before .before .before .before .before .before .before .before .before .before .find-variable .ensures u _ _ _ t L q k lv) (c .before .before .before .before .before .before .before .before .before .before .before .before .before .before .before .enum-told .given .1) (missing-acts (c .before .before .before .before .before .before .before .before .before .before .before .before .list-variable .ensures)) (braced-acts _ _ _ (c .before .before .before .before .put-braced .ensures) _ _ t)
 
 put-value-requires : tie.Need-put-value-requires
 put-value-requires c κs = search needs
@@ -51,7 +51,7 @@ same-length-5 : tie.Need-same-length-5
 same-length-5 c = search needs
 
 returns-2 : tie.Need-returns-2
-returns-2 c = λ t. write-found _ _ _ _ _ _ _ t _ (c .before .before .before .before .before .before .before .before .before .before .before .before .before .text-of .ensures) (λ u L q k lv. c .before .before .before .before .before .before .before .before .before .before .before .find-variable .ensures u _ _ _ t L q k lv) (c .before .before .before .before .before .before .before .before .before .v .given .1) (value-acts _ _ _ (c .before .before .before .before .put-value .ensures) .0 _ t) (λ y hy. value-acts _ _ _ (c .before .before .before .before .put-value .ensures) .1 y hy _ t)
+returns-2 c = λ t. write-found _ _ _ _ _ _ _ _ t _ (c .before .before .before .before .before .before .before .before .before .before .before .before .before .text-of .ensures) (λ u L q k lv. c .before .before .before .before .before .before .before .before .before .before .before .find-variable .ensures u _ _ _ t L q k lv) (c .before .before .before .before .before .before .before .before .before .v .given .1) (value-acts _ _ _ (c .before .before .before .before .put-value .ensures) .0 _ t) (λ y hy. value-acts _ _ _ (c .before .before .before .before .put-value .ensures) .1 y hy _ t)
 
 pub write-variable-spec : {M : Type 1} → statement M
 write-variable-spec = tie.close (tie.spec text-of-requires find-variable-requires enum-known-v enum-told list-variable-requires slice-aggregate-put-braced slice-aggregate-put-braced-2 put-braced-requires same-length same-length-2 same-length-3 returns put-value-requires same-length-4 same-length-5 returns-2)

@@ -1,0 +1,4 @@
+pub mod Order
+pub mod Accepted
+pub mod Sameness
+pub mod Relations

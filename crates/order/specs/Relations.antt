@@ -1,0 +1,2 @@
+-- Relations between what the code holds and the definitions: contracts and proofs cite them, no definition rests on them.
+pub mod Compared
