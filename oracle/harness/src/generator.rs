@@ -1,4 +1,5 @@
-//! Seeded bundles, arguments and cases, always well-formed by document 01.
+//! Seeded bundles, arguments and cases, always well-formed by document 01, and
+//! arguments in the form that document 02 accepts.
 
 mod calls;
 mod chains;
@@ -10,7 +11,7 @@ mod sheet;
 mod unmarked;
 mod words;
 
-use crate::case::{Bundle, Case, Item, Value};
+use crate::case::{accepted, Bundle, Case, Item, Value};
 use crate::encode;
 use crate::model::lookup::holder;
 use crate::model::reader;
@@ -149,7 +150,7 @@ impl Maker {
     }
 
     pub fn arguments(&mut self) -> Vec<(String, Value)> {
-        (0..self.r.below(4))
+        let listed: Vec<_> = (0..self.r.below(4))
             .map(|_| {
                 let name = match self.r.one_in(3) {
                     true => "n".to_string(),
@@ -167,7 +168,8 @@ impl Maker {
                 };
                 (name, value)
             })
-            .collect()
+            .collect();
+        accepted(&listed)
     }
 }
 
