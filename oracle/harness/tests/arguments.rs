@@ -2,16 +2,16 @@
 //! by hand.
 #![forbid(unsafe_code)]
 
-use harness::case::{accepted, Value};
+use harness::case::{accepted, Bundle, Item, Value};
 use harness::model::arguments::{self, less};
 use harness::model::effects::Lengths;
 use harness::model::number::Decimal;
 use harness::model::operations;
-use harness::model::reader::Given;
+use harness::model::reader::{self, Given, Row};
 use harness::model::sheet::{format_sheet, prepare};
 use harness::order::{formattings, image, images, largest, sheets, store};
 use harness::vectors::images::Kind;
-use harness::{encode, rust};
+use harness::{encode, ftl, rust};
 
 fn answer(words: &str) -> u8 {
     arguments::accepted(&image(words)).err().unwrap_or(0)
@@ -214,10 +214,106 @@ fn every_sheet_by_hand() {
     }
 }
 
+/// Each image in a formatting, and in a sheet between two messages, with a list under
+/// 5 bytes and with a longer one.
+#[test]
+fn every_image_in_both() {
+    let row = |image: &[u8]| Row {
+        message: b"a".to_vec(),
+        attribute: None,
+        arguments: image.to_vec(),
+    };
+    for given in images() {
+        for list in [4, 100] {
+            let lengths = Lengths {
+                text: 100,
+                list,
+                workspace: 0,
+            };
+            // 13 and 19 come before 7 in a formatting
+            let prepared = operations::prepare(&store(), b"a", None, &given.bytes);
+            let said = operations::format(&prepared, lengths).err().unwrap_or(0);
+            let fine = if list < 5 { 7 } else { 0 };
+            let wanted = if given.answer > 0 { given.answer } else { fine };
+            assert_eq!(said, wanted, "{} {list}", given.words);
+            // and behind it in a sheet
+            if given.words.contains("+length") {
+                continue;
+            }
+            let rows = [row(&image("")), row(&given.bytes), row(&image(""))];
+            let prepared = prepare(&store(), &encode::sheet(&rows));
+            let (said, after) = lent(lengths, |text, list, work| {
+                let done = format_sheet(&prepared, text, list, work);
+                done.err().unwrap_or(0)
+            });
+            let wanted = if list < 5 { 7 } else { given.answer };
+            assert_eq!(said, wanted, "{} {list}", given.words);
+            if said > 0 {
+                let left = if list < 5 { 0xAA } else { 0 };
+                assert!(all(&after, left), "{} {list}", given.words);
+            }
+        }
+    }
+}
+
+/// Variables that are there and that are not, around each other.
+#[test]
+fn lookups_by_hand() {
+    let source = "a = { $A }{ $a }{ $a- }{ $aa }{ $ab }{ $b }{ $c }{ $z }";
+    let store = encode::store(&Bundle {
+        locale: 0,
+        isolating: false,
+        items: vec![Item::Plain(ftl::resource(source))],
+    });
+    for (words, text) in [
+        ("", "{$A}{$a}{$a-}{$aa}{$ab}{$b}{$c}{$z}"),
+        ("a=1/0 aa=x b=-25/1", "{$A}1{$a-}x{$ab}-2.5{$c}{$z}"),
+        ("A=x a aa=y c=-0/0", "x{$a-}y{$ab}{$b}-0{$z}"),
+        ("a-=x ab=y z=w", "{$A}{$a}x{$aa}y{$b}{$c}w"),
+        (
+            "A=1/0 a=2/0 a-=3/0 aa=4/0 ab=5/0 b=6/0 c=7/0 z=8/0",
+            "12345678",
+        ),
+        ("a-=x a0=y aaa=z b", "{$A}{$a}x{$aa}{$ab}{$c}{$z}"),
+    ] {
+        let prepared = operations::prepare(&store, b"a", None, &image(words));
+        let done = operations::format(&prepared, Lengths::AMPLE).expect("it finishes");
+        assert_eq!(std::str::from_utf8(&done.text), Ok(text), "{words}");
+        assert_eq!(done.errors, text.matches('{').count(), "{words}");
+    }
+}
+
+/// Names and values have one accepted image: read and written again it is the same
+/// bytes, and one that is refused with 19 is other bytes.
+#[test]
+fn one_image_for_names_and_values() {
+    let again = |bytes: &[u8]| {
+        let text = |bytes| String::from_utf8(bytes).expect("it was read as text");
+        let given = reader::arguments(bytes)
+            .expect("it is well-formed")
+            .into_iter();
+        let values = given.map(|(name, value)| match value {
+            Given::Text(bytes) => (text(name), Value::Text(text(bytes))),
+            Given::Number(decimal) => (text(name), Value::Number(decimal)),
+            Given::None => (text(name), Value::None),
+        });
+        encode::arguments(&values.collect::<Vec<_>>())
+    };
+    for image in images().iter().filter(|image| image.answer != 13) {
+        let written = again(&image.bytes);
+        assert!(arguments::accepted(&written).is_ok(), "{}", image.words);
+        assert_eq!(written == image.bytes, image.answer == 0, "{}", image.words);
+    }
+    // zero and minus zero are two values
+    assert_ne!(again(&image("n=0/0")), again(&image("n=-0/0")));
+    assert_eq!(again(&image("n=0/3")), image("n=0/0"));
+    assert_eq!(again(&image("n=-0/3")), image("n=-0/0"));
+}
+
 /// 4 and 18 come before what a message would meet.
 #[test]
 fn before_any_message() {
-    let row = |words: &str| harness::model::reader::Row {
+    let row = |words: &str| Row {
         message: b"a".to_vec(),
         attribute: None,
         arguments: image(words),

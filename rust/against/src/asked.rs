@@ -52,6 +52,14 @@ impl Asked {
         }
     }
 
+    /// How many bytes that image has.
+    pub fn length(&self) -> usize {
+        match self {
+            Self::Message { arguments, .. } => arguments.len(),
+            Self::Sheet(image) => image.len(),
+        }
+    }
+
     pub fn prepare(&self, store: &[u8]) -> Model {
         match self {
             Self::Message {

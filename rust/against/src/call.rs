@@ -100,7 +100,7 @@ impl Call {
         };
         let what = format!("left by {refusal}");
         match unchanged {
-            true => same(&what, after, before),
+            true => same(&what, after == before, true),
             false => same(&what, after.iter().all(|byte| *byte == 0), true),
         }
     }
@@ -108,7 +108,7 @@ impl Call {
     /// A difference, with the call that shows it, if that is short.
     fn named(&self, lengths: Lengths, difference: &str) -> String {
         let (store, asked) = (&self.store, &self.asked);
-        match store.len() < 1500 {
+        match store.len() + asked.length() < 3000 {
             true => format!("{lengths:?}: {difference}\n  {store:02x?}\n  {asked:02x?}"),
             false => format!("{lengths:?}: {difference}"),
         }

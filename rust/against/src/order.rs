@@ -101,8 +101,8 @@ impl Pair {
     /// that just fit; or is refused alike.
     fn accepted_form(&self, random: &mut Random, counts: &mut Counts) -> Result<(), String> {
         let Some((_, need)) = self.plain.model.need() else {
-            let answer = self.plain.answer(some(random), random, counts)?;
-            return same("refused", answer.err(), self.wanted.as_ref().err().copied());
+            same("it finishes", self.wanted.is_err(), true)?;
+            return self.plain.compare(some(random), random, counts);
         };
         let ample = Lengths {
             text: need.text + random.below(200),

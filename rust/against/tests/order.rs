@@ -44,7 +44,7 @@ fn worked_out_by_hand() {
     });
     let counts = counts.expect("nothing differs");
     for answer in [0, 4, 7, 8, 11, 12, 13, 15, 17, 19] {
-        assert!(counts.answers[answer] > 10, "{answer}");
+        assert!(counts.answers[answer] > 5, "{answer}");
     }
 }
 

@@ -176,6 +176,10 @@ impl Maker {
     fn asking_bundle(&mut self) -> Sheeted {
         let names = match self.r.below(30) {
             0 => names::any(&mut self.r),
+            1 => {
+                let count = 257 + self.r.below(600);
+                names::some(&mut self.r, count)
+            }
             count => names::some(&mut self.r, count),
         };
         let (bundle, places) = self.asking_for(&names);
