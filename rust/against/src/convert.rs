@@ -4,7 +4,6 @@
 use fluent_syntax::ast;
 use harness::bytes::Write;
 use harness::case::Value;
-use harness::model::number::Decimal;
 use weszlagyo::syntax::{
     Arguments, Element, Expression, Inline, Key, Literal, Pattern, Select, Variant,
 };
@@ -114,7 +113,7 @@ fn call(tree: &ast::CallArguments<String>) -> Arguments {
 pub fn arguments(from: &[(String, Value)]) -> FluentArgs<'_> {
     let value = |value| match value {
         &Value::Number(d) => {
-            let d: Decimal = d.shortest();
+            let d = d.shortest();
             let number = FluentNumber::new(d.negative, d.digits, d.scale);
             FluentValue::Number(number.expect("the generator's numbers have 15 digits"))
         }

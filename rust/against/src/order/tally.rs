@@ -47,6 +47,7 @@ impl Order {
         self.originals += u64::from(finished && original);
     }
 
+    /// What was counted elsewhere, too.
     pub fn add(&mut self, other: &Self) {
         for (sum, n) in self.listings.iter_mut().zip(other.listings) {
             *sum += n;

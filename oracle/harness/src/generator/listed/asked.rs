@@ -16,6 +16,7 @@ pub enum Place {
     Above,
 }
 
+/// All of them.
 pub const PLACES: [Place; 6] = [
     Place::First,
     Place::Middle,

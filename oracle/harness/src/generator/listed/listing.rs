@@ -20,6 +20,7 @@ pub enum Listing {
     Mixed,
 }
 
+/// All of them.
 pub const LISTINGS: [Listing; 5] = [
     Listing::Accepted,
     Listing::Reordered,
