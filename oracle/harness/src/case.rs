@@ -3,8 +3,10 @@
 use crate::model::number::Decimal;
 use fluent_syntax::ast::Resource;
 
+pub use crate::case::accepted::{accepted, least};
 pub use crate::case::sheet::{Given, Row, Sheet};
 
+mod accepted;
 mod sheet;
 
 #[derive(Clone, Debug)]
@@ -23,7 +25,7 @@ pub enum Item {
     Function(String),
 }
 
-#[derive(Clone, Debug)]
+#[derive(Clone, Debug, PartialEq)]
 pub enum Value {
     Text(String),
     Number(Decimal),
@@ -35,5 +37,6 @@ pub struct Case {
     pub bundle: Bundle,
     pub message: String,
     pub attribute: Option<String>,
+    /// Whatever their order, both sides get them in the accepted form.
     pub arguments: Vec<(String, Value)>,
 }

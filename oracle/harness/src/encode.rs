@@ -2,7 +2,7 @@
 //! image, error list; and document 02's sheet image.
 
 use crate::bytes::Write;
-use crate::case::{Bundle, Item, Value};
+use crate::case::{accepted, Bundle, Item, Value};
 use crate::model::reader::Row;
 use fluent_bundle::resolver::errors::{ReferenceKind, ResolverError};
 use fluent_bundle::{EntryKind, FluentError};
@@ -188,7 +188,14 @@ fn call<S: AsRef<str>>(out: &mut Vec<u8>, arguments: &CallArguments<S>) {
     }
 }
 
+/// The accepted arguments image of these: sorted, the last of equal names, least
+/// scales.
 pub fn arguments(arguments: &[(String, Value)]) -> Vec<u8> {
+    listed(&accepted(arguments))
+}
+
+/// An arguments image of these as they are listed, which may be refused with 19.
+pub fn listed(arguments: &[(String, Value)]) -> Vec<u8> {
     let mut rest = vec![1];
     rest.u16(arguments.len());
     for (name, value) in arguments {

@@ -3,7 +3,7 @@
 
 mod sheet;
 
-use crate::case::{Case, Value};
+use crate::case::{accepted, Case, Value};
 use crate::encode;
 use crate::model::effects::{Effect, Finished, Lengths};
 use crate::model::operations;
@@ -62,14 +62,16 @@ struct Said {
 }
 
 impl Both {
-    /// Formats a message with ample buffers, or says what differs.
+    /// Formats a message with ample buffers, or says what differs. The arguments are
+    /// brought to their accepted form before either side sees them.
     fn message(
         &self,
         id: &str,
         attribute: &Option<String>,
         given: &[(String, Value)],
     ) -> Result<Said, String> {
-        let arguments = encode::arguments(given);
+        let given = &accepted(given);
+        let arguments = encode::listed(given);
         let name = attribute.as_ref().map(|a| a.as_bytes());
         let prepared = operations::message_of(&self.model, id.as_bytes(), name, &arguments);
         let mut answer = operations::format(&prepared, Lengths::AMPLE);

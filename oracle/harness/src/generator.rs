@@ -1,22 +1,26 @@
-//! Seeded bundles, arguments and cases, always well-formed by document 01.
+//! Seeded bundles, arguments and cases, always well-formed by document 01, and
+//! arguments in the form that document 02 accepts.
 
 mod calls;
 mod chains;
 mod fans;
 mod inline;
+mod listed;
 mod marked;
 mod patterns;
 mod sheet;
 mod unmarked;
 mod words;
 
-use crate::case::{Bundle, Case, Item, Value};
+use crate::case::{accepted, Bundle, Case, Item, Value};
 use crate::encode;
 use crate::model::lookup::holder;
 use crate::model::reader;
 use crate::random::Random;
 use crate::vectors::numbers::decimal;
 use fluent_syntax::ast::*;
+pub(crate) use listed::most;
+pub use listed::{listed, listed_sheet, Listed, ListedSheet, Listing, Place, LISTINGS, PLACES};
 pub use marked::{marked, marked_sheet};
 pub use sheet::sheet_generator;
 pub use unmarked::{checked, checked_sheet, unmarked, unmarked_sheet};
@@ -149,7 +153,7 @@ impl Maker {
     }
 
     pub fn arguments(&mut self) -> Vec<(String, Value)> {
-        (0..self.r.below(4))
+        let listed: Vec<_> = (0..self.r.below(4))
             .map(|_| {
                 let name = match self.r.one_in(3) {
                     true => "n".to_string(),
@@ -167,7 +171,8 @@ impl Maker {
                 };
                 (name, value)
             })
-            .collect()
+            .collect();
+        accepted(&listed)
     }
 }
 

@@ -15,6 +15,7 @@ pub mod ftl;
 mod generator;
 pub mod model;
 pub mod nesting;
+pub mod order;
 pub mod plain;
 pub mod points;
 pub mod random;
@@ -26,8 +27,8 @@ pub mod vectors;
 
 pub use expected::{expected, expected_sheet, Expected, ExpectedSheet};
 pub use generator::{
-    checked, checked_sheet, generator, marked, marked_sheet, sheet_generator, unmarked,
-    unmarked_sheet, Maker,
+    checked, checked_sheet, generator, listed, listed_sheet, marked, marked_sheet, sheet_generator,
+    unmarked, unmarked_sheet, Listed, ListedSheet, Listing, Maker, Place, LISTINGS, PLACES,
 };
 
 /// Runs something on a thread whose stack is large enough for 100 references

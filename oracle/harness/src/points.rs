@@ -118,10 +118,9 @@ pub fn points() -> Vec<Case> {
             message: "a".into(),
             attribute: None,
             arguments: vec![
-                ("n".into(), Value::Text("early".into())),
-                ("s".into(), Value::Text("one".into())),
-                ("n".into(), number("2")),
                 ("m".into(), Value::None),
+                ("n".into(), number("2")),
+                ("s".into(), Value::Text("one".into())),
             ],
         }
     };

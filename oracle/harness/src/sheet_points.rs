@@ -3,7 +3,7 @@
 //! `.attribute`, and its arguments as `name=value`.
 
 use crate::bytes::Write;
-use crate::case::{Bundle, Given, Item, Row, Sheet, Value};
+use crate::case::{accepted, Bundle, Given, Item, Row, Sheet, Value};
 use crate::ftl;
 use crate::model::number::literal;
 
@@ -181,7 +181,7 @@ fn row(source: &str) -> Row {
         attribute,
         arguments: match wrong {
             Some(bytes) => Given::Bytes(bytes),
-            None => Given::Values(values),
+            None => Given::Values(accepted(&values)),
         },
     }
 }

@@ -3,7 +3,7 @@
 //! embeds them, which is both Rattle, for the program `sheet`, and Rust, for the
 //! command `weszlagyo`; and the file of the same images for the proofs.
 
-use crate::case::{Bundle, Given, Item, Row, Sheet, Value};
+use crate::case::{accepted, Bundle, Given, Item, Row, Sheet, Value};
 use crate::encode;
 use crate::ftl;
 use crate::model::number::literal;
@@ -30,16 +30,14 @@ pub const MESSAGES: [&str; 7] = ["sheet", LINE, "seen", LINE, "away", LINE, "who
 /// The message between two lines, which has no arguments.
 pub const LINE: &str = "line";
 
-/// Fields as arguments: a number where the text is one.
+/// Fields as arguments in their accepted form: a number where the text is one.
 pub fn arguments(fields: &[(&str, &str)]) -> Vec<(String, Value)> {
     let value = |text: &str| match literal(text.as_bytes()) {
         Some((number, _)) => Value::Number(number),
         None => Value::Text(text.into()),
     };
-    fields
-        .iter()
-        .map(|(n, v)| (n.to_string(), value(v)))
-        .collect()
+    let fields = fields.iter().map(|(n, v)| (n.to_string(), value(v)));
+    accepted(&fields.collect::<Vec<_>>())
 }
 
 /// Where the file stands that embeds them, below the root.

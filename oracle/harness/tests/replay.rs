@@ -3,6 +3,7 @@
 #![forbid(unsafe_code)]
 
 use harness::large_stack;
+use harness::model::arguments::accepted;
 use harness::model::effects::Lengths;
 use harness::model::number::{literal, Decimal, Number};
 use harness::model::operations;
@@ -192,6 +193,7 @@ fn accepts(kind: u8, bytes: &[u8]) -> bool {
         5 => reader::resource(bytes).is_some(),
         13 => reader::arguments(bytes).is_some(),
         18 => reader::sheet(bytes).is_some(),
+        19 => accepted(bytes).is_ok(),
         _ => panic!("kind {kind}"),
     }
 }
@@ -199,11 +201,14 @@ fn accepts(kind: u8, bytes: &[u8]) -> bool {
 #[test]
 fn images() {
     let count = replay("replay/data/images.vec", |operation, f| match operation {
-        20 | 21 | 22 | 51 => {
+        22 => {
+            let answer = accepted(f.blob()).err();
+            assert_eq!(f.u8(), answer.unwrap_or(0));
+        }
+        20 | 21 | 51 => {
             let kind = match operation {
                 20 => 4,
                 21 => 5,
-                22 => 13,
                 _ => 18,
             };
             let fine = accepts(kind, f.blob());
@@ -214,9 +219,9 @@ fn images() {
             assert_eq!(f.str(), text);
         }
         24 => {
-            let arguments = reader::arguments(f.blob()).expect("well-formed");
+            let arguments = accepted(f.blob()).expect("accepted");
             let name = f.str();
-            let held = arguments.into_iter().rfind(|(n, _)| n == name);
+            let held = arguments.into_iter().find(|(n, _)| n == name);
             let found = match f.u8() {
                 0 => None,
                 1 => Some(Given::Text(f.str().to_vec())),
@@ -386,4 +391,9 @@ fn figures() {
 #[test]
 fn nesting() {
     assert!(replay("replay_formats/data/nesting.vec", either) > 500);
+}
+
+#[test]
+fn arguments() {
+    assert!(replay("replay_formats/data/arguments.vec", either) > 300);
 }

@@ -37,11 +37,26 @@ impl Asked {
         }
     }
 
+    /// The same with another arguments image.
+    pub fn message_with(case: &Case, arguments: Vec<u8>) -> Self {
+        let mut asked = Self::message(case);
+        *asked.bytes() = arguments;
+        asked
+    }
+
     /// The arguments image or the sheet image.
     pub fn bytes(&mut self) -> &mut Vec<u8> {
         match self {
             Self::Message { arguments, .. } => arguments,
             Self::Sheet(image) => image,
+        }
+    }
+
+    /// How many bytes that image has.
+    pub fn length(&self) -> usize {
+        match self {
+            Self::Message { arguments, .. } => arguments.len(),
+            Self::Sheet(image) => image.len(),
         }
     }
 

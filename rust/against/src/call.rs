@@ -1,5 +1,5 @@
 //! One formatting or sheet, made over and over with other buffers and held to the
-//! model each time.
+//! model each time; and what its refusals leave.
 
 use crate::asked::{Asked, Model};
 use crate::{same, Counts, Lent};
@@ -64,6 +64,7 @@ impl Call {
         let [mut text, mut list, mut work] =
             [lengths.text, lengths.list, lengths.workspace].map(|length| any(length, random));
         let mut ours = [&text, &list, &work].map(|bytes| Lent::with(bytes, random));
+        let before = [&text[..], &list, &work].concat();
         let [ours_text, ours_list, ours_work] = &mut ours;
         let buffers = [ours_text.slice(), ours_list.slice(), ours_work.slice()];
         let answer = self.asked.call(&self.store, buffers);
@@ -74,9 +75,10 @@ impl Call {
         for (ours, (what, wanted)) in ours.iter().zip(wanted_bytes) {
             same(what, ours.held()?, wanted).map_err(|e| self.named(lengths, &e))?;
         }
-        if wanted == Err(16) {
-            let mut all = text.iter().chain(&list).chain(&work);
-            same("zeros after 16", all.all(|byte| *byte == 0), true)?;
+        if let Err(refusal) = wanted {
+            let after = [&text[..], &list, &work].concat();
+            let left = self.left(refusal, lengths.list, &before, &after);
+            left.map_err(|e| self.named(lengths, &e))?;
         }
         let [ours_text, ours_list, _] = &mut ours;
         let (text, list) = (ours_text.slice(), ours_list.slice());
@@ -87,10 +89,26 @@ impl Call {
         }))
     }
 
+    /// What a refusal has to leave: every byte as before where it comes before any run,
+    /// else zeros. What is wrong with a sheet's message comes in that message's turn.
+    fn left(&self, refusal: u8, list: usize, before: &[u8], after: &[u8]) -> Result<(), String> {
+        let unchanged = match (&self.asked, refusal) {
+            (_, 7) => list < 5,
+            (Asked::Message { .. }, 4 | 8 | 11 | 12 | 13 | 19) => true,
+            (Asked::Sheet(_), 4 | 18) => true,
+            _ => false,
+        };
+        let what = format!("left by {refusal}");
+        match unchanged {
+            true => same(&what, after == before, true),
+            false => same(&what, after.iter().all(|byte| *byte == 0), true),
+        }
+    }
+
     /// A difference, with the call that shows it, if that is short.
     fn named(&self, lengths: Lengths, difference: &str) -> String {
         let (store, asked) = (&self.store, &self.asked);
-        match store.len() < 1500 {
+        match store.len() + asked.length() < 3000 {
             true => format!("{lengths:?}: {difference}\n  {store:02x?}\n  {asked:02x?}"),
             false => format!("{lengths:?}: {difference}"),
         }

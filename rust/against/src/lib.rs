@@ -9,6 +9,7 @@ pub mod convert;
 pub mod figures;
 pub mod formats;
 pub mod nesting;
+pub mod order;
 pub mod sheet;
 pub mod sheets;
 pub mod workspace;
@@ -16,16 +17,19 @@ pub mod workspace;
 use harness::random::Random;
 use std::fmt::Debug;
 
+/// The highest number that a refusal of an operation has.
+pub const HIGHEST_REFUSAL: usize = 19;
+
 /// What was compared.
 #[derive(Clone, Copy, Debug, Default)]
 pub struct Counts {
-    /// Generated cases, sheets, or formattings and sheets by their figures or by
-    /// their marks.
+    /// Generated cases, sheets, or formattings and sheets by their figures, by their
+    /// marks or by the order of their arguments.
     pub cases: u64,
     /// Calls of the operations that were compared, bytes and all.
     pub calls: u64,
     /// Calls by their answer: 0 done, or the refusal's number.
-    pub answers: [u64; 19],
+    pub answers: [u64; HIGHEST_REFUSAL + 1],
     /// Calls that were lent a store, image, arguments image, sheet, id or attribute
     /// whose bytes were changed from what the generator made; each once.
     pub damaged: u64,
@@ -33,6 +37,8 @@ pub struct Counts {
     pub stores: u64,
     /// Texts by their isolation marks.
     pub nesting: nesting::Nesting,
+    /// Calls by the order of their arguments.
+    pub order: order::Order,
 }
 
 impl Counts {
@@ -47,6 +53,7 @@ impl Counts {
         self.damaged += other.damaged;
         self.stores += other.stores;
         self.nesting.add(&other.nesting);
+        self.order.add(&other.order);
         for (sum, n) in self.answers.iter_mut().zip(other.answers) {
             *sum += n;
         }

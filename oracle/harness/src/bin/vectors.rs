@@ -49,6 +49,10 @@ fn main() {
             "replay_formats/data/nesting.vec",
             vectors::nesting::make(seed, cases),
         );
+        write(
+            "replay_formats/data/arguments.vec",
+            vectors::arguments::make(seed, cases),
+        );
     });
 }
 

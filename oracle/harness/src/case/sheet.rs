@@ -18,7 +18,8 @@ pub struct Row {
     pub arguments: Given,
 }
 
-/// The arguments of a message: values, or bytes that are no arguments image.
+/// The arguments of a message: values, which stand in the sheet in their accepted
+/// form, or the bytes that stand there.
 #[derive(Clone, Debug)]
 pub enum Given {
     Values(Vec<(String, Value)>),

@@ -3,7 +3,7 @@
 
 use super::words::VARIABLES;
 use super::Maker;
-use crate::case::{Bundle, Case, Given, Item, Row, Sheet, Value};
+use crate::case::{accepted, Bundle, Case, Given, Item, Row, Sheet, Value};
 use crate::encode;
 use crate::model::premises::{formatting, whole_sheet, Kind};
 use crate::random::Random;
@@ -48,16 +48,17 @@ pub fn marked_sheet(seed: u64, kind: Kind) -> Sheet {
 fn mark_arguments(r: &mut Random, given: &mut Vec<(String, Value)>) -> bool {
     for _ in 0..*r.pick(&[1, 1, 2, 4]) {
         let name = r.pick(&VARIABLES).to_string();
-        // Of equal names the last holds.
         let held = given.iter_mut().rfind(|(held, _)| *held == name);
         if let Some((_, Value::Text(text))) = held {
             mark_text(r, text);
         } else {
             let mut text = "x".to_string();
             mark_text(r, &mut text);
+            // In the place of another value that it may have.
             given.push((name, Value::Text(text)));
         }
     }
+    *given = accepted(given);
     true
 }
 

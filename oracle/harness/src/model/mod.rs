@@ -1,6 +1,7 @@
 //! A separate, small writing-down of document 01: numbers, the layouts, the
-//! additions and formatting; of document 02's sheets, and of its isolation marks. It shares nothing with the Rust but the tests.
+//! additions and formatting; of document 02's sheets, of its isolation marks and of its order of arguments. It shares nothing with the Rust but the tests.
 
+pub mod arguments;
 pub mod effects;
 pub mod errors;
 pub mod lookup;

@@ -1,5 +1,6 @@
 //! The operations of document 01 with their refusals, in order.
 
+use super::arguments;
 use super::effects::{run, Finished, Lengths};
 use super::errors;
 use super::lookup::{holder, part, Holder};
@@ -101,16 +102,16 @@ pub fn prepare(
     message_of(&store, message, attribute, arguments)
 }
 
-/// The same from a store that is well-formed, of ids that are Ids.
+/// The same from a store that is well-formed, of ids that are Ids: 11, 12, 13, 19.
 pub fn message_of(
     store: &reader::Store,
     message: &[u8],
     attribute: Option<&[u8]>,
-    arguments: &[u8],
+    image: &[u8],
 ) -> Result<Resolution, u8> {
     let entry = holder(store, message).and_then(Holder::message).ok_or(11)?;
     let pattern = part(entry, &attribute.map(<[u8]>::to_vec)).ok_or(12)?;
-    let given = reader::arguments(arguments).ok_or(13)?;
+    let given = arguments::accepted(image)?;
     Ok(resolve(store, &given, pattern))
 }
 

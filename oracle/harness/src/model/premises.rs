@@ -3,6 +3,7 @@
 //! of a store are looked at, also those that hold no id any more, and in them
 //! every value and attribute, variant, selector and argument.
 
+use super::arguments::accepted;
 use super::marks::is_mark;
 use super::reader::*;
 
@@ -122,12 +123,12 @@ fn has_mark(text: &[u8]) -> bool {
     text.chars().any(is_mark)
 }
 
-/// Of a store and an arguments image; `None` where one of them is malformed, and
-/// so nothing is formatted.
+/// Of a store and an arguments image; `None` where one of them is refused, and so
+/// nothing is formatted.
 pub fn formatting(slice: &[u8], image: &[u8]) -> Option<Marked> {
     let mut marked = Marked::default();
     marked.store(&store(slice)?);
-    marked.given(&arguments(image)?);
+    marked.given(&accepted(image).ok()?);
     Some(marked)
 }
 
@@ -136,7 +137,7 @@ pub fn whole_sheet(slice: &[u8], image: &[u8]) -> Option<Marked> {
     let mut marked = Marked::default();
     marked.store(&store(slice)?);
     for row in sheet(image)? {
-        marked.given(&arguments(&row.arguments)?);
+        marked.given(&accepted(&row.arguments).ok()?);
     }
     Some(marked)
 }

@@ -58,7 +58,8 @@ pub fn resource(slice: &[u8]) -> Option<Vec<Entry>> {
     Some(entries)
 }
 
-/// An arguments image that is the whole slice; `None` is refusal 13.
+/// An arguments image that is the whole slice, with its names in any order; `None`
+/// is refusal 13.
 pub fn arguments(slice: &[u8]) -> Option<Vec<(Id, Given)>> {
     if slice.len() > IMAGE_LIMIT {
         return None;

@@ -303,7 +303,7 @@ impl<'s> Resolver<'s> {
             let held = named.iter().find(|(name, _)| *name == id);
             return held.map(|(_, value)| value.clone());
         }
-        match self.given.iter().rfind(|(name, _)| name == id) {
+        match self.given.iter().find(|(name, _)| name == id) {
             Some((_, Given::Text(text))) => Some(Value::Text(text.clone())),
             Some((_, Given::Number(d))) => Some(Value::Number(Box::new(Number::plain(*d)))),
             Some((_, Given::None)) => Some(Value::None),

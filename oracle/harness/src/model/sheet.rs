@@ -79,7 +79,7 @@ pub fn join(prepared: &Prepared, lengths: Lengths) -> Result<Joined, Refused> {
         figures: Figures::default(),
     };
     for message in messages {
-        // 11, 12 and 13 come in the message's turn, after all runs before it
+        // 11, 12, 13 and 19 come in the message's turn, after all runs before it
         let resolution = message.as_ref().map_err(|n| Refused::Cleared(*n))?;
         let left = left(lengths, sheet.text.len(), sheet.list.len());
         sheet.add(run(&resolution.effects, left).map_err(Refused::Cleared)?);

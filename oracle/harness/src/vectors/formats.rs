@@ -17,9 +17,9 @@ pub(super) const LENT: usize = 4096;
 #[derive(Clone)]
 pub(super) struct Format {
     pub(super) store: Vec<u8>,
-    message: Vec<u8>,
-    attribute: Option<Vec<u8>>,
-    arguments: Vec<u8>,
+    pub(super) message: Vec<u8>,
+    pub(super) attribute: Option<Vec<u8>>,
+    pub(super) arguments: Vec<u8>,
 }
 
 impl Format {

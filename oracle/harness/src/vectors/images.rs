@@ -6,11 +6,13 @@ use super::{File, CASES};
 use crate::boundaries;
 use crate::bytes::Write;
 use crate::case::{Bundle, Item, Value};
+use crate::model::arguments::accepted;
 use crate::model::number::Decimal;
 use crate::model::reader;
+use crate::order;
 use crate::random::Random;
 use crate::sheet_points::sheet;
-use crate::{encode, ftl, rust, Maker};
+use crate::{encode, ftl, listed, rust, Maker};
 use fluent_bundle::FluentValue;
 
 /// What a piece of bytes is to be, by the refusal it may meet.
@@ -18,8 +20,11 @@ use fluent_bundle::FluentValue;
 pub enum Kind {
     Store = 4,
     Resource = 5,
+    /// Arguments by document 01's layout alone.
     Arguments = 13,
     Sheet = 18,
+    /// Arguments with their names in order and their scales least.
+    Ordered = 19,
 }
 
 impl Kind {
@@ -29,6 +34,16 @@ impl Kind {
             Kind::Resource => reader::resource(bytes).is_some(),
             Kind::Arguments => reader::arguments(bytes).is_some(),
             Kind::Sheet => reader::sheet(bytes).is_some(),
+            Kind::Ordered => accepted(bytes).is_ok(),
+        }
+    }
+
+    /// 0, or the refusal; arguments may meet two.
+    fn answer(self, bytes: &[u8]) -> u8 {
+        match self {
+            Kind::Arguments | Kind::Ordered => accepted(bytes).err().unwrap_or(0),
+            _ if self.accepts(bytes) => 0,
+            _ => self as u8,
         }
     }
 
@@ -36,7 +51,7 @@ impl Kind {
         match self {
             Kind::Store => 20,
             Kind::Resource => 21,
-            Kind::Arguments => 22,
+            Kind::Arguments | Kind::Ordered => 22,
             Kind::Sheet => 51,
         }
     }
@@ -45,7 +60,7 @@ impl Kind {
 fn judged(file: &mut File, kind: Kind, bytes: &[u8]) {
     let mut case = Vec::new();
     case.blob(bytes);
-    case.u8(if kind.accepts(bytes) { 0 } else { kind as u8 });
+    case.u8(kind.answer(bytes));
     file.case(kind.operation(), case);
 }
 
@@ -58,11 +73,17 @@ pub fn make(seed: u64, cases: usize) -> File {
     for (bytes, _) in boundaries::sheets() {
         judged(&mut file, Kind::Sheet, &bytes);
     }
+    for image in order::images() {
+        judged(&mut file, Kind::Ordered, &image.bytes);
+    }
     for literal in boundaries::ESCAPES {
         unescape_case(&mut file, literal);
     }
     for (kind, bytes) in bases() {
         damage_case(&mut file, kind, &bytes);
+        if kind == Kind::Arguments {
+            damage_case(&mut file, Kind::Ordered, &bytes);
+        }
     }
     let mut at = seed.wrapping_mul(7_000_003);
     let end = file.count() + 30;
@@ -79,6 +100,14 @@ pub fn make(seed: u64, cases: usize) -> File {
             damage_case(&mut file, kind, &bytes);
         }
     }
+    let end = file.count() + 120 * cases / CASES;
+    while file.count() < end {
+        at += 1;
+        let image = encode::listed(&listed(at).listed);
+        if image.len() <= 200 {
+            judged(&mut file, Kind::Ordered, &image);
+        }
+    }
     let end = file.count() + 1500 * cases / CASES;
     while file.count() < end {
         at += 1;
@@ -88,7 +117,7 @@ pub fn make(seed: u64, cases: usize) -> File {
         let (kind, bytes) = match r.below(8) {
             0 | 1 => (Kind::Store, encode::store(&bundle)),
             2..=4 => (Kind::Resource, encode::resource(&maker.resource())),
-            5 | 6 => (Kind::Arguments, encode::arguments(&arguments)),
+            5 | 6 => (Kind::Ordered, encode::arguments(&arguments)),
             _ => {
                 find_case(&mut file, &mut r, &arguments);
                 continue;
@@ -124,7 +153,7 @@ fn unescape_case(file: &mut File, literal: &str) {
 
 fn find_case(file: &mut File, r: &mut Random, arguments: &[(String, Value)]) {
     let name = *r.pick(&["n", "m", "s", "q", "N", "nn"]);
-    let found = arguments.iter().rfind(|(n, _)| n == name);
+    let found = arguments.iter().find(|(n, _)| n == name);
     let held = rust::arguments(arguments);
     let mut case = Vec::new();
     case.blob(encode::arguments(arguments));
@@ -237,10 +266,19 @@ fn bases() -> Vec<(Kind, Vec<u8>)> {
         vec![("n", number(false, 0, 0))],
         vec![("n", number(true, 999_999_999_999_999, 14))],
         vec![("a-_9Z", Value::None)],
+        vec![("n", number(true, 0, 0))],
+        vec![("n", number(false, 25, 1)), ("o", number(true, 10, 0))],
         vec![
-            ("n", text("x")),
+            ("m", text("x")),
             ("n", number(false, 15, 1)),
-            ("n", Value::None),
+            ("o", Value::None),
+        ],
+        vec![
+            ("a", Value::None),
+            ("a-", Value::None),
+            ("a0", Value::None),
+            ("aa", Value::None),
+            ("b", Value::None),
         ],
     ];
     for list in arguments {

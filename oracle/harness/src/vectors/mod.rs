@@ -1,6 +1,7 @@
 //! The vector files; oracle/README.md gives their format.
 
 pub mod additions;
+pub mod arguments;
 pub mod figures;
 pub mod formats;
 pub mod images;

@@ -1,15 +1,17 @@
 //! Compares the crate with the oracle on many generated cases, then on
 //! generated sheets, then on formattings and sheets by their workspace figures,
-//! then on formattings and sheets by their isolation marks:
-//! `differential [COUNT [FIRST_SEED [THREADS [SHEETS [FIGURES [NESTING]]]]]]`,
+//! then on formattings and sheets by their isolation marks, then on formattings and
+//! sheets by the order of their arguments:
+//! `differential [COUNT [FIRST_SEED [THREADS [SHEETS [FIGURES [NESTING [ORDER]]]]]]]`,
 //! 1,000,000 cases from seed 1 on all processors unless said otherwise, a tenth as
 //! many sheets, the figures of a tenth as many formattings and half as many sheets
-//! as those, and the marks of as many; last, as many seeds as those sheets with
-//! marks in the input. It shows how far it is, and ends with 1 if anything
-//! differs, a text is unpaired, or marks in the input make none unpaired.
+//! as those, and the marks of as many; as many seeds as those sheets with marks in
+//! the input; last, the order of arguments in a tenth as many formattings and half
+//! as many sheets. It shows how far it is, and ends with 1 if anything differs, a
+//! text is unpaired, or marks in the input make none unpaired.
 #![forbid(unsafe_code)]
 
-use against::{compare, compare_sheet, figures, nesting, sheets, Counts};
+use against::{compare, compare_sheet, figures, nesting, order, sheets, Counts};
 use std::sync::atomic::{AtomicU64, Ordering};
 use std::sync::Mutex;
 use std::time::{Duration, Instant};
@@ -26,7 +28,7 @@ fn main() {
         .skip(1)
         .map(|word| word.parse().unwrap_or_else(|_| usage()))
         .collect();
-    if words.len() > 6 {
+    if words.len() > 7 {
         usage();
     }
     let word = |at: usize, usual: u64| words.get(at).copied().unwrap_or(usual);
@@ -53,13 +55,20 @@ fn main() {
     let sheets_by_marks = cases.of(what, nesting::compare_sheet, marks.div_ceil(2));
     let what = "seeds with marks in the input";
     let marked = cases.of(what, nesting::compare_marked, marks.div_ceil(2));
+    let ordered = word(6, tenth);
+    let what = "formattings by the order of their arguments";
+    let formattings_by_order = cases.of(what, order::compare_formatting, ordered);
+    let what = "sheets by the order of their arguments";
+    let sheets_by_order = cases.of(what, order::compare_sheet, ordered.div_ceil(2));
     let same = cases.run(Counts::default(), 0)
         & (sheets.count == 0 || sheets.with_fixed(sheets::fixed::all))
         & (figures == 0 || of_formattings.with_fixed(figures::by_hand))
         & (figures == 0 || of_sheets.run(Counts::default(), 0))
         & (marks == 0 || formattings_by_marks.with_fixed(nesting::by_hand))
         & (marks == 0 || sheets_by_marks.run(Counts::default(), 0))
-        & (marks == 0 || marked.run(Counts::default(), 0));
+        & (marks == 0 || marked.run(Counts::default(), 0))
+        & (ordered == 0 || formattings_by_order.with_fixed(order::by_hand))
+        & (ordered == 0 || sheets_by_order.run(Counts::default(), 0));
     std::process::exit(i32::from(!same));
 }
 
@@ -128,7 +137,7 @@ impl Run {
         let total = total.into_inner().expect("no thread failed");
         let differ = differ.into_inner().expect("no thread failed");
         self.say(&total, start);
-        print!("{}", total.nesting);
+        print!("{}{}", total.nesting, total.order);
         println!("{differ} differ");
         let noticed = total.nesting.noticed();
         if !noticed {
@@ -203,6 +212,8 @@ impl Run {
 }
 
 fn usage() -> ! {
-    eprintln!("usage: differential [COUNT [FIRST_SEED [THREADS [SHEETS [FIGURES [NESTING]]]]]]");
+    eprintln!(
+        "usage: differential [COUNT [FIRST_SEED [THREADS [SHEETS [FIGURES [NESTING [ORDER]]]]]]]"
+    );
     std::process::exit(2)
 }

@@ -80,7 +80,7 @@ fn every_change(random: &mut Random, counts: &mut Counts) -> Result<(), String> 
     let source = "a = A{ $n }\n.x = { $s } { $q }\nab-9 =\n.x = X\nc = { zz }{ $m }";
     let whole = sheet(
         source,
-        "a; a.x s=x s=2.50 q=none; ab-9.x n=-15; c m=none n=é",
+        "a; a.x q=none s=2.5 t=x; ab-9.x n=-15; c m=none n=é",
     )
     .image();
     let mut changed = whole.clone();
