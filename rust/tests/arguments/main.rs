@@ -4,6 +4,7 @@
 
 mod image;
 mod made;
+mod papers;
 mod random;
 mod refused;
 
