@@ -9,8 +9,8 @@
  * (below, in the order in which they are met). It is proved that the answer,
  * the lent numbers and every lent byte are those of a written definition,
  * whatever bytes it is lent; there is nothing that a caller must have checked.
- * docs/01-scope.md has the layouts, docs/02-change-requests.md (Card 1) that of
- * a sheet.
+ * docs/01-scope.md has the layouts, docs/02-change-requests.md that of a sheet
+ * (Card 1) and the order of arguments (Card 2).
  *
  * What the proof takes for granted of the caller, as of any C function:
  *  - a pointer and the length after it are a slice that is there, readable,
@@ -77,9 +77,10 @@ uint8_t weszlagyo_add_function(uint8_t *slice, size_t slice_length,
 /* Formats the value of a message, or an attribute of it.
  *
  * store: a bundle's slice, which is checked in every call. id, and attribute
- * where has_attribute is true: bare bytes. arguments: an arguments image; none
- * is 00 00 00 07 01 00 00. text, list: get the text (UTF-8) and the error list
- * at their front; later bytes stay. work: the workspace, zeros afterwards.
+ * where has_attribute is true: bare bytes. arguments: an arguments image, see
+ * "Arguments in name order" below; none is 00 00 00 07 01 00 00. text, list:
+ * get the text (UTF-8) and the error list at their front; later bytes stay.
+ * work: the workspace, zeros afterwards.
  *
  * *written: bytes of text. *errors: errors in the list. *begun: placeables
  * begun, 0 to 101. *unfound: lookups of an id without an entry, for a reference
@@ -88,10 +89,12 @@ uint8_t weszlagyo_add_function(uint8_t *slice, size_t slice_length,
  *
  * Refusals, which change nothing: 4 the store is malformed; 8 id, or the
  * attribute that is asked for, is not an id; 11 no such message; 12 no such
- * value or attribute; 13 the arguments are malformed; 7 list_length is under 5.
- * Then, whichever comes first, and these fill text, list and work with zeros
- * and leave the five numbers: 15 text is too short; 7 list is too short; 16
- * work is too short; 17 minimumFractionDigits above 19. */
+ * value or attribute; 13 the arguments are malformed; 19 they are not in order:
+ * names not strictly ascending, or a scale above 0 with digits divisible by 10;
+ * 7 list_length is under 5. Then, whichever comes first, and these fill text,
+ * list and work with zeros and leave the five numbers: 15 text is too short; 7
+ * list is too short; 16 work is too short; 17 minimumFractionDigits is above
+ * 19. */
 uint8_t weszlagyo_format(const uint8_t *store, size_t store_length,
                          const uint8_t *id, size_t id_length,
                          bool has_attribute,
@@ -109,8 +112,8 @@ uint8_t weszlagyo_format(const uint8_t *store, size_t store_length,
  * sheet image, the slice exactly that, at most 1,048,576 bytes: u32 whole
  * length, version 1 (a byte), u16 count, then for each message its Id (u16
  * length and bytes), an attribute Flag (0 or 1) and, where it is 1, the
- * attribute's Id, and an arguments image (which begins with its u32 length).
- * No message at all is 00 00 00 07 01 00 00.
+ * attribute's Id, and an arguments image (which begins with its u32 length; see
+ * "Arguments in name order" below). No message at all is 00 00 00 07 01 00 00.
  *
  * text: gets the joining of the texts that the messages give alone; list: the
  * joining of their records, under one header; both at their front, later bytes
@@ -126,8 +129,9 @@ uint8_t weszlagyo_format(const uint8_t *store, size_t store_length,
  * inside the sheet); 7 list_length is under 5. Then message by message, the
  * first that one meets, and these fill text, list and work with zeros: 11 no
  * such message; 12 no such value or attribute; 13 its arguments are malformed;
- * 15, 7, 16 and 17 as of weszlagyo_format, 15 and 7 by what the messages before
- * left of text and list. No refusal changes the five numbers. */
+ * 19 they are not in order, as of weszlagyo_format; 15, 7, 16 and 17 as there,
+ * 15 and 7 by what the messages before left of text and list. No refusal
+ * changes the five numbers. */
 uint8_t weszlagyo_format_sheet(const uint8_t *store, size_t store_length,
                                const uint8_t *sheet, size_t sheet_length,
                                uint8_t *text, size_t text_length,
@@ -135,6 +139,27 @@ uint8_t weszlagyo_format_sheet(const uint8_t *store, size_t store_length,
                                uint8_t *work, size_t work_length,
                                size_t *written, size_t *errors, size_t *begun,
                                uint64_t *unfound, size_t *used);
+
+/* Arguments in name order.
+ *
+ * An arguments image, the slice exactly that, at most 65,536 bytes: u32 whole
+ * length, version 1 (a byte), u16 count, then for each argument its name, an Id
+ * (u16 length and bytes), and its value: 1 and a text (u16 length and UTF-8); 2
+ * and a number (sign Flag, 1 for minus; u64 digits below 10^15; scale byte 0 to
+ * 14: the digits over 10^scale); or 3, none. Any other is refused with 13.
+ *
+ * An image that is so is refused with 19 unless
+ *  - the names stand in strictly ascending order: compared byte by byte, without
+ *    their lengths, `a` before `ab`, and no name twice;
+ *  - every number has the least scale that gives it: where the scale is above
+ *    0, the digits are not divisible by 10, so 2.50 is 25 over 10; zero and
+ *    minus zero have scale 0.
+ * 13 is judged of the whole image first, and 19 directly after it. It is proved
+ * that two images that are accepted, with the same names and values, are the
+ * same bytes; zero and minus zero are two values. So sort the names, and drop
+ * zeros at the end of a fraction, when an image is made.
+ *
+ * n = 2.5 is 00 00 00 15 01 00 01 00 01 6E 02 00 00 00 00 00 00 00 00 19 01. */
 
 /* Choosing a workspace.
  *

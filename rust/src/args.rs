@@ -15,6 +15,23 @@ pub(crate) const NO_ARGUMENTS: [u8; 7] = [0, 0, 0, 7, 1, 0, 0];
 ///
 /// A name is an id, as in Fluent; of another one the formatting says
 /// [`Refusal::MALFORMED_ARGUMENTS`].
+///
+/// It does not matter in which order names are given: equal arguments have equal
+/// images.
+///
+/// ```
+/// use weszlagyo::{FluentArgs, FluentValue};
+///
+/// let mut sighting = FluentArgs::new();
+/// sighting.set("species", "minke");
+/// sighting.set("distance", FluentValue::try_number("2.50"));
+/// let mut again = FluentArgs::new();
+/// again.set("distance", FluentValue::try_number("2.5"));
+/// again.set("species", "minke");
+/// assert_eq!(sighting, again);
+/// assert_eq!(sighting.image()?, again.image()?);
+/// # Ok::<(), weszlagyo::Refusal>(())
+/// ```
 #[derive(Clone, Debug, Default, PartialEq)]
 pub struct FluentArgs<'args>(Vec<(Cow<'args, str>, FluentValue<'args>)>);
 
@@ -60,12 +77,15 @@ impl<'args> FluentArgs<'args> {
         self.0.iter().map(|(name, value)| (name.as_ref(), value))
     }
 
-    /// The arguments image of document 01.
+    /// The arguments image of documents 01 and 02: names in ascending order of
+    /// their bytes, each once, and numbers with the least scale. So no formatting
+    /// says [`Refusal::UNORDERED_ARGUMENTS`] of it.
     pub fn image(&self) -> Result<Vec<u8>, Refusal> {
         let mut out = Writer::default();
         let start = out.open();
         out.byte(1);
         out.u16(self.0.len());
+        // `set` keeps them in the order of `str`, which is that of the bytes
         for (name, value) in &self.0 {
             out.str(name.as_bytes());
             match value {

@@ -1,5 +1,7 @@
 //! Writing document 01's integers, strings and counts, for images that no type
-//! of this crate makes.
+//! of this crate makes. What stands in an image, and in which order, is the
+//! caller's part: in an arguments image names ascend, see
+//! [`operations::format`](crate::operations::format).
 
 use crate::operations::Refusal;
 

@@ -1,5 +1,5 @@
 //! The proved operations themselves, on lent slices, as document 01 has them,
-//! and document 02 the sheet: what each refuses, in which order, and every byte
+//! and document 02 the sheet and the order of arguments: what each refuses, in which order, and every byte
 //! that it leaves. The rest of this crate stands on these six functions.
 //!
 //! They run on any stack: where little is left of a thread's, on one of their
@@ -98,8 +98,16 @@ pub fn add_function(slice: &mut [u8], id: &[u8], code: u8) -> Result<(), Refusal
 }
 
 /// Formats a message's value, or an attribute of it, with an arguments image.
-/// Refusals: 4, 8, 11, 12, 13, and 7 for a list under 5 bytes, which change
+/// Refusals: 4, 8, 11, 12, 13, 19, and 7 for a list under 5 bytes, which change
 /// nothing; then 15, 7, 16 and 17, which fill the three buffers with zeros.
+///
+/// In an arguments image names stand in strictly ascending order of their bytes,
+/// where `a` is below `ab`, and a number has the least scale: none above 0 with
+/// digits that 10 divides, 0 for zero and minus zero. Any other that is well-formed
+/// is refused with 19, [`Refusal::UNORDERED_ARGUMENTS`]; one that is not
+/// well-formed is always refused with 13. So two images that are not refused, of
+/// the same names and values, are the same bytes.
+/// [`FluentArgs::image`](crate::FluentArgs::image) makes them so.
 pub fn format(
     store: &[u8],
     id: &[u8],
@@ -128,8 +136,9 @@ pub fn format(
 /// Formats the messages of a sheet image, one behind the other: the text is the
 /// joining of the texts that they give alone, the list that of their records.
 /// Refusals: 4, 18, and 7 for a list under 5 bytes, which change nothing; then,
-/// message by message, 11, 12, 13, 15, 7, 16 and 17, which fill the three
-/// buffers with zeros.
+/// message by message, 11, 12, 13, 19, 15, 7, 16 and 17, which fill the three
+/// buffers with zeros. What [`format()`] says of an arguments image holds of every
+/// message's.
 pub fn format_sheet(
     store: &[u8],
     sheet: &[u8],

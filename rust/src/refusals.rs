@@ -53,6 +53,8 @@ refusals! {
     MANY_DIGITS = 17: "a minimumFractionDigits is above 19";
     MALFORMED_SHEET = 18: "the sheet image is malformed",
         "An id is no Id, an arguments image has under 7 or over 65,536 bytes, or it is too long.";
+    UNORDERED_ARGUMENTS = 19: "the arguments are not in order",
+        "The names do not ascend strictly, by their bytes, or a number has not its least scale.";
     NO_STACK = 255: "there is no memory for a stack",
         "Little is left of the thread's own, and the system gave none. Nothing was changed.";
 }
@@ -87,7 +89,7 @@ mod tests {
     #[test]
     fn all_are_in_order_and_have_words() {
         let numbers: Vec<u8> = Refusal::ALL.iter().map(|r| r.number()).collect();
-        let expected: Vec<u8> = (1..=18).filter(|n| *n != 14).chain([255]).collect();
+        let expected: Vec<u8> = (1..=19).filter(|n| *n != 14).chain([255]).collect();
         assert_eq!(numbers, expected);
         assert_eq!(Refusal(14).meaning(), "there is no such refusal");
         assert_eq!(

@@ -94,7 +94,10 @@ impl Sheet {
 
     /// The same with an arguments image that was made elsewhere. It is refused
     /// with [`Refusal::MALFORMED_ARGUMENTS`] where its first four bytes are not
-    /// its length.
+    /// its length. What is wrong inside is said when the sheet is formatted:
+    /// [`Refusal::MALFORMED_ARGUMENTS`], and [`Refusal::UNORDERED_ARGUMENTS`] where
+    /// the names are not in strictly ascending order of their bytes, or a number
+    /// has not its least scale.
     pub fn push_image(
         &mut self,
         id: &str,

@@ -9,6 +9,11 @@ use std::str::FromStr;
 ///
 /// fluent-bundle holds a double; here a number is the decimal that is meant,
 /// of at most 15 digits. Zero has a sign.
+///
+/// A number has one form, that of the least scale, as an arguments image asks
+/// for it: 1.50 is 1.5, 0.00 is 0, and -0.00 is -0. Nothing is lost by that: an
+/// argument has no options, so its text is the shortest decimal whatever scale
+/// was given, and the choice of a variant does not see the scale either.
 #[derive(Clone, Copy, Debug, PartialEq, Eq)]
 pub struct FluentNumber {
     negative: bool,
@@ -23,16 +28,29 @@ const MAX_SCALE: u8 = 14;
 
 impl FluentNumber {
     /// The digits over 10^scale, below zero where `negative`; there are at
-    /// most 15 digits, and the scale is at most 14.
+    /// most 15 digits, and the scale is at most 14. Zeros at the end of the
+    /// fraction are dropped.
+    ///
+    /// ```
+    /// use weszlagyo::FluentNumber;
+    ///
+    /// let number = FluentNumber::new(false, 150, 2)?;
+    /// assert_eq!((number.digits(), number.scale()), (15, 1));
+    /// assert_eq!(Ok(number), "1.5".parse());
+    /// // zero and minus zero are two values
+    /// assert_ne!(FluentNumber::new(true, 0, 3)?, FluentNumber::new(false, 0, 3)?);
+    /// # Ok::<(), weszlagyo::NotADecimal>(())
+    /// ```
     pub fn new(negative: bool, digits: u64, scale: u8) -> Result<Self, NotADecimal> {
-        match digits < TOO_MANY && scale <= MAX_SCALE {
-            true => Ok(Self {
-                negative,
-                digits,
-                scale,
-            }),
-            false => Err(NotADecimal),
+        if digits >= TOO_MANY || scale > MAX_SCALE {
+            return Err(NotADecimal);
         }
+        let (digits, scale) = least_scale(digits, scale);
+        Ok(Self {
+            negative,
+            digits,
+            scale,
+        })
     }
 
     /// Whether the sign is minus; zero can have it.
@@ -40,12 +58,13 @@ impl FluentNumber {
         self.negative
     }
 
-    /// The digits, as a whole number.
+    /// The digits, as a whole number: by 10 it can be divided only where the
+    /// scale is 0.
     pub fn digits(self) -> u64 {
         self.digits
     }
 
-    /// How many of the digits stand behind the dot.
+    /// How many of the digits stand behind the dot, no zero at their end.
     pub fn scale(self) -> u8 {
         self.scale
     }
@@ -57,6 +76,15 @@ impl FluentNumber {
             0,
         )
     }
+}
+
+/// The same number without zeros at the end of its fraction.
+fn least_scale(mut digits: u64, mut scale: u8) -> (u64, u8) {
+    while scale > 0 && digits.is_multiple_of(10) {
+        digits /= 10;
+        scale -= 1;
+    }
+    (digits, scale)
 }
 
 /// The number is not a decimal of at most 15 digits, 14 of them behind the
@@ -75,9 +103,8 @@ impl Error for NotADecimal {}
 impl FromStr for FluentNumber {
     type Err = NotADecimal;
 
-    /// Reads an optional `-`, digits, and perhaps a dot and digits. As an
-    /// argument has no options, zeros at the end of the fraction are not kept
-    /// when it is formatted.
+    /// Reads an optional `-`, digits, and perhaps a dot and digits. Zeros at
+    /// the end of the fraction are not kept.
     fn from_str(text: &str) -> Result<Self, NotADecimal> {
         let unsigned = text.strip_prefix('-');
         let negative = unsigned.is_some();

@@ -16,7 +16,9 @@ Prints the sheet of a sighting in English, Danish, Russian and Welsh.
   --message ID      one message only, in place of the sheet's
   --attribute ID    an attribute of that message
   --store FILE      format from this store, in place of the sheets
-  --arguments FILE  format with this arguments image, in place of the fields
+  --arguments FILE  format with this arguments image, in place of the fields; its
+                    names ascend by their bytes, each once, and no number has a zero
+                    at the end of its fraction, else it is refused with 19
   --isolate         put isolation marks around what is filled in
   --figures         add the figures: placeables begun, ids unfound, errors, bytes of
                     text, and the bytes of workspace that are needed
@@ -28,7 +30,10 @@ Prints the sheet of a sighting in English, Danish, Russian and Welsh.
   --save-store FILE --save-arguments FILE
                     write the store of the last language, and the arguments image
 
-A number has at most 15 digits: 3, -3 or 3.5. Of equal options the last holds.
+A number has at most 15 digits: 3, -3 or 3.5. Of equal options the last holds,
+so of a field that is given twice the last value; --no leaves a field out, wherever
+it stands. Fields may be given in any order: the arguments image has the names in
+ascending order, and 3.50 as 3.5, so that equal sightings make equal images.
 
 A sheet is the messages sheet, seen, away and who of a store, with its message
 line between two of them. Its errors and its figures stand below it. Behind the

@@ -27,6 +27,11 @@ struct Page<'a> {
 const UNPAIRED: &str =
     "Isolation marks that are not paired: a sentence or a field contains U+2068 or U+2069";
 
+/// Said of an arguments image that is refused with 19. One that is made of fields
+/// never is.
+const UNORDERED: &str = "names must ascend by their bytes, each once, and no number have a zero \
+    at the end of its fraction; --save-arguments writes fields so";
+
 /// What was formatted.
 struct Formatted {
     text: Vec<u8>,
@@ -118,18 +123,23 @@ impl Page<'_> {
         self.options.workspace.unwrap_or(ROOM)
     }
 
-    /// The failure that a refusal is; where the workspace is too short, with its
-    /// length, and how another is lent.
+    /// The failure that a refusal is; of some with what can be done about it.
     fn failure(&self, refusal: Refusal) -> Failure {
-        if refusal != Refusal::SHORT_WORKSPACE {
-            return refusal.into();
-        }
-        let words = match self.options.workspace {
-            None => format!("{refusal}: {ROOM} bytes were lent; --workspace lends another"),
-            Some(1) => format!("{refusal}: 1 byte was lent"),
-            Some(lent) => format!("{refusal}: {lent} bytes were lent"),
+        let hint = match refusal {
+            Refusal::SHORT_WORKSPACE => self.lent(),
+            Refusal::UNORDERED_ARGUMENTS => UNORDERED.to_string(),
+            _ => return refusal.into(),
         };
-        Failure::line(&[words.as_bytes()])
+        Failure::line(&[format!("{refusal}: {hint}").as_bytes()])
+    }
+
+    /// How long the workspace was, and how another is lent.
+    fn lent(&self) -> String {
+        match self.options.workspace {
+            None => format!("{ROOM} bytes were lent; --workspace lends another"),
+            Some(1) => "1 byte was lent".to_string(),
+            Some(lent) => format!("{lent} bytes were lent"),
+        }
     }
 
     /// The first message of the sheet that the store has not, or not with a

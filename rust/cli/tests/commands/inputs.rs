@@ -1,5 +1,7 @@
 //! The files that the stored command lines name.
 
+mod arguments;
+
 use std::path::Path;
 use weszlagyo::syntax::*;
 use weszlagyo::{
@@ -41,7 +43,13 @@ pub fn write(folder: &Path) {
         ("too-long.store", vec![0; 1_048_577]),
         ("usual.arguments", usual.clone()),
         ("cut.arguments", usual[..usual.len() - 1].to_vec()),
-        ("other.arguments", arguments()),
+        ("other.arguments", other()),
+        ("form-order.arguments", arguments::in_form_order()),
+        ("twice.arguments", arguments::twice()),
+        ("long-scale.arguments", arguments::long_scale()),
+        ("long-zero.arguments", arguments::long_zero()),
+        ("prefix-behind.arguments", arguments::prefix_behind()),
+        ("malformed-too.arguments", arguments::malformed_too()),
         ("no.arguments", vec![0, 0, 0, 7, 1, 0, 0]),
         ("most.arguments", vec![0; 65_536]),
         ("too-long.arguments", vec![0; 65_537]),
@@ -71,7 +79,8 @@ fn sheet(locale: Locale, image: Vec<u8>) -> Vec<u8> {
     )
 }
 
-fn arguments() -> Vec<u8> {
+/// Other arguments than the usual ones; the count is -1.5, however it is given.
+fn other() -> Vec<u8> {
     let mut args = FluentArgs::new();
     args.set("species", "minke");
     args.set("count", FluentNumber::new(true, 150, 2).expect("a number"));

@@ -7,7 +7,8 @@
 //! It formatted each message of a sheet by itself. Since a sheet is one call,
 //! the same errors stand together below it, the figures are its own, and the
 //! stores have the message `line`; `sheets.txt` is of that time. `workspace.txt`
-//! came with `--workspace`, `marks.txt` with what is said of isolation marks.
+//! came with `--workspace`, `marks.txt` with what is said of isolation marks, and
+//! `arguments.txt` with their order, since which saved images have other bytes.
 #![forbid(unsafe_code)]
 
 mod inputs;
@@ -104,7 +105,7 @@ fn compare(name: &str, before: &[&[u8]], is_run: impl Fn(&Stored) -> bool) -> us
 #[test]
 fn every_stored_command_line() {
     let count = compare("named", &[b"sheet"], |_| true);
-    assert!(count >= 382, "{count} command lines are stored");
+    assert!(count >= 439, "{count} command lines are stored");
 }
 
 /// `sheet` can be left out. A first word without a `-` is then a command's
@@ -117,6 +118,28 @@ fn sheet_is_the_command_where_none_is_named() {
             .first()
             .is_none_or(|word| word.starts_with(b"-") && word != b"--help")
     });
+}
+
+/// What `--save-arguments` writes is accepted by `--arguments`, and prints the
+/// same.
+#[test]
+fn saved_arguments_print_what_the_fields_print() {
+    let folder = folder("saved");
+    for fields in [
+        vec![],
+        vec!["--species", "minke", "--count", "21"],
+        vec!["--distance", "12.50", "--calves", "0.0", "--leg", "-0.00"],
+        vec!["--observer", "", "--count", "1000000.000"],
+        vec!["--no", "species", "--no", "leg"],
+    ] {
+        let words = fields.iter().map(|word| word.as_bytes());
+        let save: [&[u8]; 3] = [b"--figures", b"--save-arguments", b"saved.arguments"];
+        let made = run(&folder, words.chain(save));
+        let read: [&[u8]; 3] = [b"--figures", b"--arguments", b"saved.arguments"];
+        let read = run(&folder, read);
+        assert_eq!(made.status.code(), Some(0), "{fields:?}");
+        assert_eq!(read, made, "{fields:?}");
+    }
 }
 
 /// The README makes one of the stores, with `printf`.
