@@ -1,7 +1,7 @@
 -- The theorems that 0 means done, one for each operation.
 -- Assumes nothing.
 use native.Mathlib.Omega.{arith}
-use mathlib.Core.Path.{_≡_}
+use mathlib.Core.Path.{_≡_, refl}
 use mathlib.Core.Bool.{Bool, true, false}
 use mathlib.Core.List.{List, [], _∷_}
 use mathlib.Core.Option.{Option, some, none}
@@ -163,6 +163,7 @@ running-told : {n : ℕ} → SheetRunning n → n ≡ 0 → ⊥
 running-told SheetRunning.message h = omega (arith, h)
 running-told SheetRunning.part h = omega (arith, h)
 running-told SheetRunning.arguments h = omega (arith, h)
+running-told SheetRunning.order h = omega (arith, h)
 running-told (SheetRunning.run r) h = run-told r h
 
 pub sheet-told : (s image : Bytes) (b : Buffers) → FormatTold (formatSheet s image b .answer)

@@ -21,21 +21,32 @@ use vectors::string;
 use vectors::tail;
 use vectors::u64_at;
 
-// Is it a store (4), a resource image (5), a sheet image (18), an arguments image (13)?
-fn checked(kind: u8, s: &[u8]) -> Next {
-    match kind {
-        4 => check_store(s),
-        5 => check_resource(s),
-        18 => check_sheet(s),
-        _ => check_arguments(s),
+fn refusal_of(checked: Next, kind: u8) -> u8 {
+    match checked {
+        Next::At(_) => 0,
+        Next::Bad => kind,
     }
 }
 
-fn accepted(kind: u8, s: &[u8]) -> bool {
-    match checked(kind, s) {
-        Next::At(_) => true,
-        Next::Bad => false,
+fn arguments_refusal(s: &[u8]) -> u8 {
+    let mut places = [0usize; 256];
+    check_arguments(s, &mut places)
+}
+
+// The refusal of a store (4), a resource image (5), a sheet image (18), an arguments image (13 or 19); 0 where it is accepted.
+fn refusal(kind: u8, s: &[u8]) -> u8 {
+    match kind {
+        4 => refusal_of(check_store(s), 4),
+        5 => refusal_of(check_resource(s), 5),
+        18 => refusal_of(check_sheet(s), 18),
+        _ => arguments_refusal(s),
     }
+}
+
+// Is it accepted? For the kind 13: is it well-formed arguments, in whatever order?
+fn accepted(kind: u8, s: &[u8]) -> bool {
+    let n = refusal(kind, s);
+    if kind == 13 { n != 13 } else { n == 0 }
 }
 
 // The refusal that a kind of image meets, by the operation.
@@ -48,13 +59,9 @@ fn kind_of(op: u8) -> u8 {
     }
 }
 
-fn answer(kind: u8, s: &[u8]) -> u8 {
-    if accepted(kind, s) { 0 } else { kind }
-}
-
 // Blob, u8 answer: 0, or the number of the refusal.
 pub(crate) fn image_case(s: &[u8]) -> bool {
-    answer(kind_of(byte(s, 0)), blob(s, 1)) == byte(s, past_blob(s, 1))
+    refusal(kind_of(byte(s, 0)), blob(s, 1)) == byte(s, past_blob(s, 1))
 }
 
 fn is_text(told: &[u8], text: &[u8]) -> bool {
@@ -79,7 +86,9 @@ fn is_number(told: &[u8], sign: bool, digits: u64, scale: u8) -> bool {
 
 // What was found, against kind (0 missing, 1 string, 2 number, 3 none) and value (Str; or sign Flag, u64, u8 scale).
 fn is_told(told: &[u8], args: &[u8], name: &[u8]) -> bool {
-    match find_argument(args, name) {
+    let mut places = [0usize; 256];
+    check_arguments(args, &mut places);
+    match find_argument(args, &places, name) {
         Given::Missing => byte(told, 0) == 0,
         Given::Text(a, e) => is_text(told, text_of(args, a, e)),
         Given::Number(sign, digits, scale) => is_number(told, sign, digits, scale),
