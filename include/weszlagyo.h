@@ -18,10 +18,10 @@
  *    pointer may be any that is not null;
  *  - a slice or number that is written overlaps no other one of the call;
  *  - there is stack enough: 64 KiB for the additions; for weszlagyo_format
- *    some kilobytes with ordinary messages, and 2.5 MiB with the deepest that
+ *    some kilobytes with ordinary messages, and 2.75 MiB with the deepest that
  *    are allowed (100 references inside each other, each nested to depth 32);
  *    for weszlagyo_format_sheet what its deepest message needs, within the
- *    same 2.5 MiB. rust/tests/stack measures them.
+ *    same 2.75 MiB. rust/tests/stack measures them.
  */
 #ifndef WESZLAGYO_H
 #define WESZLAGYO_H

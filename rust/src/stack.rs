@@ -24,7 +24,7 @@ use crate::refusals::Refusal;
 /// What the deepest formatting that is legal can use of the stack, in bytes, of a
 /// message or of a sheet, which formats one message after the other.
 /// `tests/stack` measures it.
-pub const FORMAT: usize = 5 << 19;
+pub const FORMAT: usize = 11 << 18;
 
 /// What an addition can use of the stack, and a formatting that is refused for
 /// its list of under 5 bytes, in bytes. `tests/stack` measures it.

@@ -33,7 +33,7 @@ use Rattle.order.proofs.Before.{before-irreflexive, before-trans, before-same}
 use Rattle.order.proofs.Accepted.{accepted-read}
 use Rattle.arguments.specs.Relations.Given.{meant, Within}
 use Rattle.arguments.specs.Relations.Outline.{readable, orMissing, soughtBy, sought}
-use Rattle.arguments.specs.Relations.Places.{stepOf, PlacesOf, Noted, isPast, isAbove, Low}
+use Rattle.arguments.specs.Relations.Places.{stepOf, PlacesOf, Noted, isPast, isAbove, Low, FoundBy, no-count, from-place}
 use Rattle.arguments.proofs.Views.{argument-elim, arguments-image-elim}
 use Rattle.arguments.proofs.Sought.{soughtFrom, sought-within, sought-means}
 
@@ -157,15 +157,15 @@ low-fits {s} {places} {n} {name} {j} low h = product-fits n j h (low-in s places
 
 module _ (s places name : List ℕ) (n : ℕ) {l : Pairs} {f : ℕ} (hm : many [] _∷_ n argumentAt s 7 ≡ got l f) (up : ascending l ≡ true) (pl : PlacesOf s 7 n places) where
   -- the arguments from a place on
-  from-place : (j : ℕ) → j * stepOf n < n → many [] _∷_ (n - j * stepOf n) argumentAt s (getD places j 0) ≡ got (drop (j * stepOf n) l) f
+  place-on : (j : ℕ) → j * stepOf n < n → many [] _∷_ (n - j * stepOf n) argumentAt s (getD places j 0) ≡ got (drop (j * stepOf n) l) f
   unfolding PlacesOf
-  from-place j h =
+  place-on j h =
       let k = many-split s (j * stepOf n) (n - j * stepOf n) n 7 (omega arith) hm in
       subst (λ (i : ℕ). many [] _∷_ (n - j * stepOf n) argumentAt s i ≡ got (drop (j * stepOf n) l) f) (sym (pl j h (take (j * stepOf n) l) (k .0) (k .1))) (k .2)
 
   found-from : (j : ℕ) → j * stepOf n < n → firstNamed name l ≡ firstNamed name (drop (j * stepOf n) l) → meant s (soughtFrom s name (n - j * stepOf n) (getD places j 0)) ≡ firstNamed name l
   found-from j h e =
-      sought-means s name (n - j * stepOf n) (getD places j 0) (from-place j h)
+      sought-means s name (n - j * stepOf n) (getD places j 0) (place-on j h)
       ∙ sought-first name (drop (j * stepOf n) l) (ascending-drop (j * stepOf n) l up)
       ∙ sym e
 
@@ -195,32 +195,38 @@ module _ (s places name : List ℕ) (n : ℕ) {l : Pairs} {f : ℕ} (hm : many [
   found-place {j} (Low.first e) = found-first j e
   found-place {j} (Low.further k h) =
       let w = above-not s places n name j h in
-      many-cons [] _∷_ argumentAt s (n - j * stepOf n) (getD places j 0) (omega (arith, w .0)) (from-place j (w .0)) (λ a e t ha ht q.
+      many-cons [] _∷_ argumentAt s (n - j * stepOf n) (getD places j 0) (omega (arith, w .0)) (place-on j (w .0)) (λ a e t ha ht q.
       argument-elim s (getD places j 0) ha (λ m p v hi hv wa.
       let past : before name (a .0) ≡ false = ap (λ (y : List ℕ × Argument). before name (y .0)) wa ∙ subst (λ (g : Got (List ℕ)). isPast g name ≡ false) (id-str s (getD places j 0) hi) (w .1) in
       found-from j (w .0) (drop-named name (j * stepOf n) l up a t q past)))
 
--- what find_argument answers: a text of it lies in the bytes, and where the image is accepted and its places are noted, it is what the definition says
-abbrev pub FoundIs : List ℕ → List ℕ → List ℕ → Given → Type 0
-FoundIs s places name r = Within s r × (Noted s places → (l : Pairs) → judge s ≡ accepted l → meant s r ≡ firstNamed name l)
-
+-- what is found, where no count can be read and where one is
 module _ (s places name : List ℕ) {r : Num} (is : r ≡ numOf (numberAt 2 s 5)) where
-  pub found-none : r ≡ num.Bad → FoundIs s places name given.Missing
+  pub found-none : r ≡ num.Bad → FoundBy s places name given.Missing
+  found-none h = no-count (num-none is h) refl
+
+  pub found-here : {count from : ℕ} → r ≡ num.At count from → {j : ℕ} → Low s places count name j → {g : Given} → g ≡ soughtFrom s name (count - j * stepOf count) (getD places j 0) → FoundBy s places name g
+  found-here {count} {from} h {j} low e = from-place count from j (num-is is h) low e
+
+module _ {s places name : List ℕ} where
+  -- a text that is found lies in the bytes, whatever they are
+  pub found-within : {g : Given} → FoundBy s places name g → Within s g
   unfolding Within
-  found-none h = (tt, λ _ l a.
-      let w = accepted-read s l a in
-      arguments-image-elim s (w .1) (λ k hk hm. absurd (no k (sym (num-none is h) ∙ hk))))
+  found-within (no-count h e) = subst (Within s) (sym e) tt
+  found-within (from-place n f j h low e) = subst (Within s) (sym e) (sought-within s name (n - j * stepOf n) (getD places j 0))
+
+  -- where the image is accepted and its places are noted, what is found is what the definition says
+  pub found-means : {g : Given} → FoundBy s places name g → Noted s places → (l : Pairs) → judge s ≡ accepted l → meant s g ≡ firstNamed name l
+  unfolding inOrder Noted
+  found-means {g} (no-count h e) noted l a = arguments-image-elim s (accepted-read s l a .1) (λ k hk hm. absurd (no k (sym h ∙ hk)))
     where
       no : (k : ℕ) → bad ≡ got k 7 → ⊥
       no k e = let z : _≡_ {A = ℕ} 0 1 = cc in omega arith
-
-  pub found-here : {count from : ℕ} → r ≡ num.At count from → {j : ℕ} → Low s places count name j → {g : Given} → g ≡ soughtFrom s name (count - j * stepOf count) (getD places j 0) → FoundIs s places name g
-  unfolding inOrder Noted
-  found-here {count} {from} h {j} low {g} e = (subst (Within s) (sym e) (sought-within s name (count - j * stepOf count) (getD places j 0)), λ noted l a.
+  found-means {g} (from-place n f j h low e) noted l a =
       let w = accepted-read s l a in
       arguments-image-elim s (w .1) (λ k hk hm.
-      let q : k ≡ count = same k (sym hk ∙ num-is is h) in
-      ap (meant s) e ∙ found-place s places name count (subst (λ (i : ℕ). many [] _∷_ i argumentAt s 7 ≡ got l (w .0)) q hm) (and-true _ _ (w .2) .0) (noted count (subst (λ (i : ℕ). numberAt 2 s 5 ≡ got i 7) q hk)) low))
+      let q : k ≡ n = same k (sym hk ∙ h) in
+      ap (meant s) e ∙ found-place s places name n (subst (λ (i : ℕ). many [] _∷_ i argumentAt s 7 ≡ got l (w .0)) q hm) (and-true _ _ (w .2) .0) (noted n (subst (λ (i : ℕ). numberAt 2 s 5 ≡ got i 7) q hk)) low)
     where
-      same : (k : ℕ) → got k 7 ≡ got count from → k ≡ count
+      same : (k : ℕ) → got k 7 ≡ got n f → k ≡ n
       same k e = cc

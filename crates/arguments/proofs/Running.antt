@@ -5,8 +5,9 @@ use mathlib.Core.Bool.{Bool, true, false, _&&_, not}
 use mathlib.Core.Option.{Option, some}
 use Prim.Native.Nat.{ℕ, zero, suc, _+_, _-_, _%_, _≤_, _<_}
 use native.Mathlib.Omega.{arith}
-use lib.Dec.{eqb}
-use borrow.Author.Tests.{eq-eqb, ne-eqb}
+use lib.ListN.{length, getD}
+use lib.Dec.{eqb, leb}
+use borrow.Author.Tests.{eqb-true, eq-eqb, ne-eqb, le-leb, lt-leb}
 use Rattle.records.specs.declared.Num.{Num}
 use Rattle.records.specs.declared.Num.the-variants as num
 use Rattle.records.specs.declared.Next.{Next}
@@ -18,16 +19,16 @@ use Rattle.arguments.specs.declared.image.Run.{Run}
 use Rattle.arguments.specs.declared.image.Run.the-variants as run
 use Rattle.records.specs.Got.{Got, got, bad, after}
 use Rattle.records.specs.Relations.Answer.{nextOf, numOf}
-use Rattle.records.specs.Bytes.{part, spanAt, strAt}
+use Rattle.records.specs.Bytes.{part, byteAt, numberAt, spanAt, strAt}
 use Rattle.records.specs.Decode.{many}
 use Rattle.records.specs.Images.{Argument, argumentAt}
-use Rattle.records.proofs.Laws.{next-end}
-use Rattle.records.proofs.Views.{next-is, next-none, str-is, str-bad, id-str, many-cons, many-nil}
+use Rattle.records.proofs.Laws.{after-elim, got-elim, byte-inv, number-inv, next-end}
+use Rattle.records.proofs.Views.{pick-elim, next-is, next-none, str-is, str-bad, id-str, many-cons, many-nil}
 use Rattle.order.specs.Order.{before}
 use Rattle.order.specs.Accepted.{leads, ascending, isLeast, allLeast, inOrder}
 use Rattle.arguments.specs.Relations.Given.{meant, between}
-use Rattle.arguments.specs.Relations.Outline.{valueGiven, readOr, givenFrom}
-use Rattle.arguments.specs.Relations.Checked.{leastGiven, follows, standsAfter, runFrom}
+use Rattle.arguments.specs.Relations.Outline.{numberGiven, textGiven, valueGiven, readOr, givenFrom}
+use Rattle.arguments.specs.Relations.Checked.{isWhole, leastGiven, follows, standsAfter, runFrom}
 use Rattle.arguments.proofs.Views.{argument-elim}
 use Rattle.arguments.proofs.Found.{given-is, value-means}
 
@@ -121,6 +122,56 @@ least-whole f d k h = rw (eq-eqb k 0 h)
 pub least-digits : (f : Bool) (d k : ℕ) → (k ≡ 0 → ⊥) → not (eqb (d % 10) 0) ≡ isLeast (Argument.number f d k)
 unfolding isLeast
 least-digits f d k h = rw (ne-eqb k 0 h)
+
+-- a value that is read: a number, by its parts, or no number
+value-cases : {C : Type 0} (s : List ℕ) (at : ℕ) (g : Got Given) → valueGiven s at ≡ g → (leastGiven (givenFrom g) ≡ true → C)
+    → ((f : Bool) (d k e : ℕ) → at + 10 < length s → getD s at 0 ≡ 2 → k ≡ getD s (at + 10) 0 → g ≡ got (given.Number f d k) e → C) → C
+unfolding valueGiven textGiven numberGiven givenFrom readOr leastGiven
+value-cases s at bad h c n = c refl
+value-cases s at (got v e) h c n =
+    after-elim (byteAt s at) _ h (λ t p hb h.
+    pick-elim _ _ _ h
+    (λ _ h. after-elim (spanAt s p) _ h (λ a i hs h. got-elim h (λ x y. c (ap leastGiven (sym x)))))
+    (λ _ h. pick-elim _ _ _ h
+    (λ two h.
+    after-elim (byteAt s p) _ h (λ f q hf h.
+    after-elim (numberAt 8 s q) _ h (λ d r hd h.
+    after-elim (byteAt s r) _ h (λ k i hk h. got-elim h (λ x y.
+    let tb = byte-inv s at hb in
+    let fb = byte-inv s p hf in
+    let db = number-inv s 8 q hd in
+    let kb = byte-inv s r hk in
+    let er : r ≡ at + 10 = omega (arith, tb .2, fb .2, db .1) in
+    n (eqb f 1) d k e (omega (arith, er, kb .0)) (sym (tb .1) ∙ eqb-true t 2 two) (kb .1 ∙ ap (λ (j : ℕ). getD s j 0) er) (ap (λ (z : Given). got z e) (sym x)))))))
+    (λ _ h. got-elim h (λ x y. c (ap leastGiven (sym x))))))
+
+-- a value without a scale
+module _ (s : List ℕ) (at : ℕ) where
+  scale-none : at + 10 < length s → getD s at 0 ≡ 2 → isWhole s at ≡ true → getD s (at + 10) 0 ≡ 0
+  unfolding isWhole
+  scale-none lt two h = eqb-true (getD s (at + 10) 0) 0 (rw (lt-leb (length s) (at + 10) lt, eq-eqb (getD s at 0) 2 two) at h)
+
+  whole-number : (f : Bool) (d k e : ℕ) → k ≡ 0 → leastGiven (givenFrom (got (given.Number f d k) e)) ≡ true
+  unfolding givenFrom readOr leastGiven
+  whole-number f d k e z = sym (least-whole f d k z)
+
+  pub whole-least : {b : Bool} → b ≡ isWhole s at → b ≡ true → true ≡ leastGiven (givenFrom (valueGiven s at))
+  whole-least e h = value-cases s at (valueGiven s at) refl (λ c. sym c) (λ f d k i lt two ek w.
+      sym (ap (λ (g : Got Given). leastGiven (givenFrom g)) w ∙ whole-number f d k i (ek ∙ scale-none lt two (sym e ∙ h))))
+
+  -- the tests of the code
+  pub whole-short : length s ≤ at + 10 → true ≡ isWhole s at
+  unfolding isWhole
+  whole-short h = rw (le-leb (length s) (at + 10) h)
+
+  module _ (lt : at + 10 < length s) where
+    pub whole-other : (getD s at 0 ≡ 2 → ⊥) → true ≡ isWhole s at
+    unfolding isWhole
+    whole-other h = rw (lt-leb (length s) (at + 10) lt, ne-eqb (getD s at 0) 2 h)
+
+    pub whole-scale : getD s at 0 ≡ 2 → eqb (getD s (at + 10) 0) 0 ≡ isWhole s at
+    unfolding isWhole
+    whole-scale h = rw (lt-leb (length s) (at + 10) lt, eq-eqb (getD s at 0) 2 h)
 
 -- an argument by its name, and the one before it by its name
 module _ (s : List ℕ) (last at : ℕ) {r : Num} (is : r ≡ numOf (spanAt s at)) where

@@ -1,15 +1,11 @@
 // Finding an argument, by the lengths that stand in the bytes: an image that was checked is not checked again.
 ghost use mathlib.Core.Path.{_≡_};
-ghost use mathlib.Core.List.{List};
-ghost use Prim.Native.Nat.{ℕ, _<_};
+ghost use Prim.Native.Nat.{_<_};
 ghost use Rattle.records.specs.Bytes.{strAt};
-ghost use Rattle.records.specs.Images.{Argument};
-ghost use Rattle.records.specs.Names.{firstNamed};
 ghost use Rattle.records.specs.Relations.Answer.{nextOf};
-ghost use Rattle.order.specs.Accepted.{accepted, judge};
-ghost use Rattle.arguments.specs.Relations.Given.{between, meant, Within};
+ghost use Rattle.arguments.specs.Relations.Given.{between};
 ghost use Rattle.arguments.specs.Relations.Outline.{givenFrom, valueGiven, rowAt, readable, orMissing, sought};
-ghost use Rattle.arguments.specs.Relations.Places.{isPast, isAbove, Low, Noted};
+ghost use Rattle.arguments.specs.Relations.Places.{isPast, isAbove, Low, FoundBy};
 use crate::Given;
 use crate::image::smaller;
 use order::Order;
@@ -77,7 +73,7 @@ fn is_above(s: &[u8], places: &[usize; 256], count: usize, place: usize, name: &
     requires { ⌜ place < 256 ⌝ }
     ensures { λ r. ⌜ r ≡ isAbove (now (s .entry)) (now (places .entry)) count (now (name .entry)) place ⌝ }
 {
-    if count <= place * (count / 256 + 1) {
+    if count <= place * (count / 256 + 16) {
         return true;
     }
     let p: &[usize] = places;
@@ -89,7 +85,7 @@ fn find_place(s: &[u8], places: &[usize; 256], count: usize, name: &[u8]) -> usi
     ensures { λ r. ⌜ Low (now (s .entry)) (now (places .entry)) count (now (name .entry)) r ⌝ }
 {
     let mut low = 0usize;
-    let mut high = smaller(count, 256);
+    let mut high = smaller(count / 16 + 1, 256);
     while low + 1 < high {
         let mid = low + (high - low) / 2;
         if is_above(s, places, count, mid, name) {
@@ -132,14 +128,14 @@ fn scan(s: &[u8], from: usize, count: usize, name: &[u8]) -> Given
 
 // What the arguments give for a name. The places are those that check_arguments left.
 pub fn find_argument(args: &[u8], places: &[usize; 256], name: &[u8]) -> Given
-    ensures { λ r. ⌜ Within (now (args .entry)) r × (Noted (now (args .entry)) (now (places .entry)) → (l : List (List ℕ × Argument)) → judge (now (args .entry)) ≡ accepted l → meant (now (args .entry)) r ≡ firstNamed (now (name .entry)) l) ⌝ }
+    ensures { λ r. ⌜ FoundBy (now (args .entry)) (now (places .entry)) (now (name .entry)) r ⌝ }
 {
     let Num::At(count, _) = records::read_u16(args, 5) else {
         return Given::Missing;
     };
     let j = find_place(args, places, count, name);
     let p: &[usize] = places;
-    let passed = j * (count / 256 + 1);
+    let passed = j * (count / 256 + 16);
     scan(args, p[j], count - passed, name)
 }
 

@@ -136,7 +136,7 @@ fn check_all_arguments(s: &[u8], from: usize, count: usize, places: &mut [usize;
     let mut place = 0usize;
     while 0 < left {
         note(places, place, at);
-        let n = smaller(count / 256 + 1, left);
+        let n = smaller(count / 256 + 16, left);
         let Run::Is(r) = check_run(s, at, n, last, fine) else {
             return Run::Bad;
         };

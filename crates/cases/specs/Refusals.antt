@@ -47,7 +47,7 @@ unchanged n b = record { answer = refusedBefore n; buffers = b }
 unfoldable pub cleared : ℕ → ℕ → ℕ → ℕ → Formatted
 cleared n t l w = record { answer = refusedRunning n; buffers = record { text = replicate t 0; list = replicate l 0; work = replicate w 0 } }
 
--- Format: "4; 8; 11 no such message; 12 no such value or attribute; 13 malformed arguments; 7 list buffer under 5 bytes". Where two apply, the one that
+-- Format: "4; 8; 11 no such message; 12 no such value or attribute; 13 malformed arguments; 7 list buffer under 5 bytes", and 19 "directly after 13". Where two apply, the one that
 -- stands first in this list is the answer: each call below is also refused for every later reason that it can be.
 pub record FormatRefusals : Type 0 where
   -- a slice of no byte; an item count that the store has not
@@ -62,6 +62,7 @@ pub record FormatRefusals : Type 0 where
   pub function-no-message : format bundleOf (ascii "NUMBER") none [] (lengths 0 4 0) ≡ unchanged 11 (lengths 0 4 0)
   pub no-attribute : format bundleOf (ascii "a") (some (ascii "x")) [] (lengths 0 4 0) ≡ unchanged 12 (lengths 0 4 0)
   pub bad-arguments : format bundleOf (ascii "a") none [] (lengths 0 4 0) ≡ unchanged 13 (lengths 0 4 0)
+  pub bad-order : format bundleOf (ascii "a") none (encArgumentsImage (whole "n" 1 ∷ whole "m" 1 ∷ [])) (lengths 0 4 0) ≡ unchanged 19 (lengths 0 4 0)
   pub short-list : format bundleOf (ascii "a") none noArguments (lengths 0 4 0) ≡ unchanged 7 (lengths 0 4 0)
   -- "15 the next write passes the text buffer": `Hello` in 5 bytes, and not in 4
   pub text-fits : format bundleOf (ascii "a") none noArguments (lengths 5 5 0) ≡ record {
@@ -93,6 +94,7 @@ format-refusals = record {
   function-no-message = refl;
   no-attribute = refl;
   bad-arguments = refl;
+  bad-order = refl;
   short-list = refl;
   text-fits = refl;
   text-full = refl;

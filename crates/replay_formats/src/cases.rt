@@ -88,7 +88,7 @@ fn left(op: u8, n: u8, list: usize) -> u8 {
     match n {
         4 | 18 => 0xAA,
         7 => if list < 5 { 0xAA } else { 0 },
-        8 | 11 | 12 | 13 => if op == 50 { 0 } else { 0xAA },
+        8 | 11 | 12 | 13 | 19 => if op == 50 { 0 } else { 0xAA },
         _ => 0,
     }
 }

@@ -8,3 +8,4 @@ pub mod Sentences
 pub mod Misreadings
 pub mod Figures
 pub mod CutShort
+pub mod ArgumentsRefused

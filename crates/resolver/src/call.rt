@@ -50,7 +50,19 @@ pub(crate) fn each<'a>(
     let mut p = start;
     let mut i = n;
     while 0 < i {
-        inline::resolve(store, args, places, text, list, work, trail, st, value, left, p);
+        inline::resolve(
+            store,
+            args,
+            places,
+            text,
+            list,
+            work,
+            trail,
+            st,
+            value,
+            left,
+            p,
+        );
         if i == n {
             first = *value;
         }
@@ -84,7 +96,19 @@ pub(crate) fn function<'a>(
         return;
     };
     let old = st[BACK];
-    each(store, args, places, text, list, work, trail, st, value, left, e);
+    each(
+        store,
+        args,
+        places,
+        text,
+        list,
+        work,
+        trail,
+        st,
+        value,
+        left,
+        e,
+    );
     apply(store, work, st, value, at, old);
 }
 

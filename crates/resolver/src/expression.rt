@@ -41,10 +41,34 @@ pub(crate) fn write<'a>(
         return;
     };
     if tag == 8 {
-        select(store, args, places, text, list, work, trail, st, value, left - 1, p);
+        select(
+            store,
+            args,
+            places,
+            text,
+            list,
+            work,
+            trail,
+            st,
+            value,
+            left - 1,
+            p,
+        );
         return;
     }
-    inline::write(store, args, places, text, list, work, trail, st, value, left, at);
+    inline::write(
+        store,
+        args,
+        places,
+        text,
+        list,
+        work,
+        trail,
+        st,
+        value,
+        left,
+        at,
+    );
 }
 
 // A select, past its tag: the selector's text is freed when its variant, or none, is chosen.
@@ -67,7 +91,19 @@ pub(crate) fn select<'a>(
         return;
     }
     let old = st[BACK];
-    inline::resolve(store, args, places, text, list, work, trail, st, value, left, at);
+    inline::resolve(
+        store,
+        args,
+        places,
+        text,
+        list,
+        work,
+        trail,
+        st,
+        value,
+        left,
+        at,
+    );
     if st[REFUSED] != 0 {
         return;
     }
@@ -79,5 +115,17 @@ pub(crate) fn select<'a>(
         list_plain(list, st, Plain::MissingDefault);
         return;
     };
-    pattern::write(store, args, places, text, list, work, trail, st, value, left, to);
+    pattern::write(
+        store,
+        args,
+        places,
+        text,
+        list,
+        work,
+        trail,
+        st,
+        value,
+        left,
+        to,
+    );
 }

@@ -110,7 +110,18 @@ pub fn run_on<'a>(
     let mut trail = [0usize; 102];
     let mut value = [0usize; 10];
     enter(&mut trail, st, q);
-    resolve(store, args, places, text, list, work, &mut trail, st, &mut value, q)
+    resolve(
+        store,
+        args,
+        places,
+        text,
+        list,
+        work,
+        &mut trail,
+        st,
+        &mut value,
+        q,
+    )
 }
 
 // A refusal's number.

@@ -52,7 +52,19 @@ pub(crate) fn write<'a>(
         return;
     };
     if tag == 7 {
-        expression::write(store, args, places, text, list, work, trail, st, value, left - 1, p);
+        expression::write(
+            store,
+            args,
+            places,
+            text,
+            list,
+            work,
+            trail,
+            st,
+            value,
+            left - 1,
+            p,
+        );
         return;
     }
     if tag == 4 {
@@ -76,7 +88,19 @@ pub(crate) fn write<'a>(
         return;
     }
     if tag == 3 {
-        call::function(store, args, places, text, list, work, trail, st, value, left - 1, p);
+        call::function(
+            store,
+            args,
+            places,
+            text,
+            list,
+            work,
+            trail,
+            st,
+            value,
+            left - 1,
+            p,
+        );
         write_called(store, args, text, list, work, st, &*value, p);
         return;
     }
@@ -102,7 +126,19 @@ pub(crate) fn message<'a>(
         return;
     }
     match target_of(store, at, false) {
-        Target::At(q) => pattern::track(store, args, places, text, list, work, trail, st, value, at, q),
+        Target::At(q) => pattern::track(
+            store,
+            args,
+            places,
+            text,
+            list,
+            work,
+            trail,
+            st,
+            value,
+            at,
+            q,
+        ),
         Target::NoValue(from, to) => {
             list_no_value(list, st, &store[from..to]);
             put_error(store, text, work, st, at);
@@ -163,7 +199,19 @@ pub(crate) fn resolve<'a>(
         return;
     }
     if tag == 3 {
-        call::function(store, args, places, text, list, work, trail, st, value, left - 1, p);
+        call::function(
+            store,
+            args,
+            places,
+            text,
+            list,
+            work,
+            trail,
+            st,
+            value,
+            left - 1,
+            p,
+        );
         return;
     }
     resolve_leaf(store, args, places, list, work, st, value, tag, p);
@@ -215,6 +263,18 @@ pub(crate) fn as_text<'a>(
         keep_text(work, st, value, start, was);
         return;
     }
-    expression::write(store, args, places, text, list, work, trail, st, value, left - 1, p);
+    expression::write(
+        store,
+        args,
+        places,
+        text,
+        list,
+        work,
+        trail,
+        st,
+        value,
+        left - 1,
+        p,
+    );
     keep_text(work, st, value, start, was);
 }

@@ -30,7 +30,19 @@ pub(crate) fn write_by_value<'a>(
     ensures { λ r. ⌜ PatternAt (env (now (store .entry)) (lent (now (args .entry)) (now (places .entry)))) left at (world (now (store .entry)) (now (text .entry)) (now (list .entry)) (now (work .entry)) (now (trail .entry)) (scopedS scope (progressOf (now (st .entry))))) (world (now (store .entry)) (now (text .exit)) (now (list .exit)) (now (work .exit)) (now (trail .exit)) (progressOf (now (st .exit)))) × (r ≡ scopeOf (progressOf (now (st .exit)))) ⌝ }
 {
     set_scope(st, scope);
-    pattern::write(store, args, places, text, list, work, trail, st, value, left, at);
+    pattern::write(
+        store,
+        args,
+        places,
+        text,
+        list,
+        work,
+        trail,
+        st,
+        value,
+        left,
+        at,
+    );
     scope_in(&*st)
 }
 

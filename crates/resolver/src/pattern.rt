@@ -121,7 +121,19 @@ pub(crate) fn element<'a>(
     begin(st);
     let marks = has_marks(store, iso, p);
     put_fsi(text, work, st, marks);
-    expression::write(store, args, places, text, list, work, trail, st, value, left, p);
+    expression::write(
+        store,
+        args,
+        places,
+        text,
+        list,
+        work,
+        trail,
+        st,
+        value,
+        left,
+        p,
+    );
     put_cut(store, text, work, st, p);
     put_pdi(text, work, st, marks);
 }
@@ -156,6 +168,18 @@ pub(crate) fn track<'a>(
     }
     trail[d] = q;
     set_depth(st, d + 1);
-    write(store, args, places, text, list, work, trail, st, value, 32, q);
+    write(
+        store,
+        args,
+        places,
+        text,
+        list,
+        work,
+        trail,
+        st,
+        value,
+        32,
+        q,
+    );
     set_depth(st, d);
 }

@@ -53,7 +53,19 @@ pub(crate) fn refer<'a>(
         clear_locals(st);
         return;
     }
-    each(store, args, places, text, list, work, trail, st, value, left, p);
+    each(
+        store,
+        args,
+        places,
+        text,
+        list,
+        work,
+        trail,
+        st,
+        value,
+        left,
+        p,
+    );
     if st[REFUSED] != 0 {
         return;
     }
@@ -91,7 +103,19 @@ pub(crate) fn each<'a>(
     let mut p = start;
     let mut i = n;
     while 0 < i {
-        inline::resolve(store, args, places, text, list, work, trail, st, value, left, p);
+        inline::resolve(
+            store,
+            args,
+            places,
+            text,
+            list,
+            work,
+            trail,
+            st,
+            value,
+            left,
+            p,
+        );
         let Next::At(q) = skip_expression(store, p, left) else {
             return;
         };
@@ -120,7 +144,19 @@ pub(crate) fn found<'a>(
         return;
     }
     match target_of(store, at, true) {
-        Target::At(q) => pattern::track(store, args, places, text, list, work, trail, st, value, at, q),
+        Target::At(q) => pattern::track(
+            store,
+            args,
+            places,
+            text,
+            list,
+            work,
+            trail,
+            st,
+            value,
+            at,
+            q,
+        ),
         Target::NoValue(_, _) => {}
         Target::Missing(lost) => {
             count_if(st, lost);

@@ -57,13 +57,17 @@ with n = encArgumentsImage (whole "n" n ∷ [])
 unfoldable pub wrong : Bytes
 wrong = 0 ∷ 0 ∷ 0 ∷ 7 ∷ 2 ∷ 0 ∷ 0 ∷ []
 
+-- names that do not ascend
+unfoldable pub unordered : Bytes
+unordered = encArgumentsImage (whole "n" 1 ∷ whole "n" 1 ∷ [])
+
 -- three buffers of such lengths, no byte of them zero
 unfoldable pub lengths : ℕ → ℕ → ℕ → Buffers
 lengths t l w = record { text = replicate t 0xAA; list = replicate l 0xBB; work = replicate w 0xCC }
 
 -- the names of this file, open
 unfoldable pub opened : Unit {0}
-unfolding sheeted entries bundle longBundle asks asksFor encRequest encSheet without with wrong lengths
+unfolding sheeted entries bundle longBundle asks asksFor encRequest encSheet without with wrong unordered lengths
 opened = tt
 
 -- sheets that finish
@@ -92,10 +96,11 @@ finishing = record { several = refl; empty = refl; sixties = refl; one-too-many 
 
 -- sheets that are refused
 pub record Refusing : Type 0 where
-  -- a second message that is not there, an attribute that it has not, arguments that are no image: zeros, although the first message wrote
+  -- a second message that is not there, an attribute that it has not, arguments that are no image, or not in order: zeros, although the first message wrote
   pub no-message : formatSheet bundle (encSheet (asks "a" without ∷ asks "zz" without ∷ [])) (lengths 5 5 2) ≡ cleared 11 (lengths 5 5 2)
   pub no-attribute : formatSheet bundle (encSheet (asks "a" without ∷ asksFor "a" "zz" without ∷ [])) (lengths 5 5 2) ≡ cleared 12 (lengths 5 5 2)
   pub no-arguments : formatSheet bundle (encSheet (asks "a" without ∷ asks "a" wrong ∷ [])) (lengths 10 5 2) ≡ cleared 13 (lengths 10 5 2)
+  pub no-order : formatSheet bundle (encSheet (asks "a" without ∷ asks "a" unordered ∷ [])) (lengths 10 5 2) ≡ cleared 19 (lengths 10 5 2)
   -- what the first message left of the text and the list decides the second one's 15 and 7; the whole workspace its 16
   pub text-short : formatSheet bundle (encSheet (asks "a" without ∷ asks "a" without ∷ [])) (lengths 9 5 2) ≡ cleared 15 (lengths 9 5 2)
   pub list-short : formatSheet bundle (encSheet (asks "v" without ∷ asks "v" without ∷ [])) (lengths 8 20 2) ≡ cleared 7 (lengths 8 20 2)
@@ -117,6 +122,7 @@ refusing = record {
   no-message = refl;
   no-attribute = refl;
   no-arguments = refl;
+  no-order = refl;
   text-short = refl;
   list-short = refl;
   work-short = refl;

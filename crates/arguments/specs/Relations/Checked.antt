@@ -1,7 +1,9 @@
 -- What the code's answers mean of an arguments image that is checked.
-use Prim.Native.Nat.{ℕ, zero, suc}
-use mathlib.Core.Bool.{Bool, true, false, _&&_}
+use Prim.Native.Nat.{ℕ, zero, suc, _+_}
+use mathlib.Core.Bool.{Bool, true, false, _&&_, _||_, not}
 use mathlib.Core.List.{List}
+use lib.ListN.{length, getD}
+use lib.Dec.{leb, eqb}
 use Rattle.records.specs.Got.{Got, got, bad}
 use Rattle.records.specs.Bytes.{strAt}
 use Rattle.records.specs.Images.{Argument, argumentAt}
@@ -24,6 +26,10 @@ leastGiven given.Missing = true
 leastGiven (given.Text a e) = true
 leastGiven (given.Number f d k) = isLeast (Argument.number f d k)
 leastGiven given.Nothing = true
+
+-- a value by its bytes is no number, or one without a scale: that stands ten bytes behind its tag
+unfoldable pub isWhole : List ℕ → ℕ → Bool
+isWhole s at = leb (length s) (at + 10) || (not (eqb (getD s at 0) 2) || eqb (getD s (at + 10) 0) 0)
 
 -- a name comes after the one before it, if there is one
 unfoldable pub follows : Got (List ℕ) → List ℕ → Bool

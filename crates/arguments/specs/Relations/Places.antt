@@ -1,5 +1,5 @@
--- The places of an arguments image that are noted for a search: of n arguments every (n / 256 + 1)th, from the first on.
-use Prim.Native.Nat.{ℕ, _+_, _*_, _/_, _<_}
+-- The places of an arguments image that are noted for a search: of n arguments every (n / 256 + 16)th, from the first on, so that an image of few has one place.
+use Prim.Native.Nat.{ℕ, _+_, _-_, _*_, _/_, _<_}
 use mathlib.Core.Path.{_≡_}
 use mathlib.Core.Bool.{Bool, true, false, _||_}
 use mathlib.Core.List.{List, [], _∷_}
@@ -10,12 +10,15 @@ use Rattle.records.specs.Bytes.{numberAt, strAt}
 use Rattle.records.specs.Decode.{many}
 use Rattle.records.specs.Images.{Argument, argumentAt}
 use Rattle.order.specs.Order.{before}
+use Rattle.arguments.specs.Relations.Outline.{rowAt, readable, orMissing, sought}
+use Rattle.arguments.specs.declared.Given.{Given}
+use Rattle.arguments.specs.declared.Given.the-variants as given
 use Rattle.arguments.specs.declared.image.Run.{Run}
 use Rattle.arguments.specs.declared.image.Run.the-variants as run
 
 -- so that there are 256 places at most
 abbrev pub stepOf : ℕ → ℕ
-stepOf n = n / 256 + 1
+stepOf n = n / 256 + 16
 
 -- the places of n arguments from a position on: each is where the arguments before it end
 unfoldable pub PlacesOf : List ℕ → ℕ → ℕ → List ℕ → Type 0
@@ -43,3 +46,9 @@ isAbove s places n name j = leb n (j * stepOf n) || isPast (strAt s (getD places
 pub data Low (s places : List ℕ) (n : ℕ) (name : List ℕ) (j : ℕ) : Type 0 where
   first : j ≡ 0 → Low s places n name j
   further : j < 256 → isAbove s places n name j ≡ false → Low s places n name j
+
+-- what is found for a name, on any bytes and with any places: nothing where no count can be read; else what stands there one by one, from the first place, or from
+-- one that is not above
+pub data FoundBy (s places name : List ℕ) (r : Given) : Type 0 where
+  no-count : numberAt 2 s 5 ≡ bad → r ≡ given.Missing → FoundBy s places name r
+  from-place : (n e j : ℕ) → numberAt 2 s 5 ≡ got n e → Low s places n name j → r ≡ orMissing (sought name (readable (n - j * stepOf n) rowAt s (getD places j 0))) → FoundBy s places name r

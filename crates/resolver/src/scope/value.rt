@@ -258,7 +258,13 @@ pub(crate) fn argument_value(found: Given) -> Local
 }
 
 // A variable: a term's argument where there are any, else the formatting's. A missing one is no Is.
-pub(crate) fn find_variable(s: &[u8], args: &[u8], places: &[usize; 256], st: &[usize; 16], name: &[u8]) -> Local
+pub(crate) fn find_variable(
+    s: &[u8],
+    args: &[u8],
+    places: &[usize; 256],
+    st: &[usize; 16],
+    name: &[u8],
+) -> Local
     ensures { λ r. ⌜ ((u : Setup (env (now (s .entry)) (lent (now (args .entry)) (now (places .entry))))) (x l w t : List ℕ) (L : Limits) (q : State) (k : Machine) → Live L (world (now (s .entry)) x l w t (progressOf (now (st .entry)))) q k → LocalIs (now (s .entry)) (now (args .entry)) w ((progressOf (now (st .entry))) .back) r (variableOf (valuesOf (u .given)) (now (name .entry)) (q .locals))) ⌝ }
 {
     if st[LOCAL] == 1 {

@@ -14,6 +14,9 @@ Inv-loop s places count name low₀ high₀ low high = (high ≤ 256) × Low s p
 abbrev μ-loop : tie.MeasureT-loop
 μ-loop s places count name low₀ high₀ low high = high - low
 
+add-smaller : tie.Need-add-smaller Inv-loop μ-loop
+add-smaller c = search needs
+
 smaller-requires : tie.Need-smaller-requires Inv-loop μ-loop
 smaller-requires c κs = search needs
 
@@ -48,4 +51,4 @@ returns : tie.Need-returns Inv-loop μ-loop
 returns c = c .before .loop .inv .1
 
 pub find-place-spec : {M : Type 1} → statement M
-find-place-spec = tie.close (tie.spec Inv-loop μ-loop smaller-requires loop-holds add-loop sub-mid add-mid is-above-requires loop-less loop-again loop-less-2 loop-again-2 returns)
+find-place-spec = tie.close (tie.spec Inv-loop μ-loop add-smaller smaller-requires loop-holds add-loop sub-mid add-mid is-above-requires loop-less loop-again loop-less-2 loop-again-2 returns)
