@@ -8,6 +8,7 @@ mod call;
 pub mod convert;
 pub mod figures;
 pub mod formats;
+pub mod many;
 pub mod nesting;
 pub mod order;
 pub mod sheet;

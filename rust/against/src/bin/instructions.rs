@@ -1,13 +1,12 @@
 //! Formats one message of the benchmarks' store of 60 entries so many times, or
-//! a sheet of 30, or the message with three texts in the workspace, and does
-//! nothing else, so that `tools/instructions` can count what one formatting
-//! costs; or calls for a sheet with a list of 4 bytes, which is refused once
-//! store and sheet are checked.
+//! a sheet of 30, or the message with three texts in the workspace, or a call with
+//! many variables, and does nothing else, so that `tools/instructions` can count
+//! what one formatting costs; or calls for a sheet with a list of 4 bytes, which is
+//! refused once store and sheet are checked.
 #![forbid(unsafe_code)]
 
-use against::convert;
 use against::sheet::{self, Printed};
-use against::workspace;
+use against::{convert, many, workspace};
 use harness::case::Value;
 use weszlagyo::{operations, FluentBundle, Refusal, Sheet};
 
@@ -18,7 +17,7 @@ fn main() {
         words.next(),
     ) else {
         eprintln!(
-            "usage: instructions TIMES (ID | (--sheet | --sightings) [--checks] | --workspace [--long])"
+            "usage: instructions TIMES (ID | (--sheet | --sightings) [--checks] | --workspace [--long] | --many 0..2)"
         );
         std::process::exit(2);
     };
@@ -39,6 +38,7 @@ fn main() {
             let (id, given) = &printed.messages[0];
             format(times, &printed.made(), id, given, work);
         }
+        "--many" => format_many(times, how.as_deref()),
         id => format(times, &sheet::parts().made(), id, &sheet::arguments(), 256),
     }
 }
@@ -60,6 +60,17 @@ fn format(times: usize, bundle: &FluentBundle, id: &str, given: &[(String, Value
         let length = figures.expect("it is formatted").text;
         std::hint::black_box(length);
     }
+}
+
+/// Formats a call with many variables, and prints how many there are and among how
+/// many arguments.
+fn format_many(times: usize, size: Option<&str>) {
+    let number = size.and_then(|word| word.parse::<usize>().ok());
+    let size = many::sizes()[number.expect("the number of a size")];
+    println!("{} {}", size.variables, size.arguments);
+    let printed = many::printed(size);
+    let (id, given) = &printed.messages[0];
+    format(times, &printed.made(), id, given, 256);
 }
 
 /// Formats a sheet in one call, with a list of that length.

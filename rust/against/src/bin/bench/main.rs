@@ -3,6 +3,7 @@
 #![forbid(unsafe_code)]
 
 mod large;
+mod many;
 mod sheets;
 mod timed;
 mod work;
@@ -36,6 +37,7 @@ fn main() {
     sheets::rows("a sheet of 30 messages", &sightings);
 
     work::table();
+    many::table();
     large::table();
 }
 
