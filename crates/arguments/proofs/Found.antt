@@ -1,33 +1,28 @@
 -- What the code reads of a value: by its tag, where the image decodes, and that a text lies in the bytes.
 use mathlib.Core.Path.{_≡_, refl, ap, sym, subst, _∙_}
-use mathlib.Core.List.{List, [], _∷_}
+use mathlib.Core.List.{List}
 use mathlib.Core.Bool.{Bool, true, false}
-use mathlib.Core.Option.{Option, some, none}
-use Prim.Native.Nat.{ℕ, zero, suc, _+_, _-_, _≤_, _<_}
+use mathlib.Core.Option.{some}
+use Prim.Native.Nat.{ℕ, _+_, _-_, _≤_, _<_}
 use native.Mathlib.Omega.{arith}
 use lib.ListN.{length, getD}
 use lib.Dec.{eqb, leb}
 use borrow.Author.Tests.{eq-eqb, ne-eqb, lt-ltb, le-ltb, leb-true, leb-false}
-use Rattle.records.specs.declared.Next.{Next}
 use Rattle.records.specs.declared.Num.{Num}
-use Rattle.records.specs.declared.Next.the-variants as next
 use Rattle.records.specs.declared.Num.the-variants as num
 use Rattle.arguments.specs.declared.Given.{Given}
 use Rattle.arguments.specs.declared.Given.the-variants as given
-use Rattle.records.specs.Got.{Got, got, bad, Parser, after, test, pick}
+use Rattle.records.specs.Got.{Got, got, bad, after, test, pick}
 use Rattle.records.specs.Relations.Answer.{nextOf, numOf}
 use Rattle.records.specs.Bytes.{part, byteAt, bytesAt, numberAt, spanAt, strAt}
 use Rattle.rules.specs.Rules.{isUtf8}
-use Rattle.decimals.specs.Bytes.{sameBytes}
-use Rattle.records.specs.Decode.{many}
-use Rattle.records.specs.Images.{Argument, argumentNumberAt, argumentValueAt, argumentAt, argumentsOf}
-use Rattle.records.specs.Optional.{orElse, optionOf}
+use Rattle.records.specs.Images.{Argument, argumentValueAt}
 use Rattle.arguments.specs.Relations.Given.{meant, Within}
 use Rattle.arguments.specs.Relations.Outline.{numberGiven, textGiven, valueGiven, rowAt, readOr, givenFrom}
 use Rattle.records.proofs.Laws.{after-elim, got-elim, span-in, byte-inv, number-inv, number-in, bytes-in, bytes-out}
-use Rattle.records.proofs.Views.{pick-elim, as-elim, num-is, num-none, next-is, next-none, str-is, ruled-elim, id-str, flag-elim, many-cons, many-nil}
+use Rattle.records.proofs.Views.{pick-elim, as-elim, num-is, num-none, ruled-elim, flag-elim}
 use Rattle.arguments.proofs.Laws.{between-in}
-use Rattle.arguments.proofs.Views.{argument-elim, argument-value-elim, argument-number-elim, arguments-image-elim}
+use Rattle.arguments.proofs.Views.{argument-value-elim, argument-number-elim}
 
 -- a value by its tag
 module _ (s : List ℕ) (at : ℕ) {r : Num} (is : r ≡ numOf (byteAt s at)) where

@@ -2,10 +2,10 @@
 use mathlib.Core.Path.{_≡_, refl, ap, sym, subst, _∙_}
 use mathlib.Core.List.{List, [], _∷_}
 use mathlib.Core.Bool.{Bool, true, false}
-use Prim.Native.Nat.{ℕ, _+_, _-_, _≤_, _<_}
+use Prim.Native.Nat.{ℕ, _+_}
 use native.Mathlib.Omega.{arith}
 use lib.ListN.{length}
-use lib.Dec.{eqb, leb}
+use lib.Dec.{eqb}
 use borrow.Author.Tests.{eq-eqb, ne-eqb}
 use Rattle.records.specs.declared.Next.{Next}
 use Rattle.records.specs.declared.Next.the-variants as next
@@ -17,10 +17,10 @@ use Rattle.arguments.specs.declared.image.Run.the-variants as run
 use Rattle.records.specs.Got.{Got, got, bad, after, test}
 use Rattle.records.specs.Relations.Answer.{nextOf}
 use Rattle.records.specs.Relations.Head.{headAt, headOf}
-use Rattle.records.specs.Bytes.{numberAt, bytesAt, spanAt, strAt}
+use Rattle.records.specs.Bytes.{numberAt, spanAt, strAt}
 use Rattle.records.specs.Decode.{many}
-use Rattle.records.specs.Images.{Argument, oneAt, argumentAt, argumentsAt, argumentsOf, wholeOf, maxImage}
-use Rattle.records.proofs.Laws.{after-elim, test-elim, got-elim, number-inv, byte-inv, bytes-out, next-at}
+use Rattle.records.specs.Images.{Argument, oneAt, argumentAt, argumentsAt, argumentsOf, wholeOf}
+use Rattle.records.proofs.Laws.{after-elim, test-elim, got-elim, number-inv, byte-inv, bytes-out}
 use Rattle.records.proofs.Views.{one-elim, next-is, next-none}
 use Rattle.records.proofs.ImageHead.{head-is, image-bad, image-stop, image-end}
 use Rattle.order.specs.Accepted.{inOrder, Judged, accepted, refusedFor, judgedIf, judgeRead, judge}

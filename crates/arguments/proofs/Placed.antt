@@ -1,8 +1,8 @@
 -- The places that are noted: a search from the last one that is not above finds what a name has.
 use mathlib.Core.Path.{_≡_, refl, ap, sym, subst, _∙_}
 use mathlib.Core.List.{List, [], _∷_}
-use mathlib.Core.Bool.{Bool, true, false, _&&_, _||_, false≢true}
-use mathlib.Core.Option.{Option, some, none}
+use mathlib.Core.Bool.{Bool, true, false, _||_, false≢true}
+use mathlib.Core.Option.{none}
 use Prim.Native.Nat.{ℕ, zero, suc, _+_, _-_, _*_, _≤_, _<_}
 use native.Mathlib.Omega.{arith}
 use native.Mathlib.Nat.{zero-mul, mul-le-mul-right}
@@ -13,8 +13,6 @@ use Rattle.records.specs.declared.Num.{Num}
 use Rattle.records.specs.declared.Num.the-variants as num
 use Rattle.arguments.specs.declared.Given.{Given}
 use Rattle.arguments.specs.declared.Given.the-variants as given
-use Rattle.order.specs.declared.Order.{Order}
-use Rattle.order.specs.declared.Order.the-variants as order
 use Rattle.decimals.specs.Bytes.{sameBytes}
 use Rattle.decimals.proofs.Same.{same-eq, eq-same}
 use Rattle.decimals.proofs.Tests.{and-true}
@@ -22,14 +20,15 @@ use Rattle.records.specs.Got.{Got, got, bad, after}
 use Rattle.records.specs.Relations.Answer.{numOf}
 use Rattle.records.specs.Bytes.{part, numberAt, spanAt, strAt}
 use Rattle.records.specs.Decode.{many}
-use Rattle.records.specs.Images.{Argument, argumentAt, argumentsOf}
+use Rattle.records.specs.Images.{Argument, argumentAt}
 use Rattle.records.specs.Names.{firstNamed}
 use Rattle.records.proofs.First.{named-here, named-past}
 use Rattle.records.proofs.Views.{num-is, num-none, str-is, str-bad, id-str, many-cons, many-nil}
 use Rattle.order.specs.Order.{before}
 use Rattle.order.specs.Accepted.{leads, ascending, inOrder, accepted, judge}
 use Rattle.order.specs.Relations.Compared.{orderIf, orderOf}
-use Rattle.order.proofs.Before.{before-irreflexive, before-trans, before-same}
+use Rattle.order.proofs.Ascending.{leads-trans}
+use Rattle.order.proofs.Before.{before-irreflexive, before-same}
 use Rattle.order.proofs.Accepted.{accepted-read}
 use Rattle.arguments.specs.Relations.Given.{meant, Within}
 use Rattle.arguments.specs.Relations.Outline.{readable, orMissing, soughtBy, sought}
@@ -50,17 +49,12 @@ many-split s (suc a) b n at q {l} {f} h =
     let k = many-split s a b (n - 1) i (omega arith) ht in
     (k .0, rw (hx, k .1, w), subst (λ (m : Pairs). many [] _∷_ b argumentAt s (k .0) ≡ got (drop (suc a) m) f) (sym w) (k .2)))
 
--- a name before the first of ascending ones is before each
-leads-all : (m n : List ℕ) (l : Pairs) → before m n ≡ true → leads n l ≡ true → leads m l ≡ true
-unfolding leads
-leads-all m n [] h k = refl
-leads-all m n (a ∷ l) h k = before-trans m n (a .0) h k
-
+-- a name before the first of ascending ones is before those that are left of them
 leads-drop : (n : List ℕ) (d : ℕ) (l : Pairs) → leads n l ≡ true → ascending l ≡ true → leads n (drop d l) ≡ true
 unfolding leads ascending
 leads-drop n zero l h k = h
 leads-drop n (suc d) [] h k = refl
-leads-drop n (suc d) (a ∷ l) h k = let w = and-true (leads (a .0) l) (ascending l) k in leads-drop n d l (leads-all n (a .0) l h (w .0)) (w .1)
+leads-drop n (suc d) (a ∷ l) h k = let w = and-true (leads (a .0) l) (ascending l) k in leads-drop n d l (leads-trans n (a .0) l h (w .0)) (w .1)
 
 ascending-drop : (d : ℕ) (l : Pairs) → ascending l ≡ true → ascending (drop d l) ≡ true
 unfolding ascending
@@ -89,7 +83,7 @@ unfolding leads ascending firstNamed
 named-none name [] h k = refl
 named-none name (a ∷ l) h k =
     let w = and-true (leads (a .0) l) (ascending l) k in
-    named-past name a l (unlike name (a .0) h) ∙ named-none name l (leads-all name (a .0) l h (w .0)) (w .1)
+    named-past name a l (unlike name (a .0) h) ∙ named-none name l (leads-trans name (a .0) l h (w .0)) (w .1)
 
 -- where names ascend, the search one by one finds the first of a name
 sought-first : (name : List ℕ) (l : Pairs) → ascending l ≡ true → sought name l ≡ firstNamed name l

@@ -1,8 +1,7 @@
 -- The search among arguments one by one: its turns, what it finds where they decode, and that this is the first of a name where names ascend.
 use mathlib.Core.Path.{_≡_, refl, ap, sym, subst, _∙_}
 use mathlib.Core.List.{List, [], _∷_}
-use mathlib.Core.Bool.{Bool, true, false, _&&_}
-use mathlib.Core.Option.{Option, some, none}
+use mathlib.Core.Option.{Option, some}
 use Prim.Native.Nat.{ℕ, zero, suc, _-_, _≤_, _<_}
 use native.Mathlib.Omega.{arith}
 use Rattle.records.specs.declared.Next.{Next}
@@ -21,7 +20,7 @@ use Rattle.records.specs.Images.{Argument, argumentAt}
 use Rattle.order.specs.Relations.Compared.{orderOf}
 use Rattle.arguments.specs.Relations.Given.{meant, Within}
 use Rattle.arguments.specs.Relations.Outline.{valueGiven, rowAt, readOr, givenFrom, readable, orMissing, soughtBy, sought}
-use Rattle.records.proofs.Views.{num-none, next-is, next-none, str-is, str-bad, id-str, many-cons, many-nil}
+use Rattle.records.proofs.Views.{next-is, next-none, str-is, str-bad, id-str, many-cons, many-nil}
 use Rattle.arguments.proofs.Views.{argument-elim}
 use Rattle.arguments.proofs.Found.{given-is, given-bad, value-means, row-within}
 

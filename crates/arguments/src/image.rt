@@ -153,8 +153,8 @@ fn check_all_arguments(s: &[u8], from: usize, count: usize, places: &mut [usize;
     })
 }
 
-// An arguments image that is all of its slice: 0 where it is accepted, else the refusal, 13 or 19. Where it is accepted, every so manieth argument's place
-// is noted, for find_argument.
+// An arguments image that is all of its slice: 0 where it is accepted, else the refusal, 13 or 19. Where it is accepted, the places of every
+// (count / 256 + 16)th argument are noted, for find_argument.
 pub fn check_arguments(s: &[u8], places: &mut [usize; 256]) -> u8
     ensures { λ r. ⌜ (r ≡ refusalOf (judge (now (s .entry)))) × (r ≡ 0 → Noted (now (s .entry)) (now (places .exit))) ⌝ }
 {

@@ -146,7 +146,7 @@ pub format-told : (s id : Bytes) (a : Option Bytes) (image : Bytes) (b : Buffers
 unfolding format
 format-told s id a image b = store-told (storeOf s) id a image b
 
--- == Sheets: 4, 18 and 7 before any message, 11, 12, 13 and those of a run behind it
+-- == Sheets: 4, 18 and 7 before any message, 11, 12, 13, 19 and those of a run behind it
 
 before-told : {n : ℕ} → SheetBefore n → n ≡ 0 → ⊥
 before-told SheetBefore.store h = omega (arith, h)

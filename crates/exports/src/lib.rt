@@ -71,7 +71,7 @@ pub extern "C" fn weszlagyo_add_function(slice: &mut [u8], id: &[u8], code: u8) 
 }
 
 // Formats the message `id`, or its attribute where `has` is set, with an arguments image, and writes the formatting's five figures. Refusals:
-// 4, 8, 11, 12, 13 and 7, which change nothing; then 15, 7, 16, 17, which clear the three buffers.
+// 4, 8, 11, 12, 13, 19 and 7, which change nothing; then 15, 7, 16, 17, which clear the three buffers.
 #[no_mangle]
 pub extern "C" fn weszlagyo_format<'a>(
     store: &'a [u8],
@@ -113,7 +113,7 @@ pub extern "C" fn weszlagyo_format<'a>(
 }
 
 // Formats the messages of a sheet image one after the other into the same text and the same list, and writes the five figures. Refusals: 4, 18 and 7, which
-// change nothing; then, message by message, 11, 12, 13, 15, 7, 16, 17, which clear the three buffers.
+// change nothing; then, message by message, 11, 12, 13, 19, 15, 7, 16, 17, which clear the three buffers.
 #[no_mangle]
 pub extern "C" fn weszlagyo_format_sheet<'a>(
     store: &'a [u8],

@@ -21,7 +21,7 @@ pub in-none : {a : List ℕ × Argument} → In a [] → ⊥
 in-none = elim [ ]
 
 -- a name before one that stands before the first of some arguments stands before that first too
-leads-trans : (n m : List ℕ) (l : List (List ℕ × Argument)) → before n m ≡ true → leads m l ≡ true → leads n l ≡ true
+pub leads-trans : (n m : List ℕ) (l : List (List ℕ × Argument)) → before n m ≡ true → leads m l ≡ true → leads n l ≡ true
 unfolding leads
 leads-trans n m [] h k = refl
 leads-trans n m (b ∷ l) h k = before-trans n m (b .0) h k

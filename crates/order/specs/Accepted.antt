@@ -28,7 +28,7 @@ unfoldable pub allLeast : List (List ℕ × Argument) → Bool
 allLeast [] = true
 allLeast (a ∷ l) = isLeast (a .1) && allLeast l
 
--- both
+-- names ascend, and every scale is the least
 unfoldable pub inOrder : List (List ℕ × Argument) → Bool
 inOrder l = ascending l && allLeast l
 
@@ -47,6 +47,6 @@ unfoldable pub judgeRead : Got (List (List ℕ × Argument)) → Judged
 judgeRead bad = refusedFor 13
 judgeRead (got l e) = judgedIf (inOrder l) l
 
--- an arguments image
+-- what becomes of an arguments image
 unfoldable pub judge : List ℕ → Judged
 judge image = judgeRead (argumentsOf image)

@@ -29,6 +29,7 @@ ordered = record { prefix = refl; no-longer = refl; longer-less = refl; upper = 
 abbrev pub judged : List (List ℕ × Argument) → Judged
 judged l = judge (encArgumentsImage l)
 
+-- the name n without a value, and with a number
 abbrev pub none : List ℕ × Argument
 none = (ascii "n", Argument.nothing)
 
@@ -39,12 +40,12 @@ number d k = (ascii "n", Argument.number false d k)
 pub record Judging : Type 0 where
   pub empty : judged [] ≡ accepted []
   pub two : judged ((ascii "a", Argument.nothing) ∷ none ∷ []) ≡ accepted ((ascii "a", Argument.nothing) ∷ none ∷ [])
-  pub turned-round : judged (none ∷ (ascii "a", Argument.nothing) ∷ []) ≡ refusedFor 19
+  pub exchanged : judged (none ∷ (ascii "a", Argument.nothing) ∷ []) ≡ refusedFor 19
   pub twice : judged (none ∷ none ∷ []) ≡ refusedFor 19
   -- the prefix comes first
   pub prefix-first : judged (none ∷ (ascii "nn", Argument.nothing) ∷ []) ≡ accepted (none ∷ (ascii "nn", Argument.nothing) ∷ [])
   pub prefix-last : judged ((ascii "nn", Argument.nothing) ∷ none ∷ []) ≡ refusedFor 19
-  -- 1.5; 1.0 with a digit too many; ten; zero, and zero with a digit; minus zero
+  -- 1.5; 1.0 with a digit too many; ten; zero, and zero with a scale; minus zero
   pub fraction : judged (number 15 1 ∷ []) ≡ accepted (number 15 1 ∷ [])
   pub longer-scale : judged (number 10 1 ∷ []) ≡ refusedFor 19
   pub ten : judged (number 10 0 ∷ []) ≡ accepted (number 10 0 ∷ [])
@@ -61,7 +62,7 @@ unfolding orderOpened
 judging = record {
   empty = refl;
   two = refl;
-  turned-round = refl;
+  exchanged = refl;
   twice = refl;
   prefix-first = refl;
   prefix-last = refl;

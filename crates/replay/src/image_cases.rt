@@ -87,7 +87,9 @@ fn is_number(told: &[u8], sign: bool, digits: u64, scale: u8) -> bool {
 // What was found, against kind (0 missing, 1 string, 2 number, 3 none) and value (Str; or sign Flag, u64, u8 scale).
 fn is_told(told: &[u8], args: &[u8], name: &[u8]) -> bool {
     let mut places = [0usize; 256];
-    check_arguments(args, &mut places);
+    if check_arguments(args, &mut places) != 0 {
+        return false;
+    }
     match find_argument(args, &places, name) {
         Given::Missing => byte(told, 0) == 0,
         Given::Text(a, e) => is_text(told, text_of(args, a, e)),

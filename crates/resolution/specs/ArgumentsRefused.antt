@@ -11,7 +11,7 @@ use Rattle.records.specs.Images.{Item, Argument}
 use Rattle.records.specs.Encode.{encArgumentsImage}
 use Rattle.resolution.specs.Effect.{Bytes}
 use Rattle.resolution.specs.Format.{Buffers, Formatted, refuse, formatStore}
-use Rattle.resolution.specs.Case.{a-message, say, whole, lentList, filled, computed}
+use Rattle.resolution.specs.Case.{a-message, say, whole, filled, computed}
 
 -- a list buffer of 4 bytes
 unfoldable pub shortList : Buffers
@@ -22,7 +22,7 @@ unfoldable pub hello : Bytes → Formatted
 hello image = formatStore (got (record { locale = 0; isolating = true; items = Item.plain (a-message "a" (say "Hello" no-more) ∷ []) ∷ [] }) 0) (ascii "a") none image shortList
 
 pub record ArgumentsRefused : Type 0 where
-  -- a byte behind names that do not ascend; the names; a scale that is not the least; and no more than the list
+  -- a byte behind names that do not ascend; the names; a scale that is not the least; and the list alone, which is too short
   pub malformed : hello (encArgumentsImage (whole "n" 1 ∷ whole "m" 1 ∷ []) ++ (0 ∷ [])) ≡ refuse 13 shortList
   pub names : hello (encArgumentsImage (whole "n" 1 ∷ whole "m" 1 ∷ [])) ≡ refuse 19 shortList
   pub scale : hello (encArgumentsImage (whole "m" 1 ∷ (ascii "n", Argument.number true 0 14) ∷ [])) ≡ refuse 19 shortList

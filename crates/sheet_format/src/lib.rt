@@ -55,7 +55,7 @@ fn run_messages<'a>(
     begun
 }
 
-// Formats the messages of a sheet image. Refusals: 4, 18 and 7, which change nothing; then, message by message, 11, 12, 13, 15, 7, 16, 17, which clear the three
+// Formats the messages of a sheet image. Refusals: 4, 18 and 7, which change nothing; then, message by message, 11, 12, 13, 19, 15, 7, 16, 17, which clear the three
 // buffers. The workspace figure is the largest of the messages' highest uses, whatever buffers are lent.
 pub fn format_sheet<'a>(
     store: &'a [u8],

@@ -17,7 +17,7 @@ use Rattle.resolution.specs.Format.{Buffers, Formatted, limitsOf, refuse, orRef
 use Rattle.theorems.specs.Finished.{traceOf, settingOf}
 use Rattle.requests.specs.Image.{Request, sheetOf}
 
--- One message, from a machine on: 13 or 19, "what is wrong inside is its message's 13", and then its run. "Each message starts with no placeables begun": its
+-- One message, from a machine on: 13, "what is wrong inside is its message's 13", or 19, "directly after 13", and then its run. "Each message starts with no placeables begun": its
 -- trace is that of a formatting, from a fresh state. "The workspace is empty at each message's start": every trace leaves it so.
 unfoldable pub runArguments : Store → Limits → Pattern → Judged → Machine → Ran
 runArguments v L p (refusedFor n) m = refused n

@@ -9,7 +9,6 @@ use lib.ListN.{length, take}
 use lib.Dec.{leb}
 use lib.Seq.{take-append-seam}
 use borrow.Author.Tests.{leb-true, le-leb}
-use Rattle.records.specs.Got.{got}
 use Rattle.records.specs.Tree.{Pattern}
 use Rattle.records.specs.Images.{Entry, Store, Argument}
 use Rattle.order.specs.Accepted.{accepted, judge}

@@ -1,6 +1,6 @@
 -- The numbers of a formatting's refusals, before the run and in it.
 use mathlib.Core.Path.{_≡_, refl, subst, _∙_, sym}
-use mathlib.Core.List.{List, [], _∷_}
+use mathlib.Core.List.{[], _∷_}
 use mathlib.Core.Bool.{Bool, true, false}
 use mathlib.Core.Option.{Option, none, some}
 use Prim.Native.Nat.{ℕ, zero, suc}

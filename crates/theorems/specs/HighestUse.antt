@@ -59,7 +59,7 @@ unfoldable pub highest : Trace → Workspace → ℕ
 highest [] w = useOf w
 highest (e ∷ t) w = max (useOf w) (highest t (workspaceAfter e w))
 
--- Of a message of a bundle, its value or an attribute, with an arguments image: the highest use of its trace, from an empty workspace. Where one of these is not there,
+-- Of a message of a bundle, its value or an attribute, with an arguments image: the highest use of its trace, from an empty workspace. Where one of these is not there, or the image is refused,
 -- nothing is resolved.
 unfoldable pub argumentsUse : Store → Pattern → Judged → ℕ
 argumentsUse v p (refusedFor n) = 0

@@ -109,11 +109,10 @@ fn call(tree: &ast::CallArguments<String>) -> Arguments {
     }
 }
 
-/// The crate's arguments, each number with its least scale, set in this order.
+/// The crate's arguments, set in this order: names and scales are the crate's own to bring in order.
 pub fn arguments(from: &[(String, Value)]) -> FluentArgs<'_> {
     let value = |value| match value {
         &Value::Number(d) => {
-            let d = d.shortest();
             let number = FluentNumber::new(d.negative, d.digits, d.scale);
             FluentValue::Number(number.expect("the generator's numbers have 15 digits"))
         }

@@ -46,6 +46,7 @@ unfoldable pub readable : {A : Type 0} → ℕ → Parser A → List ℕ → ℕ
 readable zero p s at = []
 readable (suc n) p s at = readOr [] (p s at) (λ a e. a ∷ readable n p s e)
 
+-- a value, or Missing where there is none
 unfoldable pub orMissing : Option Given → Given
 orMissing none = given.Missing
 orMissing (some v) = v

@@ -2,9 +2,7 @@
 use Prim.Native.Nat.{_-_}
 use Rattle.order.proofs.Compared.{Left, left-all, left-ends, left-greater, left-less, left-longer, left-shorter, left-turn}
 use borrow.Author.Needs.{needs}
-use denote.Ref.{now}
 use lib.ListN.{length}
-use native.Mathlib.Omega.{arith}
 use Rattle.order.proofs.compare.Statement.{statement}
 use Rattle.order.proofs.compare.Tie as tie
 

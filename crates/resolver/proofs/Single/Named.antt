@@ -1,7 +1,7 @@
 -- Laws of named arguments: where one stands, and which is found.
 use mathlib.Core.Path.{_≡_, refl, ap, sym, subst, _∙_}
 use mathlib.Core.List.{List, [], _∷_}
-use mathlib.Core.Bool.{Bool, true, false}
+use mathlib.Core.Bool.{true, false}
 use mathlib.Core.Option.{Option, none, some}
 use Prim.Native.Nat.{ℕ, _-_, _≤_, _<_}
 use native.Mathlib.Omega.{arith}
@@ -20,7 +20,6 @@ use Rattle.records.specs.Decode.{many, namedAt, literalAt, stringAt, literalNum
 use Rattle.records.proofs.Laws.{span-in}
 use Rattle.records.proofs.First.{named-here, named-past}
 use Rattle.records.proofs.Views.{both, never, ruled-elim, id-elim, literal-elim, named-elim, many-nil}
-use Rattle.records.specs.Optional.{orElse, optionOf}
 use Rattle.resolution.specs.Effect.{Bytes}
 use Rattle.records.specs.Names.{firstNamed}
 use Rattle.literals.specs.Relations.Shown.{literalOf}

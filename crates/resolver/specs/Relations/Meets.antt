@@ -193,6 +193,7 @@ pub record Lent : Type 0 where
   pub args : List ℕ
   pub places : List ℕ
 
+-- the two, as they are lent
 abbrev pub lent : List ℕ → List ℕ → Lent
 lent a p = record { args = a; places = p }
 
