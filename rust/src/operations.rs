@@ -1,6 +1,7 @@
 //! The proved operations themselves, on lent slices, as document 01 has them,
-//! and document 02 the sheet and the order of arguments: what each refuses, in which order, and every byte
-//! that it leaves. The rest of this crate stands on these six functions.
+//! and document 02 the sheet and the order of arguments: what each refuses, in
+//! which order, and every byte that it leaves. The rest of this crate stands on
+//! these six functions.
 //!
 //! They run on any stack: where little is left of a thread's, on one of their
 //! own (see [`stack`](crate::stack)). If that can't be had they refuse with

@@ -54,7 +54,7 @@ refusals! {
     MALFORMED_SHEET = 18: "the sheet image is malformed",
         "An id is no Id, an arguments image has under 7 or over 65,536 bytes, or it is too long.";
     UNORDERED_ARGUMENTS = 19: "the arguments are not in order",
-        "The names do not ascend strictly, by their bytes, or a number has not its least scale.";
+        "The names do not ascend strictly, by their bytes, or the scale of a number is not the least.";
     NO_STACK = 255: "there is no memory for a stack",
         "Little is left of the thread's own, and the system gave none. Nothing was changed.";
 }

@@ -97,7 +97,7 @@ impl Sheet {
     /// its length. What is wrong inside is said when the sheet is formatted:
     /// [`Refusal::MALFORMED_ARGUMENTS`], and [`Refusal::UNORDERED_ARGUMENTS`] where
     /// the names are not in strictly ascending order of their bytes, or a number
-    /// has not its least scale.
+    /// has a longer scale than it needs.
     pub fn push_image(
         &mut self,
         id: &str,

@@ -32,7 +32,7 @@ use Rattle.order.proofs.Before.{before-irreflexive, before-same}
 use Rattle.order.proofs.Accepted.{accepted-read}
 use Rattle.arguments.specs.Relations.Given.{meant, Within}
 use Rattle.arguments.specs.Relations.Outline.{readable, orMissing, soughtBy, sought}
-use Rattle.arguments.specs.Relations.Places.{stepOf, PlacesOf, Noted, isPast, isAbove, Low, FoundBy, no-count, from-place}
+use Rattle.arguments.specs.Relations.Places.{stepOf, PlacesOf, Noted, isPast, isAbove, MayBegin, FoundBy, no-count, from-place}
 use Rattle.arguments.proofs.Views.{argument-elim, arguments-image-elim}
 use Rattle.arguments.proofs.Sought.{soughtFrom, sought-within, sought-means}
 
@@ -142,11 +142,11 @@ above-not : (s places : List ℕ) (n : ℕ) (name : List ℕ) (j : ℕ) → isAb
 unfolding isAbove
 above-not s places n name j h = let w = or-false (leb n (j * stepOf n)) (isPast (strAt s (getD places j 0)) name) h in (leb-false n (j * stepOf n) (w .0), w .1)
 
-pub low-in : (s places : List ℕ) (n : ℕ) (name : List ℕ) {j : ℕ} → Low s places n name j → (j < 256) × (j * stepOf n ≤ n)
-low-in s places n name {j} (Low.first e) = (omega arith, subst (λ (i : ℕ). i * stepOf n ≤ n) (sym e) (rw (zero-mul (stepOf n)) (omega arith)))
-low-in s places n name {j} (Low.further k h) = let w = above-not s places n name j h .0 in (k, omega arith)
+pub low-in : (s places : List ℕ) (n : ℕ) (name : List ℕ) {j : ℕ} → MayBegin s places n name j → (j < 256) × (j * stepOf n ≤ n)
+low-in s places n name {j} (MayBegin.first e) = (omega arith, subst (λ (i : ℕ). i * stepOf n ≤ n) (sym e) (rw (zero-mul (stepOf n)) (omega arith)))
+low-in s places n name {j} (MayBegin.further k h) = let w = above-not s places n name j h .0 in (k, omega arith)
 
-pub low-fits : {s places : List ℕ} {n : ℕ} {name : List ℕ} {j : ℕ} → Low s places n name j → n < 18446744073709551616 → j * stepOf n < 18446744073709551616
+pub low-fits : {s places : List ℕ} {n : ℕ} {name : List ℕ} {j : ℕ} → MayBegin s places n name j → n < 18446744073709551616 → j * stepOf n < 18446744073709551616
 low-fits {s} {places} {n} {name} {j} low h = product-fits n j h (low-in s places n name low .0)
 
 module _ (s places name : List ℕ) (n : ℕ) {l : Pairs} {f : ℕ} (hm : many [] _∷_ n argumentAt s 7 ≡ got l f) (up : ascending l ≡ true) (pl : PlacesOf s 7 n places) where
@@ -184,10 +184,10 @@ module _ (s places name : List ℕ) (n : ℕ) {l : Pairs} {f : ℕ} (hm : many [
           none-given (n - j * stepOf n) (getD places j 0) (omega arith) ∙ sym (ap (firstNamed name) w ∙ nothing))
       go (suc m) z = found-from j (omega (arith, zeroed)) (ap (λ (d : ℕ). firstNamed name (drop d l)) (sym zeroed))
 
-  found-place : {j : ℕ} → Low s places n name j → meant s (soughtFrom s name (n - j * stepOf n) (getD places j 0)) ≡ firstNamed name l
+  found-place : {j : ℕ} → MayBegin s places n name j → meant s (soughtFrom s name (n - j * stepOf n) (getD places j 0)) ≡ firstNamed name l
   unfolding isPast
-  found-place {j} (Low.first e) = found-first j e
-  found-place {j} (Low.further k h) =
+  found-place {j} (MayBegin.first e) = found-first j e
+  found-place {j} (MayBegin.further k h) =
       let w = above-not s places n name j h in
       many-cons [] _∷_ argumentAt s (n - j * stepOf n) (getD places j 0) (omega (arith, w .0)) (place-on j (w .0)) (λ a e t ha ht q.
       argument-elim s (getD places j 0) ha (λ m p v hi hv wa.
@@ -199,7 +199,7 @@ module _ (s places name : List ℕ) {r : Num} (is : r ≡ numOf (numberAt 2 s 5)
   pub found-none : r ≡ num.Bad → FoundBy s places name given.Missing
   found-none h = no-count (num-none is h) refl
 
-  pub found-here : {count from : ℕ} → r ≡ num.At count from → {j : ℕ} → Low s places count name j → {g : Given} → g ≡ soughtFrom s name (count - j * stepOf count) (getD places j 0) → FoundBy s places name g
+  pub found-here : {count from : ℕ} → r ≡ num.At count from → {j : ℕ} → MayBegin s places count name j → {g : Given} → g ≡ soughtFrom s name (count - j * stepOf count) (getD places j 0) → FoundBy s places name g
   found-here {count} {from} h {j} low e = from-place count from j (num-is is h) low e
 
 module _ {s places name : List ℕ} where

@@ -5,7 +5,7 @@ ghost use Rattle.records.specs.Bytes.{strAt};
 ghost use Rattle.records.specs.Relations.Answer.{nextOf};
 ghost use Rattle.arguments.specs.Relations.Given.{between};
 ghost use Rattle.arguments.specs.Relations.Outline.{givenFrom, valueGiven, rowAt, readable, orMissing, sought};
-ghost use Rattle.arguments.specs.Relations.Places.{isPast, isAbove, Low, FoundBy};
+ghost use Rattle.arguments.specs.Relations.Places.{isPast, isAbove, MayBegin, FoundBy};
 use crate::Given;
 use crate::image::smaller;
 use order::Order;
@@ -82,7 +82,7 @@ fn is_above(s: &[u8], places: &[usize; 256], count: usize, place: usize, name: &
 
 // The last place whose name is not greater, or the first: by halving.
 fn find_place(s: &[u8], places: &[usize; 256], count: usize, name: &[u8]) -> usize
-    ensures { λ r. ⌜ Low (now (s .entry)) (now (places .entry)) count (now (name .entry)) r ⌝ }
+    ensures { λ r. ⌜ MayBegin (now (s .entry)) (now (places .entry)) count (now (name .entry)) r ⌝ }
 {
     let mut low = 0usize;
     let mut high = smaller(count / 16 + 1, 256);

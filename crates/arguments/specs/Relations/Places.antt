@@ -43,12 +43,12 @@ unfoldable pub isAbove : List ℕ → List ℕ → ℕ → List ℕ → ℕ → 
 isAbove s places n name j = leb n (j * stepOf n) || isPast (strAt s (getD places j 0)) name
 
 -- the first place, or one that is not above
-pub data Low (s places : List ℕ) (n : ℕ) (name : List ℕ) (j : ℕ) : Type 0 where
-  first : j ≡ 0 → Low s places n name j
-  further : j < 256 → isAbove s places n name j ≡ false → Low s places n name j
+pub data MayBegin (s places : List ℕ) (n : ℕ) (name : List ℕ) (j : ℕ) : Type 0 where
+  first : j ≡ 0 → MayBegin s places n name j
+  further : j < 256 → isAbove s places n name j ≡ false → MayBegin s places n name j
 
 -- what is found for a name, on any bytes and with any places: nothing where no count can be read; else what stands there one by one, from the first place, or from
 -- one that is not above
 pub data FoundBy (s places name : List ℕ) (r : Given) : Type 0 where
   no-count : numberAt 2 s 5 ≡ bad → r ≡ given.Missing → FoundBy s places name r
-  from-place : (n e j : ℕ) → numberAt 2 s 5 ≡ got n e → Low s places n name j → r ≡ orMissing (sought name (readable (n - j * stepOf n) rowAt s (getD places j 0))) → FoundBy s places name r
+  from-place : (n e j : ℕ) → numberAt 2 s 5 ≡ got n e → MayBegin s places n name j → r ≡ orMissing (sought name (readable (n - j * stepOf n) rowAt s (getD places j 0))) → FoundBy s places name r

@@ -1,7 +1,7 @@
 -- `arguments::find::find_place` meets its contract: the lower place is the first, or is not above.
 use Prim.Native.Nat.{_-_, _≤_}
 use Rattle.arguments.proofs.Placed.{low-in}
-use Rattle.arguments.specs.Relations.Places.{Low}
+use Rattle.arguments.specs.Relations.Places.{MayBegin}
 use borrow.Author.Needs.{needs}
 use mathlib.Core.Path.{_∙_, refl, sym}
 use native.Mathlib.Omega.{arith}
@@ -9,7 +9,7 @@ use Rattle.arguments.proofs.find.find_place.Statement.{statement}
 use Rattle.arguments.proofs.find.find_place.Tie as tie
 
 abbrev Inv-loop : tie.InvT-loop
-Inv-loop s places count name low₀ high₀ low high = (high ≤ 256) × Low s places count name low
+Inv-loop s places count name low₀ high₀ low high = (high ≤ 256) × MayBegin s places count name low
 
 abbrev μ-loop : tie.MeasureT-loop
 μ-loop s places count name low₀ high₀ low high = high - low
@@ -21,7 +21,7 @@ smaller-requires : tie.Need-smaller-requires Inv-loop μ-loop
 smaller-requires c κs = search needs
 
 loop-holds : tie.Need-loop-holds Inv-loop μ-loop
-loop-holds c = (omega (arith, c .smaller .ensures), Low.first refl)
+loop-holds c = (omega (arith, c .smaller .ensures), MayBegin.first refl)
 
 add-loop : tie.Need-add-loop Inv-loop μ-loop
 add-loop c = let h = low-in _ _ _ _ (c .loop .inv .1) in omega arith
@@ -45,7 +45,7 @@ loop-less-2 : tie.Need-loop-less-2 Inv-loop μ-loop
 loop-less-2 c = search needs
 
 loop-again-2 : tie.Need-loop-again-2 Inv-loop μ-loop
-loop-again-2 c = (c .before .before .before .loop .inv .0, Low.further (omega arith) (sym (c .before .is-above .ensures) ∙ c .if1 .left))
+loop-again-2 c = (c .before .before .before .loop .inv .0, MayBegin.further (omega arith) (sym (c .before .is-above .ensures) ∙ c .if1 .left))
 
 returns : tie.Need-returns Inv-loop μ-loop
 returns c = c .before .loop .inv .1
