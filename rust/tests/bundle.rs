@@ -74,7 +74,7 @@ fn document_01_s_sentences() {
     let five = Arguments::new()
         .positional(number("5"))
         .named("minimumFractionDigits", zero);
-    assert_eq!(text_of(&one(call("NUMBER", five)), None), "5.");
+    assert_eq!(text_of(&one(call("NUMBER", five)), None), "5");
     let none = Arguments::new().positional(variable("m"));
     let none = formatted(&one(call("NUMBER", none)), None);
     assert_eq!(none, ("NUMBER()".into(), vec![unknown_variable("m")]));

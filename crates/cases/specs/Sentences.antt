@@ -4,7 +4,7 @@ use mathlib.Core.Path.{_≡_, refl}
 use mathlib.Core.List.{[], _∷_}
 use Rattle.records.specs.Encode.{encResource}
 use Rattle.bundle.specs.Additions.{done, newBundle}
-use Rattle.resolution.specs.Sentences.{hello, whales, whalesWithout, lone, itself, termFirst, termInTerm, fiveDot, numberOfNone, noFunction, oneDotZero, ws, hundred, hundredOne}
+use Rattle.resolution.specs.Sentences.{hello, whales, whalesWithout, lone, itself, termFirst, termInTerm, fiveNoDot, numberOfNone, noFunction, oneDotZero, ws, hundred, hundredOne}
 use Rattle.cases.specs.Case.{lentSlice, stored, Holds, computed}
 
 -- The lines marked P. Before them, the bundle that each starts from, and the first one's image: "in hexadecimal: 00 00 00 1C 01 00 01 …".
@@ -18,7 +18,7 @@ pub record PCases : Type 0 where
   pub itself-holds : Holds itself
   pub termFirst-holds : Holds termFirst
   pub termInTerm-holds : Holds termInTerm
-  pub fiveDot-holds : Holds fiveDot
+  pub fiveNoDot-holds : Holds fiveNoDot
   pub numberOfNone-holds : Holds numberOfNone
   pub noFunction-holds : Holds noFunction
   pub oneDotZero-holds : Holds oneDotZero
@@ -26,7 +26,7 @@ pub record PCases : Type 0 where
   pub hundredOne-holds : Holds hundredOne
 
 pub p-cases : PCases
-unfolding computed hello whales whalesWithout lone itself termFirst termInTerm fiveDot numberOfNone noFunction oneDotZero ws hundred hundredOne
+unfolding computed hello whales whalesWithout lone itself termFirst termInTerm fiveNoDot numberOfNone noFunction oneDotZero ws hundred hundredOne
 p-cases = record {
   new-bundle = refl;
   hello-image = refl;
@@ -37,7 +37,7 @@ p-cases = record {
   itself-holds = refl;
   termFirst-holds = refl;
   termInTerm-holds = refl;
-  fiveDot-holds = refl;
+  fiveNoDot-holds = refl;
   numberOfNone-holds = refl;
   noFunction-holds = refl;
   oneDotZero-holds = refl;

@@ -5,3 +5,4 @@ pub mod Tests
 pub mod Shown
 pub mod Shortest
 pub mod Writing
+pub mod FinalDot

@@ -13,10 +13,8 @@ use lib.Dec.{ltb, leb}
 use borrow.Author.Tests.{ltb-true, ltb-false, leb-true, lt-ltb, le-ltb}
 use Rattle.decimals.specs.declared.types.NumberText.{NumberText}
 use Rattle.decimals.specs.Decimal.{Options, Number, shortest, orZero, digitsLimit}
-use Rattle.decimals.specs.Text.{digitsOf, width, decimal, signText, fractionText, decimalText, numberText, textLimit, inRange, rangedText, padded}
-use Rattle.decimals.specs.declared.types.Count.{Count}
-use Rattle.decimals.specs.declared.types.Count.the-variants.{Unset, Set}
-use Rattle.decimals.specs.Relations.Shown.{textOf, toldCount, heldText}
+use Rattle.decimals.specs.Text.{digitsOf, width, decimal, signText, fractionDigits, withDot, fractionText, decimalText, numberText, textLimit, inRange, rangedText, padded}
+use Rattle.decimals.specs.Relations.Shown.{textOf, heldText}
 use Rattle.decimals.specs.Relations.Adds.{Adds}
 use Rattle.decimals.proofs.Shortest.{shortest-le}
 use Rattle.decimals.proofs.Tests.{and-true}
@@ -100,11 +98,29 @@ unfolding signText
 sign-length true = omega arith
 sign-length false = omega arith
 
+pub fraction-digits-length : (m d s : ℕ) → length (fractionDigits m d s) ≡ s + (m - s)
+unfolding fractionDigits
+fraction-digits-length m d s = length-append (digitsOf s d) (replicate (m - s) 48) ∙ omega (arith, digits-length s d, length-replicate {A = ℕ} (m - s) 48)
+
+-- a dot stands before digits only
+pub dot-none : (l : List ℕ) → length l ≡ 0 → withDot l ≡ []
+unfolding withDot
+dot-none [] h = refl
+dot-none (b ∷ l) h = absurd (omega arith)
+
+pub dot-some : (l : List ℕ) → 0 < length l → withDot l ≡ 46 ∷ l
+unfolding withDot
+dot-some [] h = absurd (omega arith)
+dot-some (b ∷ l) h = refl
+
+dot-length : (l : List ℕ) → length (withDot l) ≤ length l + 1
+unfolding withDot
+dot-length [] = omega arith
+dot-length (b ∷ l) = omega arith
+
 pub fraction-length : (m : Option ℕ) (d s : ℕ) → s ≤ 14 → orZero m ≤ 19 → length (fractionText m d s) ≤ 20
-unfolding fractionText orZero
-fraction-length none d zero h k = omega arith
-fraction-length none d (suc s) h k = omega (arith, digits-length (suc s) d)
-fraction-length (some m) d s h k = omega (arith, length-append (digitsOf s d) (replicate (m - s) 48), digits-length s d, length-replicate {A = ℕ} (m - s) 48)
+unfolding fractionText
+fraction-length m d s h k = omega (arith, dot-length (fractionDigits (orZero m) d s), fraction-digits-length (orZero m) d s)
 
 -- what a number in range is
 pub in-range : (n : Number) → inRange n ≡ true → (n .digits < digitsLimit) × (n .scale ≤ 14) × (orZero (n .options .minimumFractionDigits) ≤ 19)
@@ -155,27 +171,27 @@ pub number-parts : (n : Number) {p s : ℕ} → shortest (n .digits) (n .scale) 
 unfolding numberText decimalText
 number-parts n e = rw (e, numberText)
 
--- a fraction with no minimum, and with one
-pub plain-fraction : (m : Count) (d s : ℕ) → m ≡ Unset → (s ≡ 0 → ⊥) → fractionText (toldCount m) d s ≡ 46 ∷ digitsOf s d
-unfolding fractionText toldCount
-plain-fraction m d zero e h = absurd (h refl)
-plain-fraction m d (suc s) e h = rw e
+-- the three ways of a fraction, by its digits and its minimum: none, its own, and its own with zeros
+module _ (m : Option ℕ) (d s : ℕ) {k : ℕ} (e : k ≡ orZero m) where
+  pub fraction-none : k ≤ s → s ≡ 0 → fractionText m d s ≡ []
+  unfolding fractionText
+  fraction-none h z = dot-none (fractionDigits (orZero m) d s) (omega (arith, fraction-digits-length (orZero m) d s))
 
-pub plain-length : (m : Count) (d s : ℕ) → m ≡ Unset → (s ≡ 0 → ⊥) → length (fractionText (toldCount m) d s) ≡ s + 1
-plain-length m d s e h = ap length (plain-fraction m d s e h) ∙ omega (arith, digits-length s d)
+  pub fraction-own : k ≤ s → (s ≡ 0 → ⊥) → fractionText m d s ≡ 46 ∷ digitsOf s d
+  unfolding fractionText fractionDigits
+  fraction-own h z =
+      let n : orZero m - s ≡ 0 = omega arith in
+      dot-some (digitsOf s d ++ replicate (orZero m - s) 48) (omega (arith, fraction-digits-length (orZero m) d s)) ∙ rw n (ap (λ (l : List ℕ). 46 ∷ l) (append-nil (digitsOf s d)))
 
-pub padded-fraction : (m : Count) (d s : ℕ) {k : ℕ} → m ≡ Set k → fractionText (toldCount m) d s ≡ 46 ∷ (digitsOf s d ++ replicate (k - s) 48)
-unfolding fractionText toldCount
-padded-fraction m d s e = rw e
+  pub fraction-padded : s < k → fractionText m d s ≡ 46 ∷ (digitsOf s d ++ replicate (k - s) 48)
+  unfolding fractionText fractionDigits
+  fraction-padded h = rw e (dot-some (digitsOf s d ++ replicate (orZero m - s) 48) (omega (arith, fraction-digits-length (orZero m) d s)))
 
-pub padded-length : (m : Count) (d s : ℕ) {k : ℕ} → m ≡ Set k → length (fractionText (toldCount m) d s) ≡ s + (k - s) + 1
-padded-length m d s {k} e = ap length (padded-fraction m d s e) ∙ omega (arith, length-append (digitsOf s d) (replicate (k - s) 48), digits-length s d, length-replicate {A = ℕ} (k - s) 48)
+  pub own-length : k ≤ s → (s ≡ 0 → ⊥) → length (fractionText m d s) ≡ s + 1
+  own-length h z = ap length (fraction-own h z) ∙ omega (arith, digits-length s d)
 
--- where the minimum is met already
-pub padded-none : (m : Count) (d s : ℕ) {k : ℕ} → m ≡ Set k → k ≤ s → 46 ∷ digitsOf s d ≡ fractionText (toldCount m) d s
-padded-none m d s {k} e h =
-    let z : k - s ≡ 0 = omega arith in
-    sym (padded-fraction m d s e ∙ rw z (ap (λ (l : List ℕ). 46 ∷ l) (append-nil (digitsOf s d))))
+  pub padded-length : s < k → length (fractionText m d s) ≡ k + 1
+  padded-length h = ap length (fraction-padded h) ∙ omega (arith, length-append (digitsOf s d) (replicate (k - s) 48), digits-length s d, length-replicate {A = ℕ} (k - s) 48)
 
 -- what is added to a text, one after the other
 pub adds-none : (t : NumberText) → Adds t [] t

@@ -3,4 +3,5 @@ pub mod Ascii
 pub mod Bytes
 pub mod Decimal
 pub mod Text
+pub mod FinalDot
 pub mod Relations

@@ -27,11 +27,18 @@ unfoldable pub signText : Bool → List ℕ
 signText true = ascii "-"
 signText false = []
 
--- "then zeros are added up to the minimum, and with no dot present a dot is written first, so minimum 0 gives `5.`"; 46 is `.`
+-- the digits behind the dot: s of them, of a shortest decimal; "then zeros are added up to the minimum"
+unfoldable pub fractionDigits : ℕ → ℕ → ℕ → List ℕ
+fractionDigits m d s = digitsOf s d ++ replicate (m - s) 48
+
+-- "No dot without digits" (document 02, Card 3): a `.` (46) before digits, and none where there are no digits
+unfoldable pub withDot : List ℕ → List ℕ
+withDot [] = []
+withDot (b ∷ bs) = 46 ∷ b ∷ bs
+
+-- the fraction's text; "A minimum of 0 fraction digits writes no dot": like one that is not set, it asks for no digits
 unfoldable pub fractionText : Option ℕ → ℕ → ℕ → List ℕ
-fractionText none d zero = []
-fractionText none d (suc s) = 46 ∷ digitsOf (suc s) d
-fractionText (some m) d s = 46 ∷ (digitsOf s d ++ replicate (m - s) 48)
+fractionText m d s = withDot (fractionDigits (orZero m) d s)
 
 -- the text of d over 10^s, a shortest decimal
 unfoldable pub decimalText : Bool → Option ℕ → ℕ × ℕ → List ℕ

@@ -10,7 +10,7 @@ ghost use mathlib.Core.Path.{_≡_};
 ghost use Prim.Native.Nat.{_+_, _/_, _^_, _≤_, _<_};
 ghost use mathlib.Core.List.{[], _∷_};
 ghost use lib.ListN.{length, replicate};
-ghost use Rattle.decimals.specs.Decimal.{shortest as shortestOf};
+ghost use Rattle.decimals.specs.Decimal.{shortest as shortestOf, orZero};
 ghost use Rattle.decimals.specs.Text.{digitsOf, decimal, signText, fractionText, textLimit, inRange, rangedText};
 ghost use Rattle.decimals.specs.Relations.Shown.{told, toldCount, heldText};
 ghost use Rattle.decimals.specs.Relations.Adds.{Adds};
@@ -115,25 +115,29 @@ fn push_sign(t: NumberText, negative: bool) -> NumberText
     t
 }
 
+// A count, 0 where it is not set.
+fn or_zero(m: Count) -> u64
+    ensures { λ r. ⌜ r ≡ orZero (toldCount m) ⌝ }
+{
+    match m {
+        Count::Unset => 0,
+        Count::Set(k) => k,
+    }
+}
+
+// A text with a fraction added: a dot, s digits, and zeros up to the minimum; nothing where that is no digit.
 fn push_fraction(t: NumberText, m: Count, d: u64, s: u64) -> NumberText
     requires { ⌜ t .len + length (fractionText (toldCount m) d s) ≤ textLimit ⌝ }
     ensures { λ r. ⌜ Adds t (fractionText (toldCount m) d s) r ⌝ }
 {
-    match m {
-        Count::Unset => {
-            if s == 0 {
-                return t;
-            }
-            push_digits(push(t, 46), s, d)
+    let k = or_zero(m);
+    if k <= s {
+        if s == 0 {
+            return t;
         }
-        Count::Set(k) => {
-            let u = push_digits(push(t, 46), s, d);
-            if k <= s {
-                return u;
-            }
-            push_zeros(u, k - s)
-        }
+        return push_digits(push(t, 46), s, d);
     }
+    push_zeros(push_digits(push(t, 46), s, d), k - s)
 }
 
 fn empty() -> NumberText

@@ -40,7 +40,7 @@ unfolding numbers-literal.numberStep numbers-literal.digitCount numbers-literal.
 numbersLiteral = tt
 
 unfoldable pub numbersText : Unit {0}
-unfolding numbers-text.digitsOf numbers-text.width numbers-text.decimal numbers-text.signText numbers-text.fractionText numbers-text.decimalText numbers-text.numberText
+unfolding numbers-text.digitsOf numbers-text.width numbers-text.decimal numbers-text.signText numbers-text.fractionDigits numbers-text.withDot numbers-text.fractionText numbers-text.decimalText numbers-text.numberText
 numbersText = tt
 
 unfoldable pub numbersEqual : Unit {0}

@@ -107,13 +107,13 @@ termInTerm = record {
   work = 0;
 }
 
--- `a = { NUMBER(5, minimumFractionDigits: 0) }`: `5.`, dot included.
-unfoldable pub fiveDot : Case
-fiveDot = record {
+-- `a = { NUMBER(5, minimumFractionDigits: 0) }`: document 02, "the case `5.` becomes `5`".
+unfoldable pub fiveNoDot : Case
+fiveNoDot = record {
   entries = a-message "a" (put (call "NUMBER" (and (numeral "5") no-inline) ((ascii "minimumFractionDigits", Literal.number (ascii "0")) ∷ [])) no-more) ∷ [];
   message = ascii "a";
   arguments = [];
-  text = ascii "5.";
+  text = ascii "5";
   list = noErrors;
   errors = 0;
   begun = 1;
@@ -205,7 +205,7 @@ pub record PFormats : Type 0 where
   pub itself-formats : Formats itself
   pub termFirst-formats : Formats termFirst
   pub termInTerm-formats : Formats termInTerm
-  pub fiveDot-formats : Formats fiveDot
+  pub fiveNoDot-formats : Formats fiveNoDot
   pub numberOfNone-formats : Formats numberOfNone
   pub noFunction-formats : Formats noFunction
   pub oneDotZero-formats : Formats oneDotZero
@@ -213,7 +213,7 @@ pub record PFormats : Type 0 where
   pub hundredOne-formats : Formats hundredOne
 
 pub p-formats : PFormats
-unfolding computed ws hello whales whalesWithout lone itself termFirst termInTerm fiveDot numberOfNone noFunction oneDotZero hundred hundredOne
+unfolding computed ws hello whales whalesWithout lone itself termFirst termInTerm fiveNoDot numberOfNone noFunction oneDotZero hundred hundredOne
 p-formats = record {
   hello-formats = refl;
   whales-formats = refl;
@@ -222,7 +222,7 @@ p-formats = record {
   itself-formats = refl;
   termFirst-formats = refl;
   termInTerm-formats = refl;
-  fiveDot-formats = refl;
+  fiveNoDot-formats = refl;
   numberOfNone-formats = refl;
   noFunction-formats = refl;
   oneDotZero-formats = refl;

@@ -8,8 +8,8 @@ use native.Mathlib.Omega.{arith}
 use lib.ListN.{replicate}
 use lib.Dec.{eqb, leb}
 use borrow.Author.Tests.{eqb-true, leb-true, leb-false, lt-leb, ne-eqb}
-use Rattle.numbers.specs.Number.{Number, shortest}
-use Rattle.decimals.specs.Text.{digitsOf, decimal, width, signText, fractionText, decimalText, numberText}
+use Rattle.numbers.specs.Number.{Number, shortest, orZero}
+use Rattle.decimals.specs.Text.{digitsOf, decimal, width, signText, fractionDigits, withDot, fractionText, decimalText, numberText}
 use Rattle.decimals.specs.Bytes.{run, choose, digit}
 use Rattle.rules.specs.Rules.{letter, idStep, isId}
 use Rattle.records.specs.Valid.{All}
@@ -40,11 +40,14 @@ unfolding signText
 sign-ascii true = (omega arith, tt)
 sign-ascii false = tt
 
+dot-ascii : (l : List ℕ) → Ascii l → Ascii (withDot l)
+unfolding withDot
+dot-ascii [] h = tt
+dot-ascii (b ∷ l) h = (omega arith, h)
+
 fraction-ascii : (o : Option ℕ) (d s : ℕ) → Ascii (fractionText o d s)
-unfolding fractionText
-fraction-ascii none d zero = tt
-fraction-ascii none d (suc s) = (omega arith, digits-ascii (suc s) d)
-fraction-ascii (some m) d s = (omega arith, ascii-append (digitsOf s d) (replicate (m - s) 48) (digits-ascii s d) (zeros-ascii (m - s)))
+unfolding fractionText fractionDigits
+fraction-ascii o d s = dot-ascii (digitsOf s d ++ replicate (orZero o - s) 48) (ascii-append (digitsOf s d) (replicate (orZero o - s) 48) (digits-ascii s d) (zeros-ascii (orZero o - s)))
 
 decimal-ascii : (b : Bool) (o : Option ℕ) (p : ℕ × ℕ) → Ascii (decimalText b o p)
 unfolding decimalText decimal

@@ -10,6 +10,7 @@ pub mod figures;
 pub mod formats;
 pub mod many;
 pub mod nesting;
+pub mod numbers;
 pub mod order;
 pub mod sheet;
 pub mod sheets;

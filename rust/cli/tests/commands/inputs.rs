@@ -29,6 +29,8 @@ pub fn write(folder: &Path) {
         ("small.store", small(FluentResource::builder())),
         ("kinds.store", kinds()),
         ("marks.store", marks()),
+        ("fractions.store", fractions()),
+        ("distances.store", distances()),
         (
             "no-line.store",
             store(Locale::En, &[built(short_messages())]),
@@ -91,13 +93,6 @@ fn other() -> Vec<u8> {
 
 /// Terms, attributes, and everything that can go wrong.
 fn mixed() -> Vec<u8> {
-    let fraction = |digits: &str| {
-        let given = Arguments::new().positional(variable("count"));
-        call(
-            "NUMBER",
-            given.named("minimumFractionDigits", Literal::Number(digits.into())),
-        )
-    };
     let greet = Pattern::new()
         .text("Hello, ")
         .place(variable("observer"))
@@ -138,9 +133,9 @@ fn mixed() -> Vec<u8> {
         .message("control", "a\tb\nc\u{1}d")
         .message("hundred", many(100))
         .message("hundred-one", many(101))
-        .message("two-digits", Pattern::new().place(fraction("2")))
-        .message("nineteen-digits", Pattern::new().place(fraction("19")))
-        .message("twenty-digits", Pattern::new().place(fraction("20")))
+        .message("two-digits", fraction("count", "2"))
+        .message("nineteen-digits", fraction("count", "19"))
+        .message("twenty-digits", fraction("count", "20"))
         .message(
             "no-default",
             Pattern::from(select(variable("species")).variant("none", "x")),
@@ -204,6 +199,53 @@ pub fn kinds() -> Vec<u8> {
     bundle.store().to_vec()
 }
 
+/// A field as NUMBER gives it, with so many fraction digits at least.
+fn fraction(field: &str, digits: &str) -> Inline {
+    let given = Arguments::new().positional(variable(field));
+    call(
+        "NUMBER",
+        given.named("minimumFractionDigits", Literal::Number(digits.into())),
+    )
+}
+
+fn metres(digits: &str) -> Pattern {
+    Pattern::new()
+        .place(fraction("distance", digits))
+        .text(" m")
+}
+
+/// The other store of the README: the distance with a minimum of 0 and of 2
+/// fraction digits.
+pub fn distances() -> Vec<u8> {
+    let messages = FluentResource::builder()
+        .message("least", metres("0"))
+        .message("fine", metres("2"));
+    store(Locale::En, &[built(messages)])
+}
+
+/// Numbers with a minimum of 0 fraction digits: written, before a dot of the
+/// text, as a selector, and in the workspace; others with a minimum of 2.
+fn fractions() -> Vec<u8> {
+    let ends = Pattern::new()
+        .text("It was ")
+        .place(fraction("distance", "0"))
+        .text(".");
+    let choice = select(fraction("count", "0"))
+        .variant("1", "equal")
+        .variant("one", "one")
+        .default("other", "other");
+    let held = select(message("least")).default("other", "x");
+    let messages = FluentResource::builder()
+        .message("least", metres("0"))
+        .message("dropped", metres("0.9"))
+        .message("negative", metres("-3"))
+        .message("fine", metres("2"))
+        .message("ends", ends)
+        .message("choice", Pattern::from(choice))
+        .message("held", Pattern::from(held));
+    store(Locale::En, &[built(messages)])
+}
+
 /// Sentences with isolation marks in a text, in a literal as it is and by an
 /// escape, and in none; one of these is cut short inside two isolates.
 fn marks() -> Vec<u8> {
@@ -253,10 +295,7 @@ fn no_value() -> ResourceBuilder {
 
 /// A message of the sheet that is refused with 17.
 fn many_digits() -> ResourceBuilder {
-    let digits = Literal::Number("20".into());
-    let given = Arguments::new().positional(variable("count"));
-    let given = given.named("minimumFractionDigits", digits);
-    FluentResource::builder().message("away", call("NUMBER", given))
+    FluentResource::builder().message("away", fraction("count", "20"))
 }
 
 /// A message of the sheet with so many times 40,000 bytes of text.

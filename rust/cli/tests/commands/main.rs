@@ -7,8 +7,9 @@
 //! It formatted each message of a sheet by itself. Since a sheet is one call,
 //! the same errors stand together below it, the figures are its own, and the
 //! stores have the message `line`; `sheets.txt` is of that time. `workspace.txt`
-//! came with `--workspace`, `marks.txt` with what is said of isolation marks, and
-//! `arguments.txt` with their order, since which saved images have other bytes.
+//! came with `--workspace`, `marks.txt` with what is said of isolation marks,
+//! `arguments.txt` with their order, since which saved images have other bytes, and
+//! `fractions.txt` with numbers that end in a digit.
 #![forbid(unsafe_code)]
 
 mod inputs;
@@ -105,7 +106,7 @@ fn compare(name: &str, before: &[&[u8]], is_run: impl Fn(&Stored) -> bool) -> us
 #[test]
 fn every_stored_command_line() {
     let count = compare("named", &[b"sheet"], |_| true);
-    assert!(count >= 439, "{count} command lines are stored");
+    assert!(count >= 466, "{count} command lines are stored");
 }
 
 /// `sheet` can be left out. A first word without a `-` is then a command's
@@ -142,17 +143,23 @@ fn saved_arguments_print_what_the_fields_print() {
     }
 }
 
-/// The README makes one of the stores, with `printf`.
+/// The README makes two of the stores, with `printf`.
 #[test]
-fn the_store_of_the_readme() {
+fn the_stores_of_the_readme() {
     let readme = include_str!("../../../../README.md");
-    let readme = readme.replace("' >/tmp/kinds.store\n    printf '", "");
     let escaped = |byte: u8| match byte {
         b' ' | b'A'..=b'Z' | b'a'..=b'z' => char::from(byte).to_string(),
         _ => format!("\\{byte:o}"),
     };
-    let bytes: String = inputs::kinds().into_iter().map(escaped).collect();
-    assert!(readme.contains(&format!("printf '{bytes}' >>/tmp/kinds.store")));
+    for (name, bytes) in [
+        ("kinds", inputs::kinds()),
+        ("distances", inputs::distances()),
+    ] {
+        let readme = readme.replace(&format!("' >/tmp/{name}.store\n    printf '"), "");
+        let bytes: String = bytes.into_iter().map(escaped).collect();
+        let made = format!("printf '{bytes}' >>/tmp/{name}.store");
+        assert!(readme.contains(&made), "{made}");
+    }
 }
 
 #[test]

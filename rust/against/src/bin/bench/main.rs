@@ -4,6 +4,8 @@
 
 mod large;
 mod many;
+mod numbers;
+mod one;
 mod sheets;
 mod timed;
 mod work;
@@ -11,10 +13,9 @@ mod work;
 use against::{convert, sheet};
 use harness::case::Item;
 use harness::rust;
-use sheets::{format_theirs, Theirs};
 use std::hint::black_box;
 use timed::{head, race, row, Timed, ROUND, ROUNDS};
-use weszlagyo::{operations, Buffers, FluentBundle, FluentResource, Refusal};
+use weszlagyo::{operations, FluentBundle, FluentResource, Refusal};
 
 fn main() {
     let parts = sheet::parts();
@@ -24,7 +25,7 @@ fn main() {
         ROUND.as_millis()
     );
     head();
-    one_message(&parts);
+    one::rows("one message", &parts, 12);
     sheets::rows("a sheet of 30 messages", &parts);
     a_bundle_made(&parts);
 
@@ -37,44 +38,9 @@ fn main() {
     sheets::rows("a sheet of 30 messages", &sightings);
 
     work::table();
+    numbers::table();
     many::table();
     large::table();
-}
-
-/// Times one message, and the check of the store in it.
-fn one_message(printed: &sheet::Printed) {
-    let (id, given) = &printed.messages[12];
-    let original = rust::bundle(&printed.bundle);
-    let theirs: Theirs = (id, rust::arguments(given));
-    let bundle = printed.made();
-    let store = bundle.store();
-    let args = convert::arguments(given);
-    let image = args.image().expect("they fit");
-    let ours = bundle.format(id, None, Some(&args)).expect("formatted");
-    assert_eq!(ours.text, format_theirs(&original, &theirs));
-
-    let mut target = vec![0; store.len()];
-    let mut buffers = Buffers::with_lengths(256, 256, 256);
-    let (mut text, mut list, mut work) = ([0; 256], [0; 256], [0; 256]);
-    let [raw, crate_, check, theirs, copy] = race([
-        Timed::new(|| {
-            let (text, list, work) = (&mut text, &mut list, &mut work);
-            let answer = operations::format(store, id.as_bytes(), None, &image, text, list, work);
-            black_box(answer.expect("formatted"));
-        }),
-        Timed::new(|| {
-            let answer = bundle.format_in(&mut buffers, id, None, Some(&args));
-            black_box(answer.expect("formatted"));
-        }),
-        Timed::new(|| check_of(store)),
-        Timed::new(|| {
-            black_box(format_theirs(&original, &theirs).len());
-        }),
-        Timed::new(|| black_box(&mut target).copy_from_slice(black_box(store))),
-    ]);
-    row("one message, the operation", raw, theirs, copy);
-    row("one message, `format_in`", crate_, theirs, copy);
-    row("of which the store's check", check, theirs, copy);
 }
 
 /// Times a bundle with NUMBER and its resources.

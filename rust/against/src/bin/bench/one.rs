@@ -1,0 +1,48 @@
+//! One message: the operation, `format_in`, and the check of the store in them.
+
+use crate::check_of;
+use crate::sheets::{format_theirs, Theirs};
+use crate::timed::{race, row, Timed};
+use against::{convert, sheet};
+use harness::rust;
+use std::hint::black_box;
+use weszlagyo::{operations, Buffers};
+
+/// Room for each of the buffers.
+const ROOM: usize = 256;
+
+/// Times the message at that place of the printed ones.
+pub fn rows(name: &str, printed: &sheet::Printed, at: usize) {
+    let (id, given) = &printed.messages[at];
+    let original = rust::bundle(&printed.bundle);
+    let theirs: Theirs = (id, rust::arguments(given));
+    let bundle = printed.made();
+    let store = bundle.store();
+    let args = convert::arguments(given);
+    let image = args.image().expect("they fit");
+    let ours = bundle.format(id, None, Some(&args)).expect("formatted");
+    assert_eq!(ours.text, format_theirs(&original, &theirs));
+
+    let mut target = vec![0; store.len()];
+    let mut buffers = Buffers::with_lengths(ROOM, ROOM, ROOM);
+    let (mut text, mut list, mut work) = ([0; ROOM], [0; ROOM], [0; ROOM]);
+    let [raw, crate_, check, theirs, copy] = race([
+        Timed::new(|| {
+            let (text, list, work) = (&mut text, &mut list, &mut work);
+            let answer = operations::format(store, id.as_bytes(), None, &image, text, list, work);
+            black_box(answer.expect("formatted"));
+        }),
+        Timed::new(|| {
+            let answer = bundle.format_in(&mut buffers, id, None, Some(&args));
+            black_box(answer.expect("formatted"));
+        }),
+        Timed::new(|| check_of(store)),
+        Timed::new(|| {
+            black_box(format_theirs(&original, &theirs).len());
+        }),
+        Timed::new(|| black_box(&mut target).copy_from_slice(black_box(store))),
+    ]);
+    row(&format!("{name}, the operation"), raw, theirs, copy);
+    row("the same, `format_in`", crate_, theirs, copy);
+    row("of which the store's check", check, theirs, copy);
+}
