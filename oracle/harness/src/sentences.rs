@@ -1,5 +1,6 @@
 //! Document 01's "Sentences to reproduce" and "Misreadings", as cases with the
-//! answers that it states. ⟨ and ⟩ stand for U+2068 and U+2069.
+//! answers that it states; S7, its `5.`, is `5` since document 02's Card 3. ⟨ and ⟩
+//! stand for U+2068 and U+2069.
 
 use crate::case::{Bundle, Case, Item, Value};
 use crate::ftl;
@@ -71,7 +72,7 @@ pub fn sentences() -> Vec<Sentence> {
         sentence("S4", &["a = x { a }"], "a", None, "x {a}", &["cyclic"], 1, 0),
         sentence("S5", &["a = { -t } { $n }\n-t = { $n }"], "a", two, "{$n} ⟨2⟩", &[], 3, 0),
         sentence("S6", &["a = { -t }\n-t = { -u }{ $n }\n-u = u"], "a", two, "u⟨2⟩", &[], 3, 0),
-        sentence("S7", &["a = { NUMBER(5, minimumFractionDigits: 0) }"], "a", None, "5.", &[], 1, 0),
+        sentence("S7", &["a = { NUMBER(5, minimumFractionDigits: 0) }"], "a", None, "5", &[], 1, 0),
         sentence("S8", &["a = { NUMBER($m) }"], "a", None, "NUMBER()", &["variable m"], 1, 0),
         sentence("S9", &["a = { F() }"], "a", None, "{F()}", &["function F"], 1, 1),
         sentence("S10", &["a = { $n -> [1.0] x *[o] y }"], "a", Some("1"), "y", &[], 1, 0),

@@ -1,5 +1,7 @@
 //! A separate, small writing-down of document 01: numbers, the layouts, the
-//! additions and formatting; of document 02's sheets, of its isolation marks and of its order of arguments. It shares nothing with the Rust but the tests.
+//! additions and formatting; of document 02's sheets, of its isolation marks, of its
+//! order of arguments and of its numbers without a last dot. It shares nothing with
+//! the Rust but the tests.
 
 pub mod arguments;
 pub mod effects;
@@ -12,4 +14,5 @@ pub mod premises;
 pub mod reader;
 pub mod resolve;
 pub mod sheet;
+mod value;
 pub mod workspace;

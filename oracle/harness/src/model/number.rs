@@ -1,5 +1,5 @@
 //! Decimals, number text, NUMBER's options and plural categories, after
-//! document 01 and with whole numbers only.
+//! document 01 and document 02's Card 3, and with whole numbers only.
 
 /// digits over 10^scale, with a sign; -0 is one.
 #[derive(Clone, Copy, Debug, PartialEq)]
@@ -145,25 +145,31 @@ impl Number {
         self.options.counts[MINIMUM_FRACTION]
     }
 
+    /// The shortest decimal, with zeros added up to the minimum. A dot stands only
+    /// where digits follow it (document 02's Card 3).
     pub fn text(&self) -> Vec<u8> {
         let d = self.value.shortest();
         let scale = usize::from(d.scale);
-        let mut text = format!("{:0>width$}", d.digits, width = scale + 1);
-        if scale > 0 {
-            text.insert(text.len() - scale, '.');
-        }
+        let digits = format!("{:0>width$}", d.digits, width = scale + 1);
+        let (whole, fraction) = digits.split_at(digits.len() - scale);
+        let minimum = self.minimum().unwrap_or(0) as usize;
+        let mut text = String::new();
         if d.negative {
-            text.insert(0, '-');
+            text.push('-');
         }
-        if let Some(minimum) = self.minimum() {
-            if scale == 0 {
-                text.push('.');
-            }
-            for _ in scale..minimum as usize {
-                text.push('0');
-            }
+        text.push_str(whole);
+        if scale > 0 || minimum > 0 {
+            text.push('.');
+            text.push_str(fraction);
+            text.push_str(&"0".repeat(minimum.saturating_sub(scale)));
         }
         text.into_bytes()
+    }
+
+    /// Whether the original Rust ends the text with a dot, which Card 3 leaves out:
+    /// no fraction, and a minimum of 0.
+    pub fn is_dotless(&self) -> bool {
+        self.value.shortest().scale == 0 && self.minimum() == Some(0)
     }
 
     pub fn equals(&self, other: &Self) -> bool {
@@ -209,5 +215,38 @@ impl Number {
             },
             _ => "other",
         }
+    }
+}
+
+/// The numbers that a formatting writes and chooses by.
+#[derive(Clone, Copy, Debug, Default, PartialEq, Eq)]
+pub struct Seen {
+    /// Texts of numbers, written to the text or to the workspace.
+    pub texts: usize,
+    /// Those that the original Rust ends with a dot.
+    pub dotless: usize,
+    /// Selectors that are numbers.
+    pub selectors: usize,
+    /// Those whose text the original would end with a dot.
+    pub dotless_selectors: usize,
+}
+
+impl Seen {
+    pub(super) fn written(&mut self, number: &Number) {
+        self.texts += 1;
+        self.dotless += usize::from(number.is_dotless());
+    }
+
+    pub(super) fn chosen_by(&mut self, number: &Number) {
+        self.selectors += 1;
+        self.dotless_selectors += usize::from(number.is_dotless());
+    }
+
+    /// Those of another formatting, too.
+    pub fn add(&mut self, other: Self) {
+        self.texts += other.texts;
+        self.dotless += other.dotless;
+        self.selectors += other.selectors;
+        self.dotless_selectors += other.dotless_selectors;
     }
 }

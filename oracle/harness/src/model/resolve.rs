@@ -3,22 +3,13 @@
 use super::effects::Effect;
 use super::errors::{self, FUNCTION, MESSAGE, TERM, VARIABLE};
 use super::lookup::{holder, part, Holder};
-use super::number::Number;
+use super::number::{Number, Seen};
 use super::reader::*;
+use super::value::{matches, Value};
 
 /// Resolution ends at a merge that refusal 17 will stop.
 struct Stop;
 type Step<T> = Result<T, Stop>;
-
-#[derive(Clone)]
-enum Value {
-    Text(Vec<u8>),
-    /// A text of the workspace: how many were kept before it, and its bytes.
-    Kept(usize, Vec<u8>),
-    Number(Box<Number>),
-    None,
-    Error,
-}
 
 /// Named arguments, in stored order.
 type Named<'s> = Vec<(&'s Id, Value)>;
@@ -27,6 +18,8 @@ pub struct Resolution {
     pub effects: Vec<Effect>,
     /// `???` was written: the Rust panics there.
     pub unnamed: bool,
+    /// The numbers that it writes and chooses by.
+    pub numbers: Seen,
 }
 
 /// What formatting this pattern of the store does.
@@ -36,6 +29,7 @@ pub fn resolve(store: &Store, given: &[(Id, Given)], pattern: &Pattern) -> Resol
         given,
         effects: Vec::new(),
         unnamed: false,
+        numbers: Seen::default(),
         making: Vec::new(),
         alive: 0,
         begun: 0,
@@ -47,6 +41,7 @@ pub fn resolve(store: &Store, given: &[(Id, Given)], pattern: &Pattern) -> Resol
     Resolution {
         effects: r.effects,
         unnamed: r.unnamed,
+        numbers: r.numbers,
     }
 }
 
@@ -55,6 +50,7 @@ struct Resolver<'s> {
     given: &'s [(Id, Given)],
     effects: Vec<Effect>,
     unnamed: bool,
+    numbers: Seen,
     /// The workspace texts being made, the innermost last.
     making: Vec<Vec<u8>>,
     /// How many finished workspace texts are alive.
@@ -200,6 +196,9 @@ impl<'s> Resolver<'s> {
         let alive = self.alive;
         let value = self.value(selector)?;
         let text = self.read(&value);
+        if let Value::Number(number) = &value {
+            self.numbers.chosen_by(number);
+        }
         let locale = self.store.locale;
         let chosen = variants
             .iter()
@@ -219,7 +218,7 @@ impl<'s> Resolver<'s> {
     fn write(&mut self, inline: &'s Inline) -> Step<()> {
         match inline {
             Inline::Text(literal) => self.put(&unescape(literal).expect("checked")),
-            Inline::Number(literal) => self.put(&Number::of_literal(literal).text()),
+            Inline::Number(literal) => self.put_number(&Number::of_literal(literal)),
             Inline::Placeable(expression) => self.expression(expression)?,
             Inline::Variable(id) => match self.variable(id) {
                 Some(value) => self.put_value(&value),
@@ -293,8 +292,13 @@ impl<'s> Resolver<'s> {
         if let Some(text) = self.read(value) {
             self.put(text);
         } else if let Value::Number(number) = value {
-            self.put(&number.text());
+            self.put_number(number);
         }
+    }
+
+    fn put_number(&mut self, number: &Number) {
+        self.numbers.written(number);
+        self.put(&number.text());
     }
 
     /// A variable's value; a missing one is listed outside of terms.
@@ -379,15 +383,5 @@ impl<'s> Resolver<'s> {
         self.report(errors::reference(kind, id, attribute.as_deref()));
         let name = self.name(inline);
         self.braces(&name);
-    }
-}
-
-/// Whether a key matches a value, whose text is given if it is one.
-fn matches(key: &Key, value: &Value, text: Option<&[u8]>, locale: u8) -> bool {
-    match (key, value) {
-        (Key::Id(id), Value::Text(_) | Value::Kept(..)) => Some(&id[..]) == text,
-        (Key::Id(id), Value::Number(number)) => number.category(locale).as_bytes() == id,
-        (Key::Number(literal), Value::Number(n)) => Number::of_literal(literal).equals(n),
-        _ => false,
     }
 }

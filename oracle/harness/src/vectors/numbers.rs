@@ -13,7 +13,7 @@ use comparisons::{equality_case, match_case};
 use function::{first, function_case, options, First, Given};
 use literals::{literal_case, literal_text, LITERALS};
 use texts::{category_case, samples, text_case};
-use values::{boundary_numbers, number, number_of};
+use values::{boundary_numbers, number, number_of, telling_numbers};
 
 pub use function::{count, word};
 pub use values::decimal;
@@ -33,6 +33,9 @@ pub fn make(seed: u64, cases: usize) -> File {
         text_case(&mut file, &number);
     }
     fill(&mut file, share(5000), |f| text_case(f, &number(&mut r)));
+    for number in telling_numbers() {
+        text_case(&mut file, &number);
+    }
     samples(&mut file);
     for locale in 0..4 {
         for ordinal in [false, true] {

@@ -96,3 +96,59 @@ pub(super) fn boundary_numbers() -> Vec<Number> {
     let each = |text| minimums.map(|m| number_of(text, m));
     texts.into_iter().flat_map(each).collect()
 }
+
+/// Whole and not, with every minimum and none: where a dot stands, and where digits
+/// follow it.
+pub(super) fn telling_numbers() -> Vec<Number> {
+    let texts = [
+        "0",
+        "-0",
+        "1",
+        "-1",
+        "5",
+        "-5",
+        "7",
+        "10",
+        "11",
+        "20",
+        "-20",
+        "100",
+        "-100",
+        "101",
+        "1000",
+        "5000",
+        "1000000",
+        "123456789",
+        "10000000000000",
+        "100000000000000",
+        "-100000000000000",
+        "123456789012345",
+        "999999999999990",
+        "999999999999999",
+        "-999999999999999",
+        // whole, with another scale
+        "0.0",
+        "-0.0",
+        "5.0",
+        "-5.0",
+        "100.00",
+        "5.00000000000000",
+        "9.00000000000000",
+        // not whole
+        "0.5",
+        "-0.5",
+        "5.5",
+        "5.05",
+        "-100.5",
+        "99.99",
+        "0.1",
+        "0.00000000000001",
+        "-0.00000000000001",
+        "9.99999999999999",
+        "99999999999999.9",
+        "1234567.8901234",
+    ];
+    let minimums = || std::iter::once(None).chain((0..20).map(Some));
+    let each = |text| minimums().map(move |m| number_of(text, m));
+    texts.into_iter().flat_map(each).collect()
+}
