@@ -138,6 +138,10 @@ fn main() {
         b"arguments.vec",
         b" formattings and sheets by the order of their arguments\n",
     );
+    replay(
+        b"fractions.vec",
+        b" formattings and sheets by their fraction digits\n",
+    );
     let c = counted(no_counts(), 0, limit::limit());
     line(c, 0, b" differ at the longest arguments image\n");
     let d = sheet_limit::limits(no_counts());
