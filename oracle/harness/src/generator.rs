@@ -4,6 +4,7 @@
 mod calls;
 mod chains;
 mod fans;
+mod fractions;
 mod inline;
 mod listed;
 mod marked;
@@ -19,6 +20,7 @@ use crate::model::reader;
 use crate::random::Random;
 use crate::vectors::numbers::decimal;
 use fluent_syntax::ast::*;
+pub use fractions::{fractions, fractions_sheet};
 pub(crate) use listed::most;
 pub use listed::{listed, listed_sheet, Listed, ListedSheet, Listing, Place, LISTINGS, PLACES};
 pub use marked::{marked, marked_sheet};

@@ -109,14 +109,7 @@ fn with_fans(source: &str) -> String {
         let count = source[at + 1..end].parse().expect("a number");
         source.replace_range(at..=end, &"{ $n }".repeat(count));
     }
-    while let Some(at) = source.find('«') {
-        let end = at + source[at..].find('»').expect("its end");
-        let (count, unit) = source[at + '«'.len_utf8()..end]
-            .split_once(' ')
-            .expect("a unit");
-        let all = unit.repeat(count.parse().expect("a number"));
-        source.replace_range(at..end + '»'.len_utf8(), &all);
-    }
+    let source = repeated(&source);
     let refers = |name: &str| {
         [" }", ")", " -"]
             .iter()
@@ -130,6 +123,20 @@ fn with_fans(source: &str) -> String {
         all += ISOLATED_FAN;
     }
     all
+}
+
+/// A source in which `«N x»` stands for N times x.
+pub(crate) fn repeated(source: &str) -> String {
+    let mut source = source.to_string();
+    while let Some(at) = source.find('«') {
+        let end = at + source[at..].find('»').expect("its end");
+        let (count, unit) = source[at + '«'.len_utf8()..end]
+            .split_once(' ')
+            .expect("a unit");
+        let all = unit.repeat(count.parse().expect("a number"));
+        source.replace_range(at..end + '»'.len_utf8(), &all);
+    }
+    source
 }
 
 /// All sheets, with NUMBER, in English.
@@ -171,7 +178,7 @@ fn marks(text: &str) -> String {
 }
 
 /// A text as it is: `[N x]` in it stands for N times x, also in one another.
-fn written(text: &str) -> String {
+pub(crate) fn written(text: &str) -> String {
     let mut text = marks(text);
     while let Some(at) = text.rfind('[') {
         let end = at + text[at..].find(']').expect("its end");

@@ -53,6 +53,10 @@ fn main() {
             "replay_formats/data/arguments.vec",
             vectors::arguments::make(seed, cases),
         );
+        write(
+            "replay_formats/data/fractions.vec",
+            vectors::fractions::make(seed, cases),
+        );
     });
 }
 

@@ -58,7 +58,7 @@ impl Maker {
 
     /// Makes a message one that is perhaps not there, or its arguments image
     /// one that is malformed inside or too short.
-    fn spoil(&mut self, row: &mut Row) {
+    pub(super) fn spoil(&mut self, row: &mut Row) {
         let Given::Values(given) = &row.arguments else {
             return;
         };

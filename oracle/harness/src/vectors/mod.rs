@@ -4,6 +4,7 @@ pub mod additions;
 pub mod arguments;
 pub mod figures;
 pub mod formats;
+pub mod fractions;
 pub mod images;
 pub mod nesting;
 pub mod numbers;

@@ -2,103 +2,31 @@
 //! says; so the files are read by something that did not write them.
 #![forbid(unsafe_code)]
 
+mod fields;
+mod stdout;
+
+use fields::{cases, Fields};
 use harness::large_stack;
 use harness::model::arguments::accepted;
 use harness::model::effects::Lengths;
-use harness::model::number::{literal, Decimal, Number};
+use harness::model::number::{literal, Number};
 use harness::model::operations;
 use harness::model::reader::{self, Given};
 use harness::model::sheet::{format_sheet, prepare};
 
 const CATEGORIES: [&str; 6] = ["zero", "one", "two", "few", "many", "other"];
 
-struct Fields<'a>(&'a [u8]);
-
-impl<'a> Fields<'a> {
-    fn take(&mut self, n: usize) -> &'a [u8] {
-        let (taken, rest) = self.0.split_at(n);
-        self.0 = rest;
-        taken
-    }
-
-    fn number(&mut self, bytes: usize) -> u64 {
-        let bytes = self.take(bytes);
-        bytes.iter().fold(0, |n, b| n << 8 | u64::from(*b))
-    }
-
-    fn u8(&mut self) -> u8 {
-        self.take(1)[0]
-    }
-
-    fn flag(&mut self) -> bool {
-        match self.u8() {
-            0 => false,
-            1 => true,
-            other => panic!("no Flag: {other}"),
-        }
-    }
-
-    fn length(&mut self) -> usize {
-        self.number(4) as usize
-    }
-
-    fn str(&mut self) -> &'a [u8] {
-        let n = self.number(2) as usize;
-        self.take(n)
-    }
-
-    fn blob(&mut self) -> &'a [u8] {
-        let n = self.length();
-        self.take(n)
-    }
-
-    fn decimal(&mut self) -> Decimal {
-        Decimal {
-            negative: self.flag(),
-            digits: self.number(8),
-            scale: self.u8(),
-        }
-    }
-
-    fn minimum(&mut self) -> Option<u64> {
-        let set = self.flag();
-        let minimum = self.number(1);
-        set.then_some(minimum)
-    }
-
-    fn options(&mut self, number: &mut Number) {
-        let o = &mut number.options;
-        o.ordinal = self.flag();
-        o.style = self.u8();
-        o.currency = self.flag().then(|| b"EUR".to_vec());
-        o.display = self.u8();
-        o.grouping = self.flag();
-        for count in &mut o.counts {
-            let set = self.flag();
-            let n = self.number(4);
-            *count = set.then_some(n);
-        }
-    }
-}
-
 /// Runs every case of a file; gives their number.
-fn replay(name: &str, one: fn(u8, &mut Fields)) -> usize {
-    let path = format!("{}/../../crates/{name}", env!("CARGO_MANIFEST_DIR"));
-    let bytes = std::fs::read(&path).unwrap_or_else(|e| panic!("{path}: {e}"));
-    let name = name.to_string();
+fn replay(name: &'static str, one: fn(u8, &mut Fields)) -> usize {
     large_stack(move || {
-        let mut file = Fields(&bytes);
-        assert_eq!(file.take(5), b"WVEC\x01");
-        let count = file.length();
-        for at in 0..count {
-            let mut case = Fields(file.blob());
-            let whole = case.0;
+        let cases = cases(name);
+        for (at, whole) in cases.iter().enumerate() {
+            let mut case = Fields(whole);
             let operation = case.u8();
             one(operation, &mut case);
             assert!(case.0.is_empty(), "{name}, case {at}: {whole:02x?}");
         }
-        assert!(file.0.is_empty());
-        count
+        cases.len()
     })
 }
 
@@ -396,4 +324,9 @@ fn nesting() {
 #[test]
 fn arguments() {
     assert!(replay("replay_formats/data/arguments.vec", either) > 300);
+}
+
+#[test]
+fn fractions() {
+    assert!(replay("replay_formats/data/fractions.vec", either) > 350);
 }
