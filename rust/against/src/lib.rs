@@ -8,6 +8,7 @@ mod call;
 pub mod convert;
 pub mod figures;
 pub mod formats;
+pub mod fractions;
 pub mod many;
 pub mod nesting;
 pub mod numbers;
@@ -26,7 +27,7 @@ pub const HIGHEST_REFUSAL: usize = 19;
 #[derive(Clone, Copy, Debug, Default)]
 pub struct Counts {
     /// Generated cases, sheets, or formattings and sheets by their figures, by their
-    /// marks or by the order of their arguments.
+    /// marks, by the order of their arguments or by their fraction digits.
     pub cases: u64,
     /// Calls of the operations that were compared, bytes and all.
     pub calls: u64,
@@ -41,6 +42,8 @@ pub struct Counts {
     pub nesting: nesting::Nesting,
     /// Calls by the order of their arguments.
     pub order: order::Order,
+    /// Texts by the dots of their numbers.
+    pub fractions: fractions::Fractions,
 }
 
 impl Counts {
@@ -56,6 +59,7 @@ impl Counts {
         self.stores += other.stores;
         self.nesting.add(&other.nesting);
         self.order.add(&other.order);
+        self.fractions.add(&other.fractions);
         for (sum, n) in self.answers.iter_mut().zip(other.answers) {
             *sum += n;
         }

@@ -1,17 +1,19 @@
 //! Compares the crate with the oracle on many generated cases, then on
 //! generated sheets, then on formattings and sheets by their workspace figures,
 //! then on formattings and sheets by their isolation marks, then on formattings and
-//! sheets by the order of their arguments:
-//! `differential [COUNT [FIRST_SEED [THREADS [SHEETS [FIGURES [NESTING [ORDER]]]]]]]`,
+//! sheets by the order of their arguments, then on formattings and sheets by their
+//! fraction digits:
+//! `differential [COUNT [FIRST_SEED [THREADS [SHEETS [FIGURES [NESTING [ORDER [FRACTIONS]]]]]]]]`,
 //! 1,000,000 cases from seed 1 on all processors unless said otherwise, a tenth as
 //! many sheets, the figures of a tenth as many formattings and half as many sheets
 //! as those, and the marks of as many; as many seeds as those sheets with marks in
-//! the input; last, the order of arguments in a tenth as many formattings and half
-//! as many sheets. It shows how far it is, and ends with 1 if anything differs, a
-//! text is unpaired, or marks in the input make none unpaired.
+//! the input; then the order of arguments in a tenth as many formattings and half
+//! as many sheets; last, the fraction digits of as many. It shows how far it is, and
+//! ends with 1 if anything differs, a text is unpaired, marks in the input make none
+//! unpaired, or no number has a dot left out.
 #![forbid(unsafe_code)]
 
-use against::{compare, compare_sheet, figures, nesting, order, sheets, Counts};
+use against::{compare, compare_sheet, figures, fractions, nesting, order, sheets, Counts};
 use std::sync::atomic::{AtomicU64, Ordering};
 use std::sync::Mutex;
 use std::time::{Duration, Instant};
@@ -28,7 +30,7 @@ fn main() {
         .skip(1)
         .map(|word| word.parse().unwrap_or_else(|_| usage()))
         .collect();
-    if words.len() > 7 {
+    if words.len() > 8 {
         usage();
     }
     let word = |at: usize, usual: u64| words.get(at).copied().unwrap_or(usual);
@@ -60,6 +62,11 @@ fn main() {
     let formattings_by_order = cases.of(what, order::compare_formatting, ordered);
     let what = "sheets by the order of their arguments";
     let sheets_by_order = cases.of(what, order::compare_sheet, ordered.div_ceil(2));
+    let digits = word(7, tenth);
+    let what = "formattings by their fraction digits";
+    let formattings_by_digits = cases.of(what, fractions::compare_formatting, digits);
+    let what = "sheets by their fraction digits";
+    let sheets_by_digits = cases.of(what, fractions::compare_sheet, digits.div_ceil(2));
     let same = cases.run(Counts::default(), 0)
         & (sheets.count == 0 || sheets.with_fixed(sheets::fixed::all))
         & (figures == 0 || of_formattings.with_fixed(figures::by_hand))
@@ -68,7 +75,9 @@ fn main() {
         & (marks == 0 || sheets_by_marks.run(Counts::default(), 0))
         & (marks == 0 || marked.run(Counts::default(), 0))
         & (ordered == 0 || formattings_by_order.with_fixed(order::by_hand))
-        & (ordered == 0 || sheets_by_order.run(Counts::default(), 0));
+        & (ordered == 0 || sheets_by_order.run(Counts::default(), 0))
+        & (digits == 0 || formattings_by_digits.with_fixed(fractions::by_hand))
+        & (digits == 0 || sheets_by_digits.with_fixed(fractions::sheets_by_hand));
     std::process::exit(i32::from(!same));
 }
 
@@ -137,13 +146,17 @@ impl Run {
         let total = total.into_inner().expect("no thread failed");
         let differ = differ.into_inner().expect("no thread failed");
         self.say(&total, start);
-        print!("{}{}", total.nesting, total.order);
+        print!("{}{}{}", total.nesting, total.order, total.fractions);
         println!("{differ} differ");
         let noticed = total.nesting.noticed();
         if !noticed {
             println!("marks in the input, and no text is unpaired");
         }
-        differ == 0 && total.cases == self.count && noticed
+        let told = total.fractions.told();
+        if !told {
+            println!("no number has a dot left out");
+        }
+        differ == 0 && total.cases == self.count && noticed && told
     }
 
     /// Compares the next seeds, if there are any.
@@ -213,7 +226,7 @@ impl Run {
 
 fn usage() -> ! {
     eprintln!(
-        "usage: differential [COUNT [FIRST_SEED [THREADS [SHEETS [FIGURES [NESTING [ORDER]]]]]]]"
+        "usage: differential [COUNT [FIRST_SEED [THREADS [SHEETS [FIGURES [NESTING [ORDER [FRACTIONS]]]]]]]]"
     );
     std::process::exit(2)
 }

@@ -1,0 +1,80 @@
+//! Numbers that are not left to chance: the formattings and sheets that were worked
+//! out by hand, with ample and with lent lengths, and with changed bytes.
+
+use super::Wanted;
+use crate::asked::Asked;
+use crate::call::Call;
+use crate::{same, Counts};
+use harness::fractions::{changed, formattings, lent, lent_sheets, sheets};
+use harness::model::effects::Lengths;
+use harness::random::Random;
+
+/// All formattings, or what differs.
+pub fn by_hand(counts: &mut Counts) -> Result<(), String> {
+    let mut random = Random::new(0x3D);
+    for point in formattings() {
+        let wanted = Wanted::message(&point.case)?;
+        said(&wanted, Ok((&point.text, point.figure)))?;
+        wanted.all(&mut random, counts)?;
+    }
+    for point in lent() {
+        let call = Wanted::message(&point.case)?.call;
+        answered(&call, point.lengths, point.answer, &mut random, counts)?;
+    }
+    for point in changed() {
+        let asked = Asked::Message {
+            id: b"a".to_vec(),
+            attribute: None,
+            arguments: point.arguments,
+        };
+        let call = Call::new(point.store, asked);
+        let lengths = Lengths {
+            text: 40,
+            list: 40,
+            workspace: 0,
+        };
+        counts.damaged += 1;
+        let answer = call.answer(lengths, &mut random, counts)?;
+        let text = answer.map(|done| done.text);
+        let wanted = point.said.map(|text| text.as_bytes().to_vec());
+        same("changed bytes by hand", text, wanted)?;
+    }
+    Ok(())
+}
+
+/// All sheets, or what differs.
+pub fn sheets_by_hand(counts: &mut Counts) -> Result<(), String> {
+    let mut random = Random::new(0x5E3D);
+    for point in sheets() {
+        let wanted = Wanted::sheet(&point.sheet)?;
+        let answer = point.said.as_ref().map_err(|refusal| *refusal);
+        said(&wanted, answer.map(|(text, figure)| (&text[..], *figure)))?;
+        wanted.all(&mut random, counts)?;
+    }
+    for point in lent_sheets() {
+        let call = Wanted::sheet(&point.sheet)?.call;
+        answered(&call, point.lengths, point.answer, &mut random, counts)?;
+    }
+    Ok(())
+}
+
+/// The text and the figure that were worked out, or the refusal.
+fn said(wanted: &Wanted, by_hand: Result<(&str, usize), u8>) -> Result<(), String> {
+    let text = wanted.said.as_ref().map(|(text, _)| &text[..]);
+    let by_hand_text = by_hand.map(|(text, _)| text.as_bytes());
+    same("a text by hand", text.map_err(|r| *r), by_hand_text)?;
+    let figure = wanted.call.model.need().map(|(_, need)| need.workspace);
+    same("a figure by hand", figure, by_hand.ok().map(|(_, f)| f))
+}
+
+/// The answer of a call with lent lengths.
+fn answered(
+    call: &Call,
+    lengths: Lengths,
+    answer: u8,
+    random: &mut Random,
+    counts: &mut Counts,
+) -> Result<(), String> {
+    let said = call.answer(lengths, random, counts)?;
+    same("an answer by hand", said.err().unwrap_or(0), answer)
+}
