@@ -1,5 +1,6 @@
 //! Numbers in all places: their figures, sources and texts. The figure is the bytes
-//! of the workspace; with the dot it would be one more for each number in it.
+//! of the workspace; with a last dot it would be one more for each number in it that
+//! has a minimum of 0 and no fraction.
 
 /// With isolation.
 #[rustfmt::skip]
