@@ -81,7 +81,8 @@ uint8_t weszlagyo_add_function(uint8_t *slice, size_t slice_length,
  * "Arguments in name order" below; none is 00 00 00 07 01 00 00. text, list:
  * get the text (UTF-8) and the error list at their front; later bytes stay. A
  * number in the text ends in a digit: a minimumFractionDigits of 0 writes no
- * dot, one above 0 a dot and zeros. work: the workspace, zeros afterwards.
+ * dot, one above 0 a dot and zeros up to it. work: the workspace, zeros
+ * afterwards.
  *
  * *written: bytes of text. *errors: errors in the list. *begun: placeables
  * begun, 0 to 101. *unfound: lookups of an id without an entry, for a reference

@@ -112,8 +112,8 @@ fn no_room_is_taken_for_a_dot() {
     assert_eq!(refused.expect_err("refused"), Refusal::SHORT_TEXT);
 }
 
-/// Which variant is chosen does not change: the category has no fraction digits, and
-/// a number with a minimum equals no key without one.
+/// Which variant is chosen does not change: the category is that of a number without
+/// fraction digits, and a number with a minimum equals no key without one.
 #[test]
 fn a_choice_is_as_before() {
     let choose = |minimum: &str| {
