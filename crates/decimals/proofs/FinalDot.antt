@@ -5,16 +5,16 @@ use mathlib.Core.Option.{Option, none, some}
 use mathlib.Core.List.{List, [], _∷_, _++_, append-assoc, append-nil}
 use Prim.Native.Nat.{ℕ, zero, suc, _+_, _-_, _/_, _%_, _^_, _≤_, _<_}
 use native.Mathlib.Omega.{arith}
-use lib.ListN.{length, replicate}
-use lib.Dec.{eqb, ltb, leb}
-use borrow.Author.Tests.{ltb-true, ltb-false, leb-true, le-leb, eqb-true, eqb-false, ne-eqb}
+use lib.ListN.{replicate}
+use lib.Dec.{eqb, ltb}
+use borrow.Author.Tests.{ltb-true, ltb-false, le-leb, eqb-true, eqb-false, ne-eqb}
 use Rattle.decimals.specs.Ascii.{ascii}
 use Rattle.decimals.specs.Bytes.{digit}
 use Rattle.decimals.specs.Decimal.{Number, shortest, orZero}
 use Rattle.decimals.specs.Text.{digitsOf, decimal, signText, fractionDigits, withDot, fractionText, decimalText, numberText}
 use Rattle.decimals.specs.FinalDot.{originalFraction, originalDecimal, originalText, dotRemoved, lastOr, OnlyADot, NoDotWithoutDigits}
 use Rattle.decimals.proofs.Writing.{decimal-small, decimal-more, dot-none, dot-some, fraction-digits-length, fraction-none, fraction-own}
-use Rattle.decimals.proofs.Tests.{and-true}
+use Rattle.decimals.proofs.Tests.{digit-bounds}
 
 -- a text whose last byte is a digit, whatever stands before it
 abbrev Ends : List ℕ → Type 0
@@ -75,7 +75,7 @@ fraction-ends a o d s h = go (eqb (s + (orZero o - s)) 0) refl
         let k : 0 < s + (orZero o - s) = omega (arith, z) in
         rw (dot-some (fractionDigits (orZero o) d s) (omega (arith, fraction-digits-length (orZero o) d s))) (ends-append a (46 ∷ fractionDigits (orZero o) d s) (ends-append (46 ∷ []) (fractionDigits (orZero o) d s) (fraction-digits-end (orZero o) d s k)))
 
-pub text-ends : (n : Number) → Ends (numberText n)
+text-ends : (n : Number) → Ends (numberText n)
 unfolding numberText decimalText
 text-ends n =
     let p : ℕ = shortest (n .digits) (n .scale) .0 in
@@ -110,14 +110,10 @@ removed-dot [] = refl
 removed-dot (b ∷ []) = refl
 removed-dot (b ∷ c ∷ l) = ap (λ (k : List ℕ). b ∷ k) (removed-dot (c ∷ l))
 
-dot-no-digit : (b : ℕ) → digit b ≡ true → b ≡ 46 → ⊥
-unfolding digit
-dot-no-digit b h e = let low : 48 ≤ b = leb-true 48 b (and-true (leb 48 b) (leb b 57) h .0) in omega arith
-
 removed-none : (l : List ℕ) → Ends l → dotRemoved l ≡ l
 unfolding dotRemoved lastOr
 removed-none [] h = refl
-removed-none (b ∷ []) h = rw (ne-eqb b 46 (dot-no-digit b (h 0)), dotRemoved)
+removed-none (b ∷ []) h = rw (ne-eqb b 46 (λ e. omega (arith, digit-bounds b (h 0) .0)), dotRemoved)
 removed-none (b ∷ c ∷ l) h = ap (λ (k : List ℕ). b ∷ k) (removed-none (c ∷ l) h)
 
 joined : (a b c l : List ℕ) → a ++ (b ++ (c ++ l)) ≡ (a ++ (b ++ c)) ++ l
@@ -129,14 +125,14 @@ there n h =
     let p : ℕ = shortest (n .digits) (n .scale) .0 in
     let s : ℕ = shortest (n .digits) (n .scale) .1 in
     let whole : List ℕ = decimal (p / 10 ^ s) in
-    rw (h .minimum) (ap (λ (l : List ℕ). signText (n .negative) ++ (whole ++ l)) (fraction-there p s (h .fraction)) ∙ joined (signText (n .negative)) whole (fractionText (some 0) p s) (ascii "."))
+    rw (h .minimum) (ap (λ (l : List ℕ). signText (n .negative) ++ (whole ++ l)) (fraction-there p s (h .whole)) ∙ joined (signText (n .negative)) whole (fractionText (some 0) p s) (ascii "."))
 
 elsewhere : (n : Number) → (OnlyADot n → ⊥) → numberText n ≡ originalText n
 unfolding numberText decimalText originalText originalDecimal
 elsewhere n f =
     let p : ℕ = shortest (n .digits) (n .scale) .0 in
     let s : ℕ = shortest (n .digits) (n .scale) .1 in
-    ap (λ (l : List ℕ). signText (n .negative) ++ (decimal (p / 10 ^ s) ++ l)) (fraction-elsewhere (n .options .minimumFractionDigits) p s (λ e z. f (record { minimum = e; fraction = z })))
+    ap (λ (l : List ℕ). signText (n .negative) ++ (decimal (p / 10 ^ s) ++ l)) (fraction-elsewhere (n .options .minimumFractionDigits) p s (λ e z. f (record { minimum = e; whole = z })))
 
 removed : (n : Number) → numberText n ≡ dotRemoved (originalText n)
 unfolding orZero
@@ -156,8 +152,8 @@ removed n = by (n .options .minimumFractionDigits) refl
         go true z =
             let k : m + scale ≡ 0 = eqb-true (m + scale) 0 z in
             let x : m ≡ 0 = omega arith in
-            sym (ap dotRemoved (there n (record { minimum = e ∙ ap some x; fraction = omega arith })) ∙ removed-dot (numberText n))
-        go false z = same (λ h. let x : m ≡ 0 = ap orZero (sym e ∙ h .minimum) in eqb-false (m + scale) 0 z (omega (arith, h .fraction)))
+            sym (ap dotRemoved (there n (record { minimum = e ∙ ap some x; whole = omega arith })) ∙ removed-dot (numberText n))
+        go false z = same (λ h. let x : m ≡ 0 = ap orZero (sym e ∙ h .minimum) in eqb-false (m + scale) 0 z (omega (arith, h .whole)))
 
 pub no-dot-without-digits : (n : Number) → NoDotWithoutDigits n
 no-dot-without-digits n = record { ends = text-ends n 0; removed = removed n; there = there n; elsewhere = elsewhere n }

@@ -1,18 +1,17 @@
 -- Laws of number text: its lengths, and how the code adds to it.
 use mathlib.Core.Path.{_≡_, refl, ap, sym, _∙_}
 use mathlib.Core.Bool.{Bool, true, false}
-use mathlib.Core.Option.{Option, none, some}
+use mathlib.Core.Option.{Option}
 use mathlib.Core.List.{List, [], _∷_, _++_, append-assoc, append-nil}
 use Prim.Native.Nat.{ℕ, zero, suc, _+_, _-_, _*_, _/_, _%_, _^_, _≤_, _<_}
-use native.Mathlib.Numerals.{add-one}
 use native.Mathlib.Omega.{arith}
 use native.Mathlib.Nat.{pow-succ', div-le-self}
 use lib.ListN.{length, take, drop, replicate, length-append, length-replicate, take-append-drop}
 use lib.Seq.{drop-drop, take-append-seam}
-use lib.Dec.{ltb, leb}
+use lib.Dec.{ltb}
 use borrow.Author.Tests.{ltb-true, ltb-false, leb-true, lt-ltb, le-ltb}
 use Rattle.decimals.specs.declared.types.NumberText.{NumberText}
-use Rattle.decimals.specs.Decimal.{Options, Number, shortest, orZero, digitsLimit}
+use Rattle.decimals.specs.Decimal.{Number, shortest, orZero, digitsLimit}
 use Rattle.decimals.specs.Text.{digitsOf, width, decimal, signText, fractionDigits, withDot, fractionText, decimalText, numberText, textLimit, inRange, rangedText, padded}
 use Rattle.decimals.specs.Relations.Shown.{textOf, heldText}
 use Rattle.decimals.specs.Relations.Adds.{Adds}

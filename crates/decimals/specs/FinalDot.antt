@@ -38,10 +38,10 @@ lastOr b (x ∷ xs) = lastOr x xs
 -- where the shortest decimal has no dot and the minimum is 0
 pub record OnlyADot (n : Number) : Type 0 where
   pub minimum : n .options .minimumFractionDigits ≡ some 0
-  pub fraction : shortest (n .digits) (n .scale) .1 ≡ 0
+  pub whole : shortest (n .digits) (n .scale) .1 ≡ 0
 
 pub record NoDotWithoutDigits (n : Number) : Type 0 where
-  -- "rejects a number that ends in a dot": no text ends in one, or in anything but a digit
+  -- "rejects a number that ends in a dot": no text ends in one, or in anything but a digit (0 is no digit, so no text is empty)
   pub ends : digit (lastOr 0 (numberText n)) ≡ true
   -- "the Rust's text with that dot removed"
   pub removed : numberText n ≡ dotRemoved (originalText n)

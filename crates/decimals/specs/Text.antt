@@ -2,11 +2,11 @@
 use Prim.Native.Nat.{ℕ, zero, suc, _+_, _-_, _/_, _%_, _^_}
 use mathlib.Core.List.{List, [], _∷_, _++_}
 use mathlib.Core.Bool.{Bool, true, false, _&&_}
-use mathlib.Core.Option.{Option, none, some}
+use mathlib.Core.Option.{Option}
 use lib.ListN.{length, replicate}
 use lib.Dec.{ltb, leb}
 use Rattle.decimals.specs.Ascii.{ascii}
-use Rattle.decimals.specs.Decimal.{Options, Number, shortest, orZero, digitsLimit, scaleLimit, fractionLimit}
+use Rattle.decimals.specs.Decimal.{Number, shortest, orZero, digitsLimit, scaleLimit, fractionLimit}
 
 -- the lowest w digits of n, the highest first; 48 is `0`
 unfoldable pub digitsOf : ℕ → ℕ → List ℕ
@@ -27,7 +27,7 @@ unfoldable pub signText : Bool → List ℕ
 signText true = ascii "-"
 signText false = []
 
--- the digits behind the dot: s of them, of a shortest decimal; "then zeros are added up to the minimum"
+-- the digits behind the dot: the s fraction digits of d over 10^s, "then zeros are added up to the minimum", m
 unfoldable pub fractionDigits : ℕ → ℕ → ℕ → List ℕ
 fractionDigits m d s = digitsOf s d ++ replicate (m - s) 48
 

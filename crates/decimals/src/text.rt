@@ -125,7 +125,7 @@ fn or_zero(m: Count) -> u64
     }
 }
 
-// A text with a fraction added: a dot, s digits, and zeros up to the minimum; nothing where that is no digit.
+// A text with a fraction added: a dot, s digits, and zeros up to the minimum; nothing where there are no digits.
 fn push_fraction(t: NumberText, m: Count, d: u64, s: u64) -> NumberText
     requires { ⌜ t .len + length (fractionText (toldCount m) d s) ≤ textLimit ⌝ }
     ensures { λ r. ⌜ Adds t (fractionText (toldCount m) d s) r ⌝ }
@@ -160,10 +160,7 @@ fn in_range(n: Number) -> bool
     }
     let o = n.options;
     let m = o.minimum_fraction_digits;
-    match m {
-        Count::Unset => true,
-        Count::Set(k) => k <= FRACTION_LIMIT,
-    }
+    or_zero(m) <= FRACTION_LIMIT
 }
 
 // The text of a number in range, no bytes for any other; behind it zeros.

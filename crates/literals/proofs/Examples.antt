@@ -2,7 +2,7 @@
 use mathlib.Core.Path.{_≡_, refl}
 use Prim.Native.Nat.{ℕ}
 use mathlib.Core.Bool.{true, false}
-use mathlib.Core.Option.{Option, none, some}
+use mathlib.Core.Option.{Option, some}
 use Rattle.decimals.specs.Ascii.{ascii}
 use Rattle.decimals.specs.Bytes.{run, digit}
 use Rattle.decimals.specs.Decimal.{Number, defaultOptions, shortest, orZero}

@@ -11,7 +11,8 @@ use Rattle.decimals.specs.Bytes.{run, choose, digit}
 use Rattle.decimals.specs.Decimal.{orZero, digitsLimit, scaleLimit, fractionLimit}
 use Rattle.decimals.specs.Text.{inRange}
 use Rattle.literals.specs.Literal.{numberStep, digitCount, isNumber, Read, oneMore, readSign, readDot, readDigit, readStep, readFrom, readStart, readNumber, withFraction, literal}
-use Rattle.literals.proofs.Reading.{digit-bounds, more-places, number-shape, literal-digits}
+use Rattle.decimals.proofs.Tests.{digit-bounds}
+use Rattle.literals.proofs.Reading.{more-places, number-shape, literal-digits}
 
 -- what was read in a state of the shape, of so many digits: no fraction before the dot, and from the whole part on a digit more than the fraction has
 record Placed (q c : ℕ) (r : Read) : Type 0 where

@@ -14,7 +14,7 @@ use borrow.Author.Tests.{eqb-true, leb-true, ltb-true, ltb-false}
 use Rattle.decimals.specs.Bytes.{run, choose, digit}
 use Rattle.decimals.specs.Decimal.{Options, Number, orZero, digitsLimit}
 use Rattle.literals.specs.Literal.{numberStep, digitCount, isNumber, Read, oneMore, readSign, readDot, readDigit, readStep, readFrom, readStart, readNumber, withFraction, literal}
-use Rattle.decimals.proofs.Tests.{and-true}
+use Rattle.decimals.proofs.Tests.{and-true, digit-bounds}
 use Rattle.decimals.proofs.Run.{run-stays}
 
 -- a turn of the loop that reads, and its end
@@ -95,11 +95,6 @@ pub more-places : (f : Option ℕ) → orZero (oneMore f) ≤ orZero f + 1
 unfolding orZero oneMore
 more-places none = omega arith
 more-places (some k) = omega arith
-
--- a digit's bounds
-pub digit-bounds : (b : ℕ) → digit b ≡ true → (48 ≤ b) × (b ≤ 57)
-unfolding digit
-digit-bounds b h = let a = and-true _ _ h in (leb-true _ _ (a .0), leb-true _ _ (a .1))
 
 digit-room : (d x k : ℕ) → x ≤ 9 → suc d * 10 ^ (1 + k) ≤ digitsLimit → suc (d * 10 + x) * 10 ^ k ≤ digitsLimit
 digit-room d x k h e =
