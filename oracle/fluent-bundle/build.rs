@@ -65,10 +65,5 @@ fn replaced(published: &str) -> String {
     let (before, after) = published.split_once(OLD).expect("it stands there");
     let function = &before[before.rfind("fn ").expect("a function") - "pub ".len()..];
     assert!(function.starts_with(FUNCTION), "it stands in {FUNCTION}");
-    let copy = [before, NEW, after].concat();
-    // put back, it is the published file
-    assert_eq!(copy.matches(NEW).count(), 1, "it stands in the copy once");
-    assert_eq!(copy.replacen(NEW, OLD, 1), published);
-    assert_eq!(copy.len(), published.len() - OLD.len() + NEW.len());
-    copy
+    [before, NEW, after].concat()
 }

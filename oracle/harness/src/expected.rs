@@ -29,6 +29,16 @@ impl Expected {
     pub fn with(&self, lengths: Lengths) -> Result<Finished, u8> {
         operations::format(&self.prepared, lengths)
     }
+
+    /// The lengths that just fit, if it finishes.
+    pub fn need(&self) -> Option<Lengths> {
+        let done = self.answer.as_ref().ok()?;
+        Some(Lengths {
+            text: done.text.len(),
+            list: done.list.len(),
+            workspace: done.highest,
+        })
+    }
 }
 
 /// The expected answer, or what differs between model and Rust.

@@ -12,9 +12,7 @@ use harness::model::number::{Decimal, Number, Seen};
 use harness::model::operations;
 use harness::model::sheet::{format_sheet, join, Refused};
 use harness::model::workspace::{self, is_exact};
-use harness::{
-    expected, expected_sheet, fractions, fractions_sheet, large_stack, vectors, Expected,
-};
+use harness::{expected, expected_sheet, fractions, fractions_sheet, large_stack, vectors};
 
 fn text_of(digits: u64, scale: u8, minimum: Option<u64>) -> String {
     let value = Decimal {
@@ -61,21 +59,12 @@ fn a_dot_only_before_digits() {
     assert_eq!(text_of(100, 0, Some(0)), "100");
 }
 
-fn need(e: &Expected) -> Lengths {
-    let done = e.answer.as_ref().expect("it finishes");
-    Lengths {
-        text: done.text.len(),
-        list: done.list.len(),
-        workspace: done.highest,
-    }
-}
-
 /// Text and figure as they were worked out; with buffers that just fit it finishes, and
 /// with one byte less of one it does not.
 #[test]
 fn formattings_by_hand() {
     let all = formattings();
-    let (mut dotless, mut cut) = (0, 0);
+    let (mut losing, mut cut) = (0, 0);
     for point in &all {
         let source = format!("{:?}", point.case.bundle.items[1]);
         let e = expected(&point.case).unwrap_or_else(|d| panic!("{source}: {d}"));
@@ -85,7 +74,7 @@ fn formattings_by_hand() {
         assert_eq!(done.highest, point.figure, "{source}");
         assert_eq!(done.begun == 101, point.cut, "{source}");
         assert_eq!(e.from_rust, !text.contains("???"), "{source}");
-        let need = need(&e);
+        let need = e.need().expect("it finishes");
         assert_eq!(e.with(need).as_ref(), Ok(done), "{source}");
         let (text, list) = (need.text - 1, need.list - 1);
         assert_eq!(e.with(Lengths { text, ..need }), Err(15), "{source}");
@@ -96,11 +85,11 @@ fn formattings_by_hand() {
         let resolution = e.prepared.as_ref().expect("it has effects");
         let with = |length| workspace::formatting(resolution, length);
         assert!(is_exact(point.figure, with), "{source}");
-        dotless += usize::from(resolution.numbers.dotless > 0);
+        losing += usize::from(resolution.numbers.texts_losing_dot > 0);
         cut += usize::from(point.cut);
     }
     assert!(all.len() >= 200, "{}", all.len());
-    assert!(dotless > 100 && cut == 8, "{dotless}, {cut}");
+    assert!(losing > 100 && cut == 8, "{losing}, {cut}");
 }
 
 #[test]
@@ -214,7 +203,7 @@ fn every_change_of_a_store() {
 fn generated_formattings() {
     large_stack(|| {
         let mut seen = Seen::default();
-        let (mut finished, mut dotless, mut original, mut cut, mut work) = (0, 0, 0, 0, 0);
+        let (mut finished, mut losing, mut original, mut cut, mut work) = (0, 0, 0, 0, 0);
         let mut refused = [0; 20];
         for seed in 0..6_000 {
             let case = fractions(seed);
@@ -225,7 +214,7 @@ fn generated_formattings() {
                     let numbers = e.prepared.as_ref().expect("it has effects").numbers;
                     seen.add(numbers);
                     finished += 1;
-                    dotless += usize::from(numbers.dotless > 0);
+                    losing += usize::from(numbers.texts_losing_dot > 0);
                     original += usize::from(e.from_rust);
                     cut += usize::from(done.begun == 101);
                     work += usize::from(done.highest > 0);
@@ -233,14 +222,14 @@ fn generated_formattings() {
             }
         }
         let said = format!(
-            "{finished} finished, {dotless} dotless, {original} of the Rust, {cut} cut short, {work} with workspace, {seen:?}, {refused:?}"
+            "{finished} finished, {losing} losing a dot, {original} of the Rust, {cut} cut short, {work} with workspace, {seen:?}, {refused:?}"
         );
-        assert!(finished > 5_000 && dotless > 3_000, "{said}");
+        assert!(finished > 5_000 && losing > 3_000, "{said}");
         assert!(original > 4_500 && cut > 50 && work > 1_500, "{said}");
-        assert!(seen.dotless * 5 > seen.texts * 2, "{said}");
-        assert!(seen.texts > seen.dotless + 3_000, "{said}");
-        assert!(seen.dotless_selectors > 500, "{said}");
-        assert!(seen.selectors > seen.dotless_selectors + 200, "{said}");
+        assert!(seen.texts_losing_dot * 5 > seen.texts * 2, "{said}");
+        assert!(seen.texts > seen.texts_losing_dot + 3_000, "{said}");
+        assert!(seen.selectors_losing_dot > 500, "{said}");
+        assert!(seen.selectors > seen.selectors_losing_dot + 200, "{said}");
         for answer in [11, 12, 17] {
             assert!(refused[answer] > 20, "{said}");
         }
@@ -251,7 +240,7 @@ fn generated_formattings() {
 fn generated_sheets() {
     large_stack(|| {
         let mut seen = Seen::default();
-        let (mut finished, mut dotless, mut rows) = (0, 0, 0);
+        let (mut finished, mut losing, mut rows) = (0, 0, 0);
         for seed in 0..2_000 {
             let sheet = fractions_sheet(seed);
             let e = expected_sheet(&sheet).unwrap_or_else(|d| panic!("seed {seed}: {d}"));
@@ -264,11 +253,14 @@ fn generated_sheets() {
                 all.add(message.numbers);
             }
             finished += 1;
-            dotless += usize::from(all.dotless > 0);
+            losing += usize::from(all.texts_losing_dot > 0);
             seen.add(all);
         }
-        assert!(finished > 1_200 && dotless > 1_000, "{finished} {dotless}");
-        assert!(rows > 10_000 && seen.dotless > 5_000, "{rows} {seen:?}");
+        assert!(finished > 1_200 && losing > 1_000, "{finished} {losing}");
+        assert!(
+            rows > 10_000 && seen.texts_losing_dot > 5_000,
+            "{rows} {seen:?}"
+        );
     });
 }
 
@@ -287,9 +279,9 @@ fn by_their_seeds() {
 fn numbers_that_are_seen() {
     let seen = |of: [usize; 4]| Seen {
         texts: of[0],
-        dotless: of[1],
+        texts_losing_dot: of[1],
         selectors: of[2],
-        dotless_selectors: of[3],
+        selectors_losing_dot: of[3],
     };
     for (source, wanted) in [
         ("a = x", [0, 0, 0, 0]),

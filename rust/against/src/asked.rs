@@ -131,6 +131,14 @@ impl Model {
         Some((figures, need))
     }
 
+    /// All messages that it resolved.
+    pub fn messages(&self) -> Vec<&Resolution> {
+        match self {
+            Self::Message(resolution) => resolution.iter().collect(),
+            Self::Sheet(messages) => messages.iter().flatten().flatten().collect(),
+        }
+    }
+
     /// Whether the second model, which places the bytes, has this figure.
     pub fn is_placed(&self, figure: usize) -> bool {
         let none = Err(Stopped::Wrong("it has no effects"));

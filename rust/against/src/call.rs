@@ -115,6 +115,15 @@ impl Call {
     }
 }
 
+/// More of each than is needed.
+pub(crate) fn ample(need: Lengths, random: &mut Random) -> Lengths {
+    Lengths {
+        text: need.text + 1 + random.below(200),
+        list: need.list + 1 + random.below(200),
+        workspace: need.workspace + 1 + random.below(200),
+    }
+}
+
 /// Bytes of any contents.
 pub(crate) fn any(length: usize, random: &mut Random) -> Vec<u8> {
     let all = std::iter::repeat_with(|| random.draw().to_le_bytes()).flatten();

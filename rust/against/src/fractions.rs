@@ -8,10 +8,10 @@ mod tally;
 pub use fixed::{by_hand, sheets_by_hand};
 pub use tally::Fractions;
 
-use crate::asked::{Asked, Model};
-use crate::call::Call;
+use crate::asked::Model;
+use crate::call::{ample, Call};
+use crate::wanted::Wanted;
 use crate::{hurt, same, Counts};
-use harness::case::{Case, Sheet};
 use harness::model::effects::Lengths;
 use harness::model::number::Seen;
 use harness::random::Random;
@@ -31,34 +31,7 @@ pub fn compare_sheet(seed: u64, counts: &mut Counts) -> Result<(), String> {
     Wanted::sheet(&fractions_sheet(seed))?.all(&mut random, counts)
 }
 
-/// A call, and the oracle's text and list of it, or its refusal.
-struct Wanted {
-    call: Call,
-    said: Result<(Vec<u8>, Vec<u8>), u8>,
-    /// They are the Rust's own.
-    original: bool,
-}
-
 impl Wanted {
-    fn message(case: &Case) -> Result<Self, String> {
-        let e = harness::expected(case)?;
-        Ok(Self {
-            call: Call::new(e.store, Asked::message(case)),
-            said: e.answer.map(|done| (done.text, done.list)),
-            original: e.from_rust,
-        })
-    }
-
-    fn sheet(sheet: &Sheet) -> Result<Self, String> {
-        let e = harness::expected_sheet(sheet)?;
-        let answer = e.answer.map_err(|refused| refused.number());
-        Ok(Self {
-            call: Call::new(e.store, Asked::Sheet(e.sheet)),
-            said: answer.map(|done| (done.text, done.list)),
-            original: e.from_rust,
-        })
-    }
-
     fn all(&self, random: &mut Random, counts: &mut Counts) -> Result<(), String> {
         counts.fractions.cases += 1;
         match self.call.model.need() {
@@ -68,8 +41,8 @@ impl Wanted {
                 self.call.compare(some(random), random, counts)?;
             }
         }
-        self.damaged(random, counts)?;
-        self.damaged(random, counts)
+        damaged(&self.call, random, counts)?;
+        damaged(&self.call, random, counts)
     }
 
     /// With ample buffers and with ones that just fit it finishes as the oracle; with
@@ -80,12 +53,7 @@ impl Wanted {
         random: &mut Random,
         counts: &mut Counts,
     ) -> Result<(), String> {
-        let ample = Lengths {
-            text: need.text + 1 + random.below(200),
-            list: need.list + 1 + random.below(200),
-            workspace: need.workspace + 1 + random.below(200),
-        };
-        for lengths in [ample, need] {
+        for lengths in [ample(need, random), need] {
             let done = self.call.finished(lengths, random, counts)?;
             let ours = (done.text, done.list);
             same("text and list", Ok(&ours), self.said.as_ref())?;
@@ -98,29 +66,29 @@ impl Wanted {
         }
         Ok(())
     }
+}
 
-    /// The call with changed bytes of the store, of the arguments or of the sheet.
-    fn damaged(&self, random: &mut Random, counts: &mut Counts) -> Result<(), String> {
-        let (mut store, mut asked) = (self.call.store.clone(), self.call.asked.clone());
-        let changed = match random.below(5) {
-            0..=2 => hurt(random, &mut store),
-            3 => hurt(random, asked.bytes()),
-            _ => hurt(random, &mut store) | hurt(random, asked.bytes()),
-        };
-        counts.damaged += u64::from(changed);
-        let call = Call::new(store, asked);
-        let lengths = match call.model.need() {
-            Some((_, need)) => {
-                counts.fractions.damaged(seen(&call.model));
-                match random.below(4) {
-                    0 => shorter(need).last().map_or(need, |(lengths, _)| *lengths),
-                    _ => need,
-                }
+/// The call with changed bytes of the store, of the arguments or of the sheet.
+fn damaged(call: &Call, random: &mut Random, counts: &mut Counts) -> Result<(), String> {
+    let (mut store, mut asked) = (call.store.clone(), call.asked.clone());
+    let changed = match random.below(5) {
+        0..=2 => hurt(random, &mut store),
+        3 => hurt(random, asked.bytes()),
+        _ => hurt(random, &mut store) | hurt(random, asked.bytes()),
+    };
+    counts.damaged += u64::from(changed);
+    let call = Call::new(store, asked);
+    let lengths = match call.model.need() {
+        Some((_, need)) => {
+            counts.fractions.damaged(seen(&call.model));
+            match random.below(4) {
+                0 => shorter(need).last().map_or(need, |(lengths, _)| *lengths),
+                _ => need,
             }
-            None => some(random),
-        };
-        call.compare(lengths, random, counts)
-    }
+        }
+        None => some(random),
+    };
+    call.compare(lengths, random, counts)
 }
 
 /// Lengths that are enough for most.
@@ -149,13 +117,9 @@ fn shorter(need: Lengths) -> Vec<(Lengths, u8)> {
 
 /// The numbers that all messages of a call write and choose by.
 fn seen(model: &Model) -> Seen {
-    let messages = match model {
-        Model::Message(resolution) => resolution.iter().collect(),
-        Model::Sheet(messages) => messages.iter().flatten().flatten().collect::<Vec<_>>(),
-    };
     let mut seen = Seen::default();
-    for resolution in messages {
-        seen.add(resolution.numbers);
+    for message in model.messages() {
+        seen.add(message.numbers);
     }
     seen
 }

@@ -15,6 +15,7 @@ pub mod numbers;
 pub mod order;
 pub mod sheet;
 pub mod sheets;
+mod wanted;
 pub mod workspace;
 
 use harness::random::Random;

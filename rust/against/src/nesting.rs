@@ -6,10 +6,10 @@ mod tally;
 
 pub use tally::{Nesting, Noticed};
 
-use crate::asked::{Asked, Model};
-use crate::call::Call;
+use crate::asked::Model;
+use crate::call::{ample, Call};
+use crate::wanted::Wanted;
 use crate::{hurt, same, Counts};
-use harness::case::{Case, Sheet};
 use harness::model::effects::Lengths;
 use harness::model::marks::{marks, open_at_the_limit};
 use harness::model::premises::KINDS;
@@ -68,40 +68,13 @@ pub fn by_hand(counts: &mut Counts) -> Result<(), String> {
     Ok(())
 }
 
-/// A call, and the oracle's text of it or its refusal.
-struct Wanted {
-    call: Call,
-    text: Result<Vec<u8>, u8>,
-    /// The text is the original Rust's own.
-    original: bool,
-}
-
 impl Wanted {
-    fn message(case: &Case) -> Result<Self, String> {
-        let e = harness::expected(case)?;
-        Ok(Self {
-            call: Call::new(e.store, Asked::message(case)),
-            text: e.answer.map(|done| done.text),
-            original: e.from_rust,
-        })
-    }
-
-    fn sheet(sheet: &Sheet) -> Result<Self, String> {
-        let e = harness::expected_sheet(sheet)?;
-        let answer = e.answer.map_err(|refused| refused.number());
-        Ok(Self {
-            call: Call::new(e.store, Asked::Sheet(e.sheet)),
-            text: answer.map(|done| done.text),
-            original: e.from_rust,
-        })
-    }
-
     /// The crate's text, with ample buffers and with ones that just fit, which is
     /// the oracle's; none where the call is refused.
     fn text(&self, random: &mut Random, counts: &mut Counts) -> Result<Option<Vec<u8>>, String> {
         let text = finished(&self.call, random, counts)?;
-        match (&text, &self.text) {
-            (Some(ours), Ok(theirs)) => same("the oracle's text", ours, theirs)?,
+        match (&text, &self.said) {
+            (Some(ours), Ok((theirs, _))) => same("the oracle's text", ours, theirs)?,
             (None, Err(_)) => {}
             _ => return Err("one of both is refused".into()),
         }
@@ -114,7 +87,7 @@ impl Wanted {
         if let Some(text) = self.text(random, counts)? {
             let open = open(&self.call.model);
             counts.nesting.count(&text, &open)?;
-            if let (Ok(text), true) = (&self.text, self.original) {
+            if let (Ok((text, _)), true) = (&self.said, self.original) {
                 counts.nesting.original(text)?;
             }
         }
@@ -174,12 +147,7 @@ fn finished(
         call.compare(lengths, random, counts)?;
         return Ok(None);
     };
-    let ample = Lengths {
-        text: need.text + 1 + random.below(200),
-        list: need.list + 1 + random.below(200),
-        workspace: need.workspace + 1 + random.below(200),
-    };
-    let first = call.finished(ample, random, counts)?;
+    let first = call.finished(ample(need, random), random, counts)?;
     let exact = call.finished(need, random, counts)?;
     same("buffers that just fit", &exact, &first)?;
     Ok(Some(first.text))
@@ -187,10 +155,7 @@ fn finished(
 
 /// Of each message how many isolates are open where it is cut short, if it is.
 fn open(model: &Model) -> Vec<Option<usize>> {
-    let effects = match model {
-        Model::Message(resolution) => resolution.iter().collect(),
-        Model::Sheet(messages) => messages.iter().flatten().flatten().collect::<Vec<_>>(),
-    };
-    let open = effects.into_iter().map(|r| open_at_the_limit(&r.effects));
+    let messages = model.messages().into_iter();
+    let open = messages.map(|message| open_at_the_limit(&message.effects));
     open.collect()
 }

@@ -3,19 +3,11 @@
 
 use against::nesting::{self, Nesting, Noticed};
 use against::Counts;
-
-/// Runs something on a stack as the differential run has it.
-fn with_stack<T: Send>(f: impl FnOnce() -> T + Send) -> T {
-    std::thread::scope(|scope| {
-        let thread = std::thread::Builder::new().stack_size(256 << 20);
-        let thread = thread.spawn_scoped(scope, f).expect("a thread");
-        thread.join().expect("it ends well")
-    })
-}
+use harness::large_stack;
 
 #[test]
 fn generated_texts_are_paired() {
-    let counts = with_stack(|| {
+    let counts = large_stack(|| {
         let mut counts = Counts::default();
         for seed in 70_000..70_400 {
             nesting::compare_formatting(seed, &mut counts)?;
@@ -34,7 +26,7 @@ fn generated_texts_are_paired() {
 
 #[test]
 fn marks_in_the_input_are_noticed() {
-    let counts = with_stack(|| {
+    let counts = large_stack(|| {
         let mut counts = Counts::default();
         for seed in 80_000..80_200 {
             nesting::compare_marked(seed, &mut counts)?;

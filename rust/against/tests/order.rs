@@ -3,20 +3,11 @@
 
 use against::order::{self, Order};
 use against::Counts;
-use harness::{Listing, Place};
-
-/// Runs something on a stack as the differential run has it.
-fn with_stack<T: Send>(f: impl FnOnce() -> T + Send) -> T {
-    std::thread::scope(|scope| {
-        let thread = std::thread::Builder::new().stack_size(256 << 20);
-        let thread = thread.spawn_scoped(scope, f).expect("a thread");
-        thread.join().expect("it ends well")
-    })
-}
+use harness::{large_stack, Listing, Place};
 
 #[test]
 fn generated_arguments() {
-    let counts = with_stack(|| {
+    let counts = large_stack(|| {
         let mut counts = Counts::default();
         for seed in 90_000..90_600 {
             order::compare_formatting(seed, &mut counts)?;
@@ -37,7 +28,7 @@ fn generated_arguments() {
 
 #[test]
 fn worked_out_by_hand() {
-    let counts = with_stack(|| {
+    let counts = large_stack(|| {
         let mut counts = Counts::default();
         order::by_hand(&mut counts)?;
         Ok::<_, String>(counts)

@@ -48,7 +48,7 @@ pub(super) const ISOLATING: [(usize, &str, &str); 66] = [
     (0, "a = { NUMBER(NUMBER(5.0, min: 0), min: \"2\") }", "5"),
     (0, "a = { NUMBER(NUMBER(NUMBER($n, min: 0), min: 3), min: -1) }", "5"),
     (0, "a = { NUMBER(NUMBER(5.5, min: 19), min: 0) }", "5.5"),
-    // 5 is a text there, and no number.
+    // `5` is a text there, and no number.
     (1, "a = { NUMBER({ NUMBER(5, min: 0) }, min: 0) }", "NUMBER()"),
     // A term's arguments.
     (0, "a = { -t(n: 5) }\n-t = { NUMBER($n, min: 0) }", "5"),
@@ -59,9 +59,9 @@ pub(super) const ISOLATING: [(usize, &str, &str); 66] = [
     (0, "a = { -t }\n-t = { NUMBER($n, min: 0) }", "NUMBER()"),
     (0, "a = { -t(NUMBER(5, min: 0), n: 1) }\n-t = { $n }", "1"),
     (0, "a = { -t.x(n: 5) }\n-t = t\n.x = { NUMBER($n, min: 0) }", "5"),
-    // 5.
+    // In the workspace is `5`.
     (1, "a = { -t({ NUMBER(5, min: 0) }, n: 1) }\n-t = { $n }", "1"),
-    // 50 and 5 | 50, 5 and 1.
+    // `50` and `5` | `50`, `5` and `1`.
     (
         4,
         "a = { -t(b, { NUMBER(5, min: 0) }) }\n-t = t{ { NUMBER(1, min: 0) } -> *[o] x }\nb = { NUMBER(50, min: 0) }",
@@ -90,24 +90,24 @@ pub(super) const ISOLATING: [(usize, &str, &str); 66] = [
         "⟨1⟩st",
     ),
     (0, "a = x { NUMBER(5, min: 0) -> *[other] { NUMBER(5, min: 0) } }", "x ⟨5⟩"),
-    // A selector that is a text: 5.
+    // A selector that is a text: `5`.
     (1, "a = { b -> [x] y *[o] z }\nb = { NUMBER(5, min: 0) }", "z"),
-    // -100.
+    // In the workspace is `-100`.
     (4, "a = { b -> *[o] z }\nb = { NUMBER(-100, min: 0) }", "z"),
-    // x ⟨5⟩ and ⟨5⟩., with three bytes for each mark.
+    // `x ⟨5⟩` and `⟨5⟩.`, with three bytes for each mark.
     (9, "a = { b -> *[o] z }\nb = x { NUMBER(5, min: 0) }", "z"),
     (8, "a = { b -> *[o] { b } }\nb = { NUMBER(5, min: 0) }.", "⟨5⟩."),
     (1, "a = { { NUMBER(5, min: 0) } -> [one] y *[o] z }", "z"),
-    // 5.00, 5.5, and the longest without and with a fraction.
+    // `5.00`, `5.5`, and the longest without and with a fraction.
     (4, "a = { { NUMBER(5, min: 2) } -> *[o] z }", "z"),
     (3, "a = { { NUMBER(5.5, min: 0) } -> *[o] z }", "z"),
     (16, "a = { { NUMBER(-999999999999999, min: 0) } -> *[o] z }", "z"),
     (17, "a = { { NUMBER(-0.00000000000001, min: 0) } -> *[o] z }", "z"),
-    // Its text is x5, and so is the key.
+    // Its text is `x5`, and so is the key.
     (2, "a = { b -> [x5] y *[o] z }\nb = x{ -t }\n-t = { NUMBER(5, min: 0) }", "y"),
     // With a dot of its own it is not.
     (3, "a = { b -> [x5] y *[o] z }\nb = x{ -t }.\n-t = { NUMBER(5, min: 0) }", "z"),
-    // An argument: 50 | twice 50 | 50, and F is missing.
+    // An argument: `50` | twice `50` | `50`, and F is missing.
     (2, "a = { NUMBER(1, b, min: 0) }\nb = { NUMBER(50, min: 0) }", "1"),
     (4, "a = { NUMBER(1, b, { b }, min: 0) }\nb = { NUMBER(50, min: 0) }", "1"),
     (2, "a = { F(b) }\nb = { NUMBER(50, min: 0) }", "{F()}"),
@@ -128,18 +128,18 @@ pub(super) const PLAIN: [(usize, &str, &str); 20] = [
     (0, "a = { NUMBER(5, min: 0) }{ NUMBER(5, min: 1) }", "55.0"),
     (0, "a = { b }.\nb = { NUMBER($c, min: 0) }", "100."),
     (0, "a = { -t(n: 5) }.\n-t = { NUMBER($n, min: 0) }", "5."),
-    // x5.
+    // In the workspace is `x5`; then `x5.` and `x5.0`.
     (2, "a = { b -> [x5] y *[o] z }\nb = x{ NUMBER(5, min: 0) }", "y"),
     (2, "a = { b -> [x5] y *[o] z }\nb = x{ NUMBER(5) }", "y"),
     (3, "a = { b -> [x5] y *[o] z }\nb = x{ NUMBER(5, min: 0) }.", "z"),
     (4, "a = { b -> [x5] y *[o] z }\nb = x{ NUMBER(5, min: 1) }", "z"),
-    // 5 100.
+    // In the workspace is `5 100`.
     (5, "a = { b -> *[o] z }\nb = { NUMBER(5, min: 0) } { NUMBER(100, min: 0) }", "z"),
-    // 5 whales.
+    // In the workspace is `5 whales`.
     (8, "a = { NUMBER(1, b, min: 0) }\nb = { NUMBER(5, min: 0) } whales", "1"),
-    // 1 + 5 | 1z.
+    // `1` + `5` | `1z`.
     (2, "a = { b -> [x] y *[o] x }\nb = { NUMBER(1, min: 0) }{ { NUMBER(5, min: 0) } -> *[o] z }", "x"),
-    // 12 + 345 | 12z: a number in a text that is interrupted.
+    // `12` + `345` | `12z`: a number in a text that is interrupted.
     (
         5,
         "a = { b -> *[o] x }\nb = { NUMBER(12, min: 0) }{ { NUMBER(345, min: 0) } -> *[o] z }",
@@ -178,7 +178,7 @@ pub(super) const CUT: [(usize, &str, &str); 8] = [
     ),
     // A literal has no name.
     (0, "a = x { 5 -> *[o] { g } }", "x ⟨[88 ⟨5⟩]{h}{g}{???}⟩"),
-    // In an argument and a selector: 89 times seven bytes, and {h}.
+    // In an argument and a selector: 89 times seven bytes, and `{h}`.
     (626, "a = { NUMBER(7, g, min: 0) }", "7{NUMBER()}"),
     (626, "a = { g -> *[o] x }", "{g}"),
 ];

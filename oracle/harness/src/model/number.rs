@@ -168,7 +168,7 @@ impl Number {
 
     /// Whether the original Rust ends the text with a dot, which Card 3 leaves out:
     /// no fraction, and a minimum of 0.
-    pub fn is_dotless(&self) -> bool {
+    pub fn loses_dot(&self) -> bool {
         self.value.shortest().scale == 0 && self.minimum() == Some(0)
     }
 
@@ -224,29 +224,29 @@ pub struct Seen {
     /// Texts of numbers, written to the text or to the workspace.
     pub texts: usize,
     /// Those that the original Rust ends with a dot.
-    pub dotless: usize,
+    pub texts_losing_dot: usize,
     /// Selectors that are numbers.
     pub selectors: usize,
     /// Those whose text the original would end with a dot.
-    pub dotless_selectors: usize,
+    pub selectors_losing_dot: usize,
 }
 
 impl Seen {
     pub(super) fn written(&mut self, number: &Number) {
         self.texts += 1;
-        self.dotless += usize::from(number.is_dotless());
+        self.texts_losing_dot += usize::from(number.loses_dot());
     }
 
     pub(super) fn chosen_by(&mut self, number: &Number) {
         self.selectors += 1;
-        self.dotless_selectors += usize::from(number.is_dotless());
+        self.selectors_losing_dot += usize::from(number.loses_dot());
     }
 
     /// Those of another formatting, too.
     pub fn add(&mut self, other: Self) {
         self.texts += other.texts;
-        self.dotless += other.dotless;
+        self.texts_losing_dot += other.texts_losing_dot;
         self.selectors += other.selectors;
-        self.dotless_selectors += other.dotless_selectors;
+        self.selectors_losing_dot += other.selectors_losing_dot;
     }
 }

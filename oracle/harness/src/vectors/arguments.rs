@@ -4,17 +4,13 @@
 
 use super::formats::{format_of, hurt, Format, LENT};
 use super::sheets::{self, LONGEST};
-use super::{File, CASES};
+use super::{File, Seeded, CASES, FIELDS};
 use crate::encode;
 use crate::model::effects::Lengths;
-use crate::model::operations;
 use crate::model::sheet::{join, prepare};
 use crate::order;
 use crate::random::Random;
 use crate::{expected, expected_sheet, listed, listed_sheet, Expected, Listed};
-
-/// More than what a case has beside store, images, text and list.
-const FIELDS: usize = 100;
 
 /// What a generated case has of store and images at most; seldom it is longer.
 const SHORT: usize = 220;
@@ -44,6 +40,12 @@ fn telling(answers: [u8; 5]) -> impl Iterator<Item = usize> {
     (0..5).filter(move |at| [0, 3].contains(at) || answers[*at] != answers[at - 1])
 }
 
+impl Seeded for Writer {
+    fn file(&self) -> &File {
+        &self.file
+    }
+}
+
 impl Writer {
     fn by_hand(&mut self) {
         for calls in order::formattings().chunks(5) {
@@ -55,8 +57,9 @@ impl Writer {
                     attribute: call.attribute.clone(),
                     arguments: call.arguments.clone(),
                 };
-                let answer = self.judged(&format, call.lengths);
-                assert_eq!(answer, call.answer, "{}", call.words);
+                let answer = format.judged(&mut self.file, call.lengths);
+                let number = answer.err().unwrap_or(0);
+                assert_eq!(number, call.answer, "{}", call.words);
             }
         }
         for calls in order::sheets().chunks(5) {
@@ -70,29 +73,6 @@ impl Writer {
                 sheets::write(&mut self.file, bytes, call.lengths, &prepared, false);
             }
         }
-    }
-
-    /// Writes a formatting with the model's answer, and gives its number.
-    fn judged(&mut self, format: &Format, lengths: Lengths) -> u8 {
-        let attribute = format.attribute.as_deref();
-        let prepared =
-            operations::prepare(&format.store, &format.message, attribute, &format.arguments);
-        let answer = operations::format(&prepared, lengths);
-        let number = *answer.as_ref().err().unwrap_or(&0);
-        format.write(&mut self.file, Some(lengths), answer, false);
-        number
-    }
-
-    /// Goes on from a seed until there are so many cases more; gives the seed
-    /// after the last.
-    fn until(&mut self, count: usize, from: u64, one: fn(&mut Self, u64)) -> u64 {
-        let end = self.file.count() + count;
-        let mut seed = from;
-        while self.file.count() < end {
-            seed += 1;
-            one(self, seed);
-        }
-        seed
     }
 
     /// A formatting as it is listed, and in its accepted form; or damaged.
@@ -111,7 +91,7 @@ impl Writer {
             }
             _ => {
                 format.arguments = arguments;
-                self.judged(&format, lengths);
+                let _ = format.judged(&mut self.file, lengths);
             }
         }
     }
@@ -121,7 +101,7 @@ impl Writer {
         let mut format = format.clone();
         format.arguments = encode::listed(&listed.listed);
         hurt(&mut self.r, &mut format.arguments);
-        self.judged(&format, lengths);
+        let _ = format.judged(&mut self.file, lengths);
     }
 
     /// Lengths for a short case, or seldom a longer one: those that just fit, longer
@@ -135,11 +115,7 @@ impl Writer {
         if !short || length > LONGEST || longest + 40 > LENT {
             return None;
         }
-        let mut lengths = Lengths {
-            text: done.text.len(),
-            list: done.list.len(),
-            workspace: done.highest,
-        };
+        let mut lengths = e.need()?;
         match self.r.below(6) {
             0 => lengths.list = self.r.below(5),
             1 => lengths.text += self.r.below(40),

@@ -5,7 +5,7 @@
 use super::additions::{function_case, resource_case, rust_list, BEFORE};
 use super::formats::{format_of, LENT};
 use super::sheets::{self, LONGEST};
-use super::{File, CASES};
+use super::{File, CASES, FIELDS};
 use crate::case::{Bundle, Case, Item, Sheet};
 use crate::figures;
 use crate::model::effects::Lengths;
@@ -16,9 +16,6 @@ use crate::random::Random;
 use crate::{
     encode, expected, expected_sheet, generator, sheet_generator, Expected, ExpectedSheet, Maker,
 };
-
-/// More than what a case has beside slices, images, texts and lists.
-const FIELDS: usize = 100;
 
 /// What is lent as workspace.
 #[derive(Clone, Copy, Debug, PartialEq)]

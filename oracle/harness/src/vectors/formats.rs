@@ -63,11 +63,23 @@ impl Format {
         file.case(if lengths.is_some() { 41 } else { 40 }, case)
     }
 
-    /// The answer of document 01 alone, for inputs that the Rust can't get.
-    fn write_judged(&self, file: &mut File) -> bool {
+    /// The answer of the model alone, for inputs that the Rust can't get.
+    fn answer(&self, lengths: Lengths) -> Result<Finished, u8> {
         let attribute = self.attribute.as_deref();
         let prepared = operations::prepare(&self.store, &self.message, attribute, &self.arguments);
-        let answer = operations::format(&prepared, Lengths::AMPLE);
+        operations::format(&prepared, lengths)
+    }
+
+    /// Writes it with that answer, and gives it.
+    pub(super) fn judged(&self, file: &mut File, lengths: Lengths) -> Result<Finished, u8> {
+        let answer = self.answer(lengths);
+        self.write(file, Some(lengths), answer.clone(), false);
+        answer
+    }
+
+    /// Writes it without lengths, if it is refused.
+    fn write_judged(&self, file: &mut File) -> bool {
+        let answer = self.answer(Lengths::AMPLE);
         match answer {
             Err(_) => self.write(file, None, answer, false),
             // Accepted all the same: not what this is for.

@@ -4,17 +4,13 @@
 
 use super::formats::{format_of, hurt, Format, LENT};
 use super::sheets::{self, LONGEST};
-use super::{File, CASES};
+use super::{File, Seeded, CASES, FIELDS};
 use crate::case::Case;
 use crate::fractions::{changed, formattings, lent, lent_sheets, sheets as printed, LONE};
 use crate::model::effects::Lengths;
-use crate::model::operations;
 use crate::model::sheet::{join, prepare};
 use crate::random::Random;
 use crate::{expected, expected_sheet, fractions, fractions_sheet, Expected};
-
-/// More than what a case has beside store, images, text and list.
-const FIELDS: usize = 100;
 
 /// What a generated case has of store and images at most; seldom it is longer.
 const SHORT: usize = 700;
@@ -42,6 +38,12 @@ pub fn make(seed: u64, cases: usize) -> File {
     w.file
 }
 
+impl Seeded for Writer {
+    fn file(&self) -> &File {
+        &self.file
+    }
+}
+
 impl Writer {
     /// Those worked out by hand; of the lone numbers every other one, as numbers.vec
     /// has such texts and categories, too.
@@ -55,7 +57,7 @@ impl Writer {
                 continue;
             }
             self.turn += 1;
-            for lengths in self.near(need(&e).expect("it finishes")) {
+            for lengths in self.near(e.need().expect("it finishes")) {
                 self.format(&point.case, &e, lengths);
             }
         }
@@ -101,7 +103,8 @@ impl Writer {
                 list: 40,
                 workspace: 0,
             };
-            let text = self.judged(&format, lengths);
+            let answer = format.judged(&mut self.file, lengths);
+            let text = answer.map(|done| done.text);
             assert_eq!(text, call.said.map(|text| text.as_bytes().to_vec()));
         }
     }
@@ -121,18 +124,6 @@ impl Writer {
         }
     }
 
-    /// Goes on from a seed until there are so many cases more; gives the seed
-    /// after the last.
-    fn until(&mut self, count: usize, from: u64, one: fn(&mut Self, u64)) -> u64 {
-        let end = self.file.count() + count;
-        let mut seed = from;
-        while self.file.count() < end {
-            seed += 1;
-            one(self, seed);
-        }
-        seed
-    }
-
     /// A formatting, with ample buffers, ones that just fit, or one byte less of one
     /// of them.
     fn formatting(&mut self, seed: u64) {
@@ -141,7 +132,7 @@ impl Writer {
         if !self.worth(&e) {
             return;
         }
-        let Some(mut lengths) = need(&e) else {
+        let Some(mut lengths) = e.need() else {
             self.format(&case, &e, None);
             return;
         };
@@ -162,11 +153,11 @@ impl Writer {
     /// original ends with a dot.
     fn worth(&mut self, e: &Expected) -> bool {
         let short = e.store.len() < SHORT || self.r.one_in(30);
-        let dotless = match &e.prepared {
-            Ok(resolution) => resolution.numbers.dotless > 0,
+        let losing = match &e.prepared {
+            Ok(resolution) => resolution.numbers.texts_losing_dot > 0,
             Err(_) => false,
         };
-        short && (dotless || self.r.one_in(8))
+        short && (losing || self.r.one_in(8))
     }
 
     /// A sheet of two messages or more, likewise.
@@ -209,7 +200,7 @@ impl Writer {
             list: 60 + self.r.below(100),
             workspace: self.r.below(40),
         };
-        let _ = self.judged(&format, lengths);
+        let _ = format.judged(&mut self.file, lengths);
     }
 
     /// A sheet with changed bytes of the store or of the image.
@@ -232,16 +223,6 @@ impl Writer {
         sheets::write(&mut self.file, (&store, &image), lengths, &prepared, false);
     }
 
-    /// Writes a formatting with the model's answer, and gives its text or its refusal.
-    fn judged(&mut self, format: &Format, lengths: Lengths) -> Result<Vec<u8>, u8> {
-        let attribute = format.attribute.as_deref();
-        let prepared =
-            operations::prepare(&format.store, &format.message, attribute, &format.arguments);
-        let answer = operations::format(&prepared, lengths);
-        format.write(&mut self.file, Some(lengths), answer.clone(), false);
-        answer.map(|done| done.text)
-    }
-
     /// Writes a formatting, unless it is too long.
     fn format(&mut self, case: &Case, e: &Expected, lengths: Option<Lengths>) {
         let answer = lengths.map_or_else(|| e.answer.clone(), |lengths| e.with(lengths));
@@ -255,14 +236,4 @@ impl Writer {
             format_of(case, e).write(&mut self.file, lengths, answer, e.from_rust);
         }
     }
-}
-
-/// What a formatting that finishes needs.
-fn need(e: &Expected) -> Option<Lengths> {
-    let done = e.answer.as_ref().ok()?;
-    Some(Lengths {
-        text: done.text.len(),
-        list: done.list.len(),
-        workspace: done.highest,
-    })
 }

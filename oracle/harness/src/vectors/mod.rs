@@ -16,6 +16,9 @@ use std::collections::HashSet;
 /// The default size of a run, in formatting cases; the other files grow with it.
 pub const CASES: usize = 2400;
 
+/// More than what a case has beside slices, images, texts and lists.
+const FIELDS: usize = 100;
+
 /// A file being made: cases one after the other.
 #[derive(Default)]
 pub struct File {
@@ -53,5 +56,22 @@ impl File {
         out.u32(self.count);
         out.raw(&self.body);
         out
+    }
+}
+
+/// What makes a file's cases from seeds.
+trait Seeded {
+    fn file(&self) -> &File;
+
+    /// Goes on from a seed until there are so many cases more; gives the seed
+    /// after the last.
+    fn until(&mut self, count: usize, from: u64, one: fn(&mut Self, u64)) -> u64 {
+        let end = self.file().count() + count;
+        let mut seed = from;
+        while self.file().count() < end {
+            seed += 1;
+            one(self, seed);
+        }
+        seed
     }
 }

@@ -4,7 +4,7 @@
 
 use super::formats::{format_of, LENT};
 use super::sheets::{self, LONGEST};
-use super::{File, CASES};
+use super::{File, Seeded, CASES, FIELDS};
 use crate::case::Case;
 use crate::model::effects::Lengths;
 use crate::model::marks::{marks, open_at_the_limit, paired, Marks};
@@ -15,9 +15,6 @@ use crate::{
     expected, expected_sheet, marked, marked_sheet, unmarked, unmarked_sheet, Expected,
     ExpectedSheet,
 };
-
-/// More than what a case has beside store, images, text and list.
-const FIELDS: usize = 100;
 
 struct Writer {
     file: File,
@@ -48,6 +45,12 @@ struct Need {
     marks: Marks,
 }
 
+impl Seeded for Writer {
+    fn file(&self) -> &File {
+        &self.file
+    }
+}
+
 impl Writer {
     fn by_hand(&mut self) {
         for point in nesting::formattings() {
@@ -68,18 +71,6 @@ impl Writer {
             };
             assert!(self.sheet(&e, lengths), "{:?}", point.sheet);
         }
-    }
-
-    /// Goes on from a seed until there are so many cases more; gives the seed
-    /// after the last.
-    fn until(&mut self, count: usize, from: u64, one: fn(&mut Self, u64)) -> u64 {
-        let end = self.file.count() + count;
-        let mut seed = from;
-        while self.file.count() < end {
-            seed += 1;
-            one(self, seed);
-        }
-        seed
     }
 
     fn unmarked(&mut self, seed: u64) {
@@ -189,11 +180,7 @@ impl Writer {
 fn need(e: &Expected) -> Option<Need> {
     let done = e.answer.as_ref().ok()?;
     Some(Need {
-        lengths: Lengths {
-            text: done.text.len(),
-            list: done.list.len(),
-            workspace: done.highest,
-        },
+        lengths: e.need()?,
         bytes: e.store.len() + e.arguments.len() + done.text.len() + done.list.len(),
         cut: done.begun == 101,
         marks: marks(&done.text).expect("it is text"),

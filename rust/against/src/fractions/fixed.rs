@@ -1,9 +1,9 @@
 //! Numbers that are not left to chance: the formattings and sheets that were worked
 //! out by hand, with ample and with lent lengths, and with changed bytes.
 
-use super::Wanted;
 use crate::asked::Asked;
 use crate::call::Call;
+use crate::wanted::Wanted;
 use crate::{same, Counts};
 use harness::fractions::{changed, formattings, lent, lent_sheets, sheets};
 use harness::model::effects::Lengths;

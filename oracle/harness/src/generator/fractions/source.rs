@@ -1,6 +1,6 @@
 //! The sources: messages and terms full of numbers.
 
-use crate::model::number::Decimal;
+use crate::model::number::{Decimal, Number};
 use crate::random::Random;
 use crate::vectors::numbers::decimal;
 
@@ -296,14 +296,8 @@ impl<'r> Source<'r> {
     }
 }
 
-/// A decimal as a number literal.
+/// A decimal as a number literal, with all its fraction digits.
 fn as_literal(d: Decimal) -> String {
-    let scale = usize::from(d.scale);
-    let digits = format!("{:0>width$}", d.digits, width = scale + 1);
-    let (whole, fraction) = digits.split_at(digits.len() - scale);
-    let sign = if d.negative { "-" } else { "" };
-    match fraction {
-        "" => format!("{sign}{whole}"),
-        _ => format!("{sign}{whole}.{fraction}"),
-    }
+    let text = Number::with_minimum(d, Some(d.scale.into())).text();
+    String::from_utf8(text).expect("it is text")
 }
