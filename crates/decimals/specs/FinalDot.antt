@@ -17,6 +17,7 @@ originalFraction none d zero = []
 originalFraction none d (suc s) = 46 ∷ digitsOf (suc s) d
 originalFraction (some m) d s = 46 ∷ (digitsOf s d ++ replicate (m - s) 48)
 
+-- the Rust's text of d over 10^s, a shortest decimal
 unfoldable pub originalDecimal : Bool → Option ℕ → ℕ × ℕ → List ℕ
 originalDecimal negative m (d, s) = signText negative ++ (decimal (d / 10 ^ s) ++ originalFraction m d s)
 
@@ -40,6 +41,7 @@ pub record OnlyADot (n : Number) : Type 0 where
   pub minimum : n .options .minimumFractionDigits ≡ some 0
   pub whole : shortest (n .digits) (n .scale) .1 ≡ 0
 
+-- Card 3, of one number
 pub record NoDotWithoutDigits (n : Number) : Type 0 where
   -- "rejects a number that ends in a dot": no text ends in one, or in anything but a digit (0 is no digit, so no text is empty)
   pub ends : digit (lastOr 0 (numberText n)) ≡ true
