@@ -5,10 +5,10 @@ use Prim.Native.Nat.{ℕ, zero, suc, _+_, _-_, _*_, _/_, _%_, _^_, max, _≤_, _
 use native.Mathlib.Omega.{arith}
 use native.Mathlib.Nat.{pow-succ', mod-one, div-add-mod', mul-left-comm}
 use lib.Dec.{eqb, leb}
-use borrow.Author.Tests.{leb-true, eq-eqb, ne-eqb}
-use Rattle.plural.specs.declared.plural.Seen as code-seen
+use borrow.Author.Tests.{leb-true, eq-eqb, ne-eqb, eqb-true}
+use Rattle.plural.specs.declared.conditions.Seen as code-seen
 use Rattle.decimals.specs.Decimal.{Options, Number, shortest, orZero}
-use Rattle.plural.specs.Plural.{Operands, operandsOf, operands, enCardinal, daCardinal, ruWhole, ruCardinal, cyWhole, cyCardinal, enPlace, enOrdinal, cyPlace, cyOrdinal, ruleOf, category}
+use Rattle.plural.specs.Plural.{Operands, operandsOf, operands, wholeOperands, enCardinal, daCardinal, ruWhole, ruCardinal, cyWhole, cyCardinal, enPlace, enOrdinal, cyPlace, cyOrdinal, ruleOf, category}
 use Rattle.decimals.specs.Bytes.{choose, within}
 use Rattle.decimals.specs.declared.types.Kind.{Kind}
 use Rattle.decimals.specs.declared.types.Kind.the-variants.{Cardinal, Ordinal}
@@ -45,6 +45,22 @@ module _ (n : Number) {p s : ℕ} (e : shortest (n .digits) (n .scale) ≡ (p, s
       let f : 0 < s → p % 10 ≡ 0 → ⊥ = rw e at (shortest-trim (n .digits) (n .scale)) in
       let g : p % 10 ^ s ≡ 0 → ⊥ = λ x. f (omega (arith, z)) (ends-zero p s z x) in
       rw (e, operands) (record { i = i; v = v ∙ sym (ne-eqb (max s m) 0 (larger s m z)); t = t ∙ sym (ne-eqb (p % 10 ^ s) 0 g) })
+
+-- operands that are whole
+whole-of : (x : Operands) {i : ℕ} → i ≡ x .i → x .v ≡ 0 → x .t ≡ 0 → wholeOperands i ≡ x
+unfolding wholeOperands
+whole-of x e v t = λ j. record { i = e j; v = sym v j; t = sym t j }
+
+-- a number that shows no fraction digit is whole
+pub shows-none : (n : Number) {o : code-seen.Seen} → Shows (operands n) o → o .«no_digits» ≡ true → wholeOperands (o .i) ≡ operands n
+unfolding operands operandsOf wholeOperands
+shows-none n {o} h t =
+    let p : ℕ = shortest (n .digits) (n .scale) .0 in
+    let s : ℕ = shortest (n .digits) (n .scale) .1 in
+    let v : max s (orZero (n .options .minimumFractionDigits)) ≡ 0 = eqb-true _ _ (sym (h .v) ∙ t) in
+    let z : s ≡ 0 = omega arith in
+    let f : p % 10 ^ s ≡ 0 = rw z (mod-one p) in
+    whole-of (operands n) (h .i) v f
 
 pub cy-low : (n : ℕ) → n ≤ 2 → cyPlace n ≡ n
 unfolding cyPlace
@@ -99,16 +115,14 @@ unfolding cyOrdinal cyPlace
 order-bound x = either (eqb (x .t) 0) _ 5 (either (eqb (x .i) 0 || within 7 9 (x .i)) 0 _ (omega arith) (low 2 (x .i) (omega arith) (either (leb (x .i) 4) 3 _ (omega arith) (either (leb (x .i) 6) 4 5 (omega arith) (omega arith))))) (omega arith)
 
 -- every category is one of six
-pub category-bound : (locale : ℕ) (n : Number) → category locale n ≤ 5
-unfolding category ruleOf
-category-bound locale n = by (n .options .kind)
-  where
-    x : Operands
-    x = operands n
+pub rule-bound : (k : Kind) (locale : ℕ) (x : Operands) → ruleOf k locale x ≤ 5
+unfolding ruleOf
+rule-bound Cardinal locale x = either (eqb locale 0) _ _ (en-bound x) (either (eqb locale 1) _ _ (da-bound x) (either (eqb locale 2) _ _ (ru-bound x) (either (eqb locale 3) _ _ (cy-bound x) (omega arith))))
+rule-bound Ordinal locale x = either (eqb locale 0) _ _ (place-bound x) (either (eqb locale 3) _ _ (order-bound x) (omega arith))
 
-    by : (k : Kind) → ruleOf k locale x ≤ 5
-    by Cardinal = either (eqb locale 0) _ _ (en-bound x) (either (eqb locale 1) _ _ (da-bound x) (either (eqb locale 2) _ _ (ru-bound x) (either (eqb locale 3) _ _ (cy-bound x) (omega arith))))
-    by Ordinal = either (eqb locale 0) _ _ (place-bound x) (either (eqb locale 3) _ _ (order-bound x) (omega arith))
+pub category-bound : (locale : ℕ) (n : Number) → category locale n ≤ 5
+unfolding category
+category-bound locale n = rule-bound (n .options .kind) locale (operands n)
 
 -- the category of a number is that of what the code shows of it
 pub category-shown : (locale : ℕ) (n : Number) → category locale (told (shown n)) ≡ category locale n

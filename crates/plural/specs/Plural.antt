@@ -24,6 +24,10 @@ operandsOf (d, s) m = record { i = d / 10 ^ s; v = max s m; t = d % 10 ^ s }
 unfoldable pub operands : Number → Operands
 operands n = operandsOf (shortest (n .digits) (n .scale)) (orZero (n .options .minimumFractionDigits))
 
+-- "A whole number with v = 0" (document 02, Card 4)
+unfoldable pub wholeOperands : ℕ → Operands
+wholeOperands n = record { i = n; v = 0; t = 0 }
+
 -- "en one i=1, v=0"
 unfoldable pub enCardinal : Operands → ℕ
 enCardinal o = choose (eqb (o .i) 1 && eqb (o .v) 0) 1 5

@@ -1,3 +1,4 @@
 // Plural categories of numbers.
+mod conditions;
 pub mod plural;
 pub mod types;

@@ -1,27 +1,23 @@
 // Plural categories.
+use crate::conditions::Seen;
+use crate::conditions::conditions;
+use crate::conditions::numbered;
 use crate::types::Category;
+use categories::digit;
 use decimals::bytes::same_bytes;
 use decimals::text::shortest;
 use decimals::text::whole;
 use decimals::types::Count;
 use decimals::types::Kind;
 use decimals::types::Number;
+use decimals::types::kind_number;
 ghost use mathlib.Core.Path.{_≡_};
-ghost use Prim.Native.Nat.{_≤_};
 ghost use lib.Dec.{eqb};
 ghost use Rattle.decimals.specs.Bytes.{sameBytes};
 ghost use Rattle.decimals.specs.Decimal.{orZero};
-ghost use Rattle.plural.specs.Plural.{Operands, operands, enCardinal, daCardinal, ruWhole, ruCardinal, cyWhole, cyCardinal, enPlace, enOrdinal, cyPlace, cyOrdinal, ruleOf, category as categoryOf, categoryNumber, keyword};
+ghost use Rattle.plural.specs.Plural.{operands, wholeOperands, ruleOf, category as categoryOf, categoryNumber, keyword};
 ghost use Rattle.decimals.specs.Relations.Shown.{told, toldCount};
 ghost use Rattle.plural.specs.Relations.Shown.{Shows};
-ghost use Rattle.decimals.specs.declared.types.Kind.the-variants.{Cardinal, Ordinal};
-
-// i whole part; v whether no fraction digit is shown; t whether there is no fraction.
-struct Seen {
-    i: u64,
-    no_digits: bool,
-    no_fraction: bool,
-}
 
 fn is_zero(m: Count) -> bool
     ensures { λ r. ⌜ r ≡ eqb (orZero (toldCount m)) 0 ⌝ }
@@ -53,205 +49,40 @@ fn operands_of(n: Number) -> Seen
     }
 }
 
-fn en_cardinal(o: Seen) -> Category
-    ensures { λ r. ⌜ ((x : Operands) → Shows x o → categoryNumber r ≡ enCardinal x) ⌝ }
+// The category of a whole number with no fraction digits by the written conditions: what the table is made by.
+pub fn by_conditions(locale: u8, kind: Kind, n: u64) -> Category
+    ensures { λ r. ⌜ categoryNumber r ≡ ruleOf kind locale (wholeOperands n) ⌝ }
 {
-    if o.i == 1 {
-        if o.no_digits {
-            return Category::One;
-        }
-    }
-    Category::Other
+    conditions(
+        locale,
+        kind,
+        Seen {
+            i: n,
+            no_digits: true,
+            no_fraction: true,
+        },
+    )
 }
 
-fn da_cardinal(o: Seen) -> Category
-    ensures { λ r. ⌜ ((x : Operands) → Shows x o → categoryNumber r ≡ daCardinal x) ⌝ }
+// The same by the table.
+fn by_table(locale: u8, kind: Kind, n: u64) -> Category
+    ensures { λ r. ⌜ categoryNumber r ≡ ruleOf kind locale (wholeOperands n) ⌝ }
 {
-    if o.no_fraction {
-        if o.i == 1 {
-            return Category::One;
-        }
-        return Category::Other;
-    }
-    if o.i <= 1 {
-        return Category::One;
-    }
-    Category::Other
-}
-
-fn ru_whole(ten: u64, hundred: u64) -> Category
-    ensures { λ r. ⌜ categoryNumber r ≡ ruWhole ten hundred ⌝ }
-{
-    if ten == 1 {
-        if hundred == 11 {
-            return Category::Many;
-        }
-        return Category::One;
-    }
-    if ten < 2 {
-        return Category::Many;
-    }
-    if 4 < ten {
-        return Category::Many;
-    }
-    if hundred < 12 {
-        return Category::Few;
-    }
-    if 14 < hundred {
-        return Category::Few;
-    }
-    Category::Many
-}
-
-fn ru_cardinal(o: Seen) -> Category
-    ensures { λ r. ⌜ ((x : Operands) → Shows x o → categoryNumber r ≡ ruCardinal x) ⌝ }
-{
-    if o.no_digits {
-        let i = o.i;
-        return ru_whole(i % 10, i % 100);
-    }
-    Category::Other
-}
-
-// The category of a number up to 5.
-fn numbered(n: u64) -> Category
-    requires { ⌜ n ≤ 5 ⌝ }
-    ensures { λ r. ⌜ categoryNumber r ≡ n ⌝ }
-{
-    if n < 1 {
-        return Category::Zero;
-    }
-    if n < 2 {
-        return Category::One;
-    }
-    if n < 3 {
-        return Category::Two;
-    }
-    if n < 4 {
-        return Category::Few;
-    }
-    if n < 5 {
-        return Category::Many;
-    }
-    Category::Other
-}
-
-fn cy_whole(n: u64) -> Category
-    ensures { λ r. ⌜ categoryNumber r ≡ cyWhole n ⌝ }
-{
-    if n <= 3 {
-        return numbered(n);
-    }
-    if n == 6 {
-        return Category::Many;
-    }
-    Category::Other
-}
-
-fn cy_cardinal(o: Seen) -> Category
-    ensures { λ r. ⌜ ((x : Operands) → Shows x o → categoryNumber r ≡ cyCardinal x) ⌝ }
-{
-    if o.no_fraction {
-        return cy_whole(o.i);
-    }
-    Category::Other
-}
-
-fn en_place(ten: u64, hundred: u64) -> Category
-    ensures { λ r. ⌜ categoryNumber r ≡ enPlace ten hundred ⌝ }
-{
-    if ten < 1 {
-        return Category::Other;
-    }
-    if 3 < ten {
-        return Category::Other;
-    }
-    if hundred < 11 {
-        return numbered(ten);
-    }
-    if 13 < hundred {
-        return numbered(ten);
-    }
-    Category::Other
-}
-
-fn en_ordinal(o: Seen) -> Category
-    ensures { λ r. ⌜ ((x : Operands) → Shows x o → categoryNumber r ≡ enOrdinal x) ⌝ }
-{
-    if o.no_fraction {
-        let i = o.i;
-        return en_place(i % 10, i % 100);
-    }
-    Category::Other
-}
-
-fn cy_place(n: u64) -> Category
-    ensures { λ r. ⌜ categoryNumber r ≡ cyPlace n ⌝ }
-{
-    if n <= 2 {
-        return numbered(n);
-    }
-    if n <= 4 {
-        return Category::Few;
-    }
-    if n <= 6 {
-        return Category::Many;
-    }
-    if n <= 9 {
-        return Category::Zero;
-    }
-    Category::Other
-}
-
-fn cy_ordinal(o: Seen) -> Category
-    ensures { λ r. ⌜ ((x : Operands) → Shows x o → categoryNumber r ≡ cyOrdinal x) ⌝ }
-{
-    if o.no_fraction {
-        return cy_place(o.i);
-    }
-    Category::Other
-}
-
-fn cardinal(locale: u8, o: Seen) -> Category
-    ensures { λ r. ⌜ ((x : Operands) → Shows x o → categoryNumber r ≡ ruleOf Cardinal locale x) ⌝ }
-{
-    if locale == 0 {
-        return en_cardinal(o);
-    }
-    if locale == 1 {
-        return da_cardinal(o);
-    }
-    if locale == 2 {
-        return ru_cardinal(o);
-    }
-    if locale == 3 {
-        return cy_cardinal(o);
-    }
-    Category::Other
-}
-
-fn ordinal(locale: u8, o: Seen) -> Category
-    ensures { λ r. ⌜ ((x : Operands) → Shows x o → categoryNumber r ≡ ruleOf Ordinal locale x) ⌝ }
-{
-    if locale == 0 {
-        return en_ordinal(o);
-    }
-    if locale == 3 {
-        return cy_ordinal(o);
-    }
-    Category::Other
+    let rule = (locale as usize) * 2 + (kind_number(kind) as usize);
+    numbered((digit(rule, n) - b'0') as u64)
 }
 
 // The category of a number in a locale: 0 en, 1 da, 2 ru, 3 cy.
 pub fn category(locale: u8, n: Number) -> Category
     ensures { λ r. ⌜ categoryNumber r ≡ categoryOf locale (told n) ⌝ }
 {
-    let o = n.options;
-    let k = o.kind;
-    match k {
-        Kind::Cardinal => cardinal(locale, operands_of(n)),
-        Kind::Ordinal => ordinal(locale, operands_of(n)),
+    let options = n.options;
+    let kind = options.kind;
+    let o = operands_of(n);
+    if o.no_digits {
+        return by_table(locale, kind, o.i);
     }
+    conditions(locale, kind, o)
 }
 
 // Does a word name a category.

@@ -2,7 +2,7 @@
 use mathlib.Core.Path.{_≡_}
 use lib.Dec.{eqb}
 use Rattle.plural.specs.Plural.{Operands}
-use Rattle.plural.specs.declared.plural.Seen as code-seen
+use Rattle.plural.specs.declared.conditions.Seen as code-seen
 
 -- the code's operands: v and t only as far as they are 0
 pub record Shows (x : Operands) (o : code-seen.Seen) : Type 0 where

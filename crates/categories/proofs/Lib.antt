@@ -1,0 +1,2 @@
+-- Laws of the table as it is held.
+pub mod Entries

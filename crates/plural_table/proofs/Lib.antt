@@ -1,0 +1,2 @@
+-- Laws of the buffer that is filled.
+pub mod Filled
