@@ -18,6 +18,7 @@ pub mod model;
 pub mod nesting;
 pub mod order;
 pub mod plain;
+pub mod plurals;
 pub mod points;
 pub mod random;
 pub mod rust;
@@ -29,8 +30,8 @@ pub mod vectors;
 pub use expected::{expected, expected_sheet, Expected, ExpectedSheet};
 pub use generator::{
     checked, checked_sheet, fractions, fractions_sheet, generator, listed, listed_sheet, marked,
-    marked_sheet, sheet_generator, unmarked, unmarked_sheet, Listed, ListedSheet, Listing, Maker,
-    Place, LISTINGS, PLACES,
+    marked_sheet, plurals, plurals_sheet, sheet_generator, unmarked, unmarked_sheet, Listed,
+    ListedSheet, Listing, Maker, Place, LISTINGS, PLACES,
 };
 
 /// Runs something on a thread whose stack is large enough for 100 references

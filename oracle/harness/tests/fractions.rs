@@ -282,6 +282,7 @@ fn numbers_that_are_seen() {
         texts_losing_dot: of[1],
         selectors: of[2],
         selectors_losing_dot: of[3],
+        ..Seen::default()
     };
     for (source, wanted) in [
         ("a = x", [0, 0, 0, 0]),
@@ -313,7 +314,10 @@ fn numbers_that_are_seen() {
         });
         let none = encode::arguments(&[]);
         let prepared = operations::prepare(&store, b"a", None, &none);
-        let numbers = prepared.map(|resolution| resolution.numbers);
+        let numbers = prepared.map(|resolution| Seen {
+            choices: Default::default(),
+            ..resolution.numbers
+        });
         assert_eq!(numbers.ok(), Some(seen(wanted)), "{source}");
     }
 }

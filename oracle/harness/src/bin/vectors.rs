@@ -26,6 +26,10 @@ fn main() {
             vectors::numbers::make(seed, cases),
         );
         write(
+            "replay/data/categories.vec",
+            vectors::categories::make(seed, cases),
+        );
+        write(
             "replay_formats/data/sentences.vec",
             vectors::formats::sentences_file(),
         );

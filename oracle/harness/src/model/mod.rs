@@ -1,7 +1,7 @@
 //! A separate, small writing-down of document 01: numbers, the layouts, the
 //! additions and formatting; of document 02's sheets, of its isolation marks, of its
-//! order of arguments and of its numbers without a last dot. It shares nothing with
-//! the Rust but the tests.
+//! order of arguments, of its numbers without a last dot and of its plural table. It
+//! shares nothing with the Rust but the tests.
 
 pub mod arguments;
 pub mod effects;
@@ -10,6 +10,7 @@ pub mod lookup;
 pub mod marks;
 pub mod number;
 pub mod operations;
+pub mod plural_table;
 pub mod premises;
 pub mod reader;
 pub mod resolve;

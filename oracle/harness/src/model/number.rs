@@ -1,6 +1,8 @@
 //! Decimals, number text, NUMBER's options and plural categories, after
 //! document 01 and document 02's Card 3, and with whole numbers only.
 
+use super::plural_table::Choices;
+
 /// digits over 10^scale, with a sign; -0 is one.
 #[derive(Clone, Copy, Debug, PartialEq)]
 pub struct Decimal {
@@ -229,6 +231,8 @@ pub struct Seen {
     pub selectors: usize,
     /// Those whose text the original would end with a dot.
     pub selectors_losing_dot: usize,
+    /// Those whose category is asked.
+    pub choices: Choices,
 }
 
 impl Seen {
@@ -248,5 +252,6 @@ impl Seen {
         self.texts_losing_dot += other.texts_losing_dot;
         self.selectors += other.selectors;
         self.selectors_losing_dot += other.selectors_losing_dot;
+        self.choices.add(&other.choices);
     }
 }

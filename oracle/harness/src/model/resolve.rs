@@ -5,7 +5,7 @@ use super::errors::{self, FUNCTION, MESSAGE, TERM, VARIABLE};
 use super::lookup::{holder, part, Holder};
 use super::number::{Number, Seen};
 use super::reader::*;
-use super::value::{matches, Value};
+use super::value::{asks_category, found, Value};
 
 /// Resolution ends at a merge that refusal 17 will stop.
 struct Stop;
@@ -196,14 +196,16 @@ impl<'s> Resolver<'s> {
         let alive = self.alive;
         let value = self.value(selector)?;
         let text = self.read(&value);
+        let locale = self.store.locale;
+        let found = found(variants, &value, text, locale);
         if let Value::Number(number) = &value {
             self.numbers.chosen_by(number);
+            if let Some(taken) = asks_category(variants, found) {
+                self.numbers.choices.count(number, locale, taken);
+            }
         }
-        let locale = self.store.locale;
-        let chosen = variants
-            .iter()
-            .find(|variant| matches(&variant.key, &value, text, locale))
-            .or_else(|| variants.iter().find(|variant| variant.default));
+        let default = || variants.iter().find(|variant| variant.default);
+        let chosen = found.map(|at| &variants[at]).or_else(default);
         self.free(alive);
         match chosen {
             Some(variant) => self.pattern(&variant.pattern),

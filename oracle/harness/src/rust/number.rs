@@ -57,8 +57,11 @@ pub fn bundle(locale: u8) -> FluentBundle<FluentResource> {
 
 /// The Rust's `matches`, with a key that is text.
 pub fn matches(key: &str, number: &Number, locale: u8) -> bool {
-    let bundle = bundle(locale);
-    let scope = Scope::new(&bundle, None, None);
+    matches_in(&bundle(locale), key, number)
+}
+
+fn matches_in(bundle: &FluentBundle<FluentResource>, key: &str, number: &Number) -> bool {
+    let scope = Scope::new(bundle, None, None);
     FluentValue::from(key).matches(&of(number).into(), &scope)
 }
 
@@ -71,8 +74,13 @@ pub fn equals(a: &Number, b: &Number) -> bool {
 
 /// The one category that the Rust finds.
 pub fn category(number: &Number, locale: u8) -> u8 {
+    category_in(&bundle(locale), number)
+}
+
+/// The same in a bundle that is there already.
+pub fn category_in(bundle: &FluentBundle<FluentResource>, number: &Number) -> u8 {
     let found: Vec<usize> = (0..6)
-        .filter(|c| matches(CATEGORIES[*c], number, locale))
+        .filter(|c| matches_in(bundle, CATEGORIES[*c], number))
         .collect();
     assert_eq!(found.len(), 1, "one category for {number:?}");
     found[0] as u8

@@ -2,6 +2,7 @@
 
 pub mod additions;
 pub mod arguments;
+pub mod categories;
 pub mod figures;
 pub mod formats;
 pub mod fractions;

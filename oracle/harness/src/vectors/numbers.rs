@@ -12,10 +12,11 @@ use crate::random::Random;
 use comparisons::{equality_case, match_case};
 use function::{first, function_case, options, First, Given};
 use literals::{literal_case, literal_text, LITERALS};
-use texts::{category_case, samples, text_case};
+use texts::{samples, text_case};
 use values::{boundary_numbers, number, number_of, telling_numbers};
 
 pub use function::{count, word};
+pub(super) use texts::category_case;
 pub use values::decimal;
 
 pub fn make(seed: u64, cases: usize) -> File {

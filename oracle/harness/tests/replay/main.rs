@@ -11,6 +11,7 @@ use harness::model::arguments::accepted;
 use harness::model::effects::Lengths;
 use harness::model::number::{literal, Number};
 use harness::model::operations;
+use harness::model::plural_table;
 use harness::model::reader::{self, Given};
 use harness::model::sheet::{format_sheet, prepare};
 
@@ -44,12 +45,7 @@ fn numbers() {
             let number = Number::with_minimum(f.decimal(), f.minimum());
             assert_eq!(f.str(), number.text());
         }
-        3 => {
-            let (locale, ordinal) = (f.u8(), f.flag());
-            let mut number = Number::with_minimum(f.decimal(), f.minimum());
-            number.options.ordinal = ordinal;
-            assert_eq!(CATEGORIES[f.u8() as usize], number.category(locale));
-        }
+        3 => category(f),
         4 => function(f),
         5 => {
             let mut pair = || {
@@ -70,6 +66,25 @@ fn numbers() {
         _ => panic!("operation {operation}"),
     });
     assert!(count > 20_000);
+}
+
+/// By the conditions, and by the table.
+fn category(f: &mut Fields) {
+    let (locale, ordinal) = (f.u8(), f.flag());
+    let mut number = Number::with_minimum(f.decimal(), f.minimum());
+    number.options.ordinal = ordinal;
+    let stated = f.u8();
+    assert_eq!(CATEGORIES[stated as usize], number.category(locale));
+    assert_eq!(stated, plural_table::category(&number, locale));
+}
+
+#[test]
+fn categories() {
+    let count = replay("replay/data/categories.vec", |operation, f| {
+        assert_eq!(operation, 3);
+        category(f);
+    });
+    assert!(count > 9_000);
 }
 
 fn function(f: &mut Fields) {

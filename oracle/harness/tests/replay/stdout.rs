@@ -115,6 +115,7 @@ fn numbers_images_and_additions() {
             }
         }
     }
+    let by_table = cases("replay/data/categories.vec").len();
     let line = |operation: u8, what: &str| format!("{} {what}, 0 differ", counts[&operation]);
     let lines = [
         line(1, "literals"),
@@ -123,6 +124,7 @@ fn numbers_images_and_additions() {
         line(4, "calls of NUMBER"),
         line(5, "equalities"),
         line(6, "category words"),
+        format!("{by_table} categories by the table, 0 differ"),
         line(20, "stores"),
         line(21, "resource images"),
         line(22, "arguments images"),

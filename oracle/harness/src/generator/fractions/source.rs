@@ -1,6 +1,6 @@
 //! The sources: messages and terms full of numbers.
 
-use crate::model::number::{Decimal, Number};
+use super::super::made::as_literal;
 use crate::random::Random;
 use crate::vectors::numbers::decimal;
 
@@ -294,10 +294,4 @@ impl<'r> Source<'r> {
         };
         Some(format!("minimumFractionDigits: {count}"))
     }
-}
-
-/// A decimal as a number literal, with all its fraction digits.
-fn as_literal(d: Decimal) -> String {
-    let text = Number::with_minimum(d, Some(d.scale.into())).text();
-    String::from_utf8(text).expect("it is text")
 }

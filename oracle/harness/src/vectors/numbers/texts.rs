@@ -17,7 +17,7 @@ pub(super) fn text_case(file: &mut File, number: &Number) {
     file.case(2, case);
 }
 
-pub(super) fn category_case(file: &mut File, locale: u8, number: &Number) {
+pub(in crate::vectors) fn category_case(file: &mut File, locale: u8, number: &Number) {
     let category = rust::category(number, locale);
     let by_model = number.category(locale);
     assert_eq!(rust::CATEGORIES[usize::from(category)], by_model);
