@@ -10,13 +10,17 @@ pub mod figures;
 pub mod formats;
 pub mod fractions;
 pub mod many;
+mod near;
 pub mod nesting;
 pub mod numbers;
 pub mod order;
+pub mod plurals;
 pub mod sheet;
 pub mod sheets;
 mod wanted;
 pub mod workspace;
+
+pub use near::Tally;
 
 use harness::random::Random;
 use std::fmt::Debug;
@@ -28,7 +32,8 @@ pub const HIGHEST_REFUSAL: usize = 19;
 #[derive(Clone, Copy, Debug, Default)]
 pub struct Counts {
     /// Generated cases, sheets, or formattings and sheets by their figures, by their
-    /// marks, by the order of their arguments or by their fraction digits.
+    /// marks, by the order of their arguments, by their fraction digits or by their
+    /// choices.
     pub cases: u64,
     /// Calls of the operations that were compared, bytes and all.
     pub calls: u64,
@@ -45,6 +50,8 @@ pub struct Counts {
     pub order: order::Order,
     /// Texts by the dots of their numbers.
     pub fractions: fractions::Fractions,
+    /// Texts by their choices by numbers.
+    pub plurals: plurals::Plurals,
 }
 
 impl Counts {
@@ -61,6 +68,7 @@ impl Counts {
         self.nesting.add(&other.nesting);
         self.order.add(&other.order);
         self.fractions.add(&other.fractions);
+        self.plurals.add(&other.plurals);
         for (sum, n) in self.answers.iter_mut().zip(other.answers) {
             *sum += n;
         }

@@ -2,7 +2,7 @@
 #![forbid(unsafe_code)]
 
 use against::fractions::{self, Fractions};
-use against::Counts;
+use against::{Counts, Tally};
 use harness::large_stack;
 use harness::model::number::Seen;
 
@@ -54,6 +54,7 @@ fn counted() {
         texts_losing_dot: 2,
         selectors: 3,
         selectors_losing_dot: 1,
+        ..Seen::default()
     };
     let none = Seen {
         texts_losing_dot: 0,

@@ -2,19 +2,23 @@
 //! generated sheets, then on formattings and sheets by their workspace figures,
 //! then on formattings and sheets by their isolation marks, then on formattings and
 //! sheets by the order of their arguments, then on formattings and sheets by their
-//! fraction digits:
-//! `differential [COUNT [FIRST_SEED [THREADS [SHEETS [FIGURES [NESTING [ORDER [FRACTIONS]]]]]]]]`,
+//! fraction digits, then on formattings and sheets by their choices:
+//! `differential [COUNT [FIRST_SEED [THREADS [SHEETS [FIGURES [NESTING [ORDER [FRACTIONS [PLURALS]]]]]]]]]`,
 //! 1,000,000 cases from seed 1 on all processors unless said otherwise, a tenth as
 //! many sheets, the figures of a tenth as many formattings and half as many sheets
 //! as those, and the marks of as many; as many seeds as those sheets with marks in
 //! the input; then the order of arguments in a tenth as many formattings and half
-//! as many sheets; last, the fraction digits of as many. It shows how far it is, and
-//! ends with 1 if anything differs, a text is unpaired, marks in the input make none
-//! unpaired, or of 20 or more generated formattings or sheets by their fraction digits
-//! none has a number whose dot is left out.
+//! as many sheets; then the fraction digits of as many; last, the choices by numbers of
+//! as many. It shows how far it is, and ends with 1 if anything differs, a text is
+//! unpaired, marks in the input make none unpaired, of 20 or more generated formattings
+//! or sheets by their fraction digits none has a number whose dot is left out, or in
+//! 200 or more by their choices no category comes from the table below 100, from that
+//! of 100 and more, or from the conditions, or one of the six does not come at all.
 #![forbid(unsafe_code)]
 
-use against::{compare, compare_sheet, figures, fractions, nesting, order, sheets, Counts};
+use against::{
+    compare, compare_sheet, figures, fractions, nesting, order, plurals, sheets, Counts,
+};
 use std::sync::atomic::{AtomicU64, Ordering};
 use std::sync::Mutex;
 use std::time::{Duration, Instant};
@@ -31,7 +35,7 @@ fn main() {
         .skip(1)
         .map(|word| word.parse().unwrap_or_else(|_| usage()))
         .collect();
-    if words.len() > 8 {
+    if words.len() > 9 {
         usage();
     }
     let word = |at: usize, usual: u64| words.get(at).copied().unwrap_or(usual);
@@ -68,6 +72,11 @@ fn main() {
     let formattings_by_digits = cases.of(what, fractions::compare_formatting, digits);
     let what = "sheets by their fraction digits";
     let sheets_by_digits = cases.of(what, fractions::compare_sheet, digits.div_ceil(2));
+    let choices = word(8, tenth);
+    let what = "formattings by their choices";
+    let formattings_by_choices = cases.of(what, plurals::compare_formatting, choices);
+    let what = "sheets by their choices";
+    let sheets_by_choices = cases.of(what, plurals::compare_sheet, choices.div_ceil(2));
     let same = cases.run(Counts::default(), 0)
         & (sheets.count == 0 || sheets.with_fixed(sheets::fixed::all))
         & (figures == 0 || of_formattings.with_fixed(figures::by_hand))
@@ -78,7 +87,9 @@ fn main() {
         & (ordered == 0 || formattings_by_order.with_fixed(order::by_hand))
         & (ordered == 0 || sheets_by_order.run(Counts::default(), 0))
         & (digits == 0 || formattings_by_digits.with_fixed(fractions::by_hand))
-        & (digits == 0 || sheets_by_digits.with_fixed(fractions::sheets_by_hand));
+        & (digits == 0 || sheets_by_digits.with_fixed(fractions::sheets_by_hand))
+        & (choices == 0 || formattings_by_choices.with_fixed(plurals::by_hand))
+        & (choices == 0 || sheets_by_choices.run(Counts::default(), 0));
     std::process::exit(i32::from(!same));
 }
 
@@ -149,7 +160,8 @@ impl Run {
         total.add(&generated);
         let differ = differ.into_inner().expect("no thread failed");
         self.say(&total, start);
-        print!("{}{}{}", total.nesting, total.order, total.fractions);
+        print!("{}{}", total.nesting, total.order);
+        print!("{}{}", total.fractions, total.plurals);
         println!("{differ} differ");
         let noticed = total.nesting.noticed();
         if !noticed {
@@ -160,7 +172,11 @@ impl Run {
         if !told {
             println!("no generated number has a dot left out");
         }
-        differ == 0 && total.cases == self.count && noticed && told
+        let chosen = generated.plurals.told();
+        if !chosen {
+            println!("a way to a category, or a category, is missing in the generated ones");
+        }
+        differ == 0 && total.cases == self.count && noticed && told && chosen
     }
 
     /// Compares the next seeds, if there are any.
@@ -230,7 +246,7 @@ impl Run {
 
 fn usage() -> ! {
     eprintln!(
-        "usage: differential [COUNT [FIRST_SEED [THREADS [SHEETS [FIGURES [NESTING [ORDER [FRACTIONS]]]]]]]]"
+        "usage: differential [COUNT [FIRST_SEED [THREADS [SHEETS [FIGURES [NESTING [ORDER [FRACTIONS [PLURALS]]]]]]]]]"
     );
     std::process::exit(2)
 }

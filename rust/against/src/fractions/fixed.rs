@@ -1,6 +1,7 @@
 //! Numbers that are not left to chance: the formattings and sheets that were worked
 //! out by hand, with ample and with lent lengths, and with changed bytes.
 
+use super::Fractions;
 use crate::asked::Asked;
 use crate::call::Call;
 use crate::wanted::Wanted;
@@ -14,8 +15,8 @@ pub fn by_hand(counts: &mut Counts) -> Result<(), String> {
     let mut random = Random::new(0x3D);
     for point in formattings() {
         let wanted = Wanted::message(&point.case)?;
-        said(&wanted, Ok((&point.text, point.figure)))?;
-        wanted.all(&mut random, counts)?;
+        wanted.is_by_hand(Ok((&point.text, point.figure)))?;
+        wanted.all::<Fractions>(&mut random, counts)?;
     }
     for point in lent() {
         let call = Wanted::message(&point.case)?.call;
@@ -48,23 +49,14 @@ pub fn sheets_by_hand(counts: &mut Counts) -> Result<(), String> {
     for point in sheets() {
         let wanted = Wanted::sheet(&point.sheet)?;
         let answer = point.said.as_ref().map_err(|refusal| *refusal);
-        said(&wanted, answer.map(|(text, figure)| (&text[..], *figure)))?;
-        wanted.all(&mut random, counts)?;
+        wanted.is_by_hand(answer.map(|(text, figure)| (&text[..], *figure)))?;
+        wanted.all::<Fractions>(&mut random, counts)?;
     }
     for point in lent_sheets() {
         let call = Wanted::sheet(&point.sheet)?.call;
         answered(&call, point.lengths, point.answer, &mut random, counts)?;
     }
     Ok(())
-}
-
-/// The text and the figure that were worked out, or the refusal.
-fn said(wanted: &Wanted, by_hand: Result<(&str, usize), u8>) -> Result<(), String> {
-    let text = wanted.said.as_ref().map(|(text, _)| &text[..]);
-    let by_hand_text = by_hand.map(|(text, _)| text.as_bytes());
-    same("a text by hand", text.map_err(|r| *r), by_hand_text)?;
-    let figure = wanted.call.model.need().map(|(_, need)| need.workspace);
-    same("a figure by hand", figure, by_hand.ok().map(|(_, f)| f))
 }
 
 /// The answer of a call with lent lengths.

@@ -1,5 +1,7 @@
 //! What was counted of numbers and their dots.
 
+use crate::near::Tally;
+use crate::Counts;
 use harness::model::number::Seen;
 use std::fmt;
 
@@ -29,9 +31,16 @@ pub struct Fractions {
 /// From so many cases on, one text at least has to lose a dot.
 const SENSIBLE: u64 = 20;
 
-impl Fractions {
-    /// A text that finished, with what was seen of its numbers.
-    pub fn finished(&mut self, seen: Seen, original: bool) {
+impl Tally for Fractions {
+    fn of(counts: &mut Counts) -> &mut Self {
+        &mut counts.fractions
+    }
+
+    fn case(&mut self) {
+        self.cases += 1;
+    }
+
+    fn finished(&mut self, seen: Seen, original: bool) {
         let losing = seen.texts_losing_dot > 0;
         self.texts += 1;
         self.texts_losing_dot += u64::from(losing);
@@ -42,12 +51,13 @@ impl Fractions {
         self.selectors_losing_dot += seen.selectors_losing_dot as u64;
     }
 
-    /// One from damaged bytes.
-    pub fn damaged(&mut self, seen: Seen) {
+    fn damaged(&mut self, seen: Seen) {
         self.from_damaged += 1;
         self.from_damaged_losing_dot += u64::from(seen.texts_losing_dot > 0);
     }
+}
 
+impl Fractions {
     /// What was counted elsewhere, too.
     pub fn add(&mut self, other: &Self) {
         self.cases += other.cases;
