@@ -5,6 +5,7 @@
 pub mod additions;
 mod asked;
 mod call;
+pub mod choices;
 pub mod convert;
 pub mod figures;
 pub mod formats;

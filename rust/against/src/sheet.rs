@@ -8,7 +8,7 @@ use harness::case::{Bundle, Item, Value};
 use harness::model::number::Decimal;
 use harness::sheets;
 use std::path::Path;
-use weszlagyo::FluentBundle;
+use weszlagyo::{FluentBundle, Locale};
 
 pub(crate) fn id(name: impl Into<String>) -> Identifier<String> {
     Identifier { name: name.into() }
@@ -146,8 +146,7 @@ pub struct Printed {
 impl Printed {
     /// The bundle, as the crate makes it.
     pub fn made(&self) -> FluentBundle {
-        let locale = weszlagyo::Locale::En;
-        assert_eq!(self.bundle.locale, locale.number());
+        let locale = Locale::from_number(self.bundle.locale).expect("one of the four");
         let mut made = FluentBundle::new(vec![locale]);
         made.set_use_isolating(self.bundle.isolating);
         for item in &self.bundle.items {

@@ -1,12 +1,12 @@
 //! Formats one message of the benchmarks' store of 60 entries so many times, or
 //! a sheet of 30, or the message with three texts in the workspace, or a call with
-//! many variables, or a message of twenty numbers, and does nothing else, so that
-//! `tools/instructions` can count what one formatting costs; or calls for a sheet with
-//! a list of 4 bytes, which is refused once store and sheet are checked.
+//! many variables, or a message of twenty numbers or of twenty choices, and does nothing
+//! else, so that `tools/instructions` can count what one formatting costs; or calls for
+//! a sheet with a list of 4 bytes, which is refused once store and sheet are checked.
 #![forbid(unsafe_code)]
 
 use against::sheet::{self, Printed};
-use against::{convert, many, numbers, workspace};
+use against::{choices, convert, many, numbers, workspace};
 use harness::case::Value;
 use weszlagyo::{operations, FluentBundle, Refusal, Sheet};
 
@@ -17,7 +17,7 @@ fn main() {
         words.next(),
     ) else {
         eprintln!(
-            "usage: instructions TIMES (ID | (--sheet | --sightings) [--checks] | --workspace [--long] | --many 0..2 | --numbers 0..2)"
+            "usage: instructions TIMES (ID | (--sheet | --sightings) [--checks] | --workspace [--long] | --many 0..2 | --numbers 0..2 | --choices 0..9 [--names])"
         );
         std::process::exit(2);
     };
@@ -40,6 +40,7 @@ fn main() {
         }
         "--many" => format_many(times, how.as_deref()),
         "--numbers" => format_numbers(times, how.as_deref()),
+        "--choices" => format_choices(times, how.as_deref(), words.next().is_some()),
         id => format(times, &sheet::parts().made(), id, &sheet::arguments(), 256),
     }
 }
@@ -66,7 +67,7 @@ fn format(times: usize, bundle: &FluentBundle, id: &str, given: &[(String, Value
 /// The word's number.
 fn place(word: Option<&str>) -> usize {
     let number = word.and_then(|word| word.parse().ok());
-    number.expect("a number from 0 to 2")
+    number.expect("a number from 0 on")
 }
 
 /// Formats a message of twenty numbers, and prints how many and their minimum of
@@ -75,6 +76,19 @@ fn format_numbers(times: usize, at: Option<&str>) {
     let minimum = numbers::MINIMUMS[place(at)];
     println!("{} {}", numbers::COUNT, minimum.unwrap_or("-"));
     let printed = numbers::printed(minimum);
+    let (id, given) = &printed.messages[0];
+    format(times, &printed.made(), id, given, 0);
+}
+
+/// Formats a message of twenty choices, by numbers or by the names of their categories,
+/// and prints which it is.
+fn format_choices(times: usize, at: Option<&str>, names: bool) {
+    let choices = choices::ALL[place(at)];
+    println!("{} {choices}", choices::COUNT);
+    let printed = match names {
+        false => choices.printed(),
+        true => choices.by_name(),
+    };
     let (id, given) = &printed.messages[0];
     format(times, &printed.made(), id, given, 0);
 }

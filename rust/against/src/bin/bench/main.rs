@@ -2,6 +2,7 @@
 //! prints a table. docs/BENCHMARKS.md says what is inside each call.
 #![forbid(unsafe_code)]
 
+mod choices;
 mod large;
 mod many;
 mod numbers;
@@ -39,6 +40,7 @@ fn main() {
 
     work::table();
     numbers::table();
+    choices::table();
     many::table();
     large::table();
 }
