@@ -119,15 +119,21 @@ fn show(counts: Counts, rows: &[u8], count: u8) {
     }
 }
 
+// The categories of a file of their own, counted at the place 34.
+fn by_table(counts: Counts) -> Counts {
+    let own = replayed(no_counts(), b"categories.vec");
+    counted(counted(counts, 34, count_at(own, 3)), 98, count_at(own, 67))
+}
+
 fn main() {
-    let a = replayed(no_counts(), b"numbers.vec");
+    let a = by_table(replayed(no_counts(), b"numbers.vec"));
     let b = replayed(a, b"images.vec");
     let f = replayed(replayed(b, b"additions.vec"), b"figure_additions.vec");
     let c = counted(f, 33, limit::limit());
     show(
         c,
-        b"\x01\x00\x0B literals, \x02\x00\x0F number texts, \x03\x00\x0D categories, \x04\x00\x12 calls of NUMBER, \x05\x00\x0D equalities, \x06\x00\x11 category words, \x14\x00\x09 stores, \x15\x00\x12 resource images, \x16\x00\x13 arguments images, \x17\x00\x12 string literals, \x18\x00\x17 arguments looked for, \x19\x00\x11 damaged images, \x33\x00\x0F sheet images, \x34\x00\x17 damaged sheet images, \x1E\x00\x0E new bundles, \x1F\x00\x15 resource additions, \x20\x00\x15 function additions, \x00\x00\x0A unknown, ",
-        18,
+        b"\x01\x00\x0B literals, \x02\x00\x0F number texts, \x03\x00\x0D categories, \x04\x00\x12 calls of NUMBER, \x05\x00\x0D equalities, \x06\x00\x11 category words, \x22\x00\x1A categories by the table, \x14\x00\x09 stores, \x15\x00\x12 resource images, \x16\x00\x13 arguments images, \x17\x00\x12 string literals, \x18\x00\x17 arguments looked for, \x19\x00\x11 damaged images, \x33\x00\x0F sheet images, \x34\x00\x17 damaged sheet images, \x1E\x00\x0E new bundles, \x1F\x00\x15 resource additions, \x20\x00\x15 function additions, \x00\x00\x0A unknown, ",
+        19,
     );
     line(c, 33, b" differ at the limit of a store\n");
 }
