@@ -23,12 +23,15 @@ use Rattle.plural.specs.Plural.{category, categoryNumber, keyword}
 use Rattle.plural.proofs.Categories.{category-shown}
 use Rattle.plural.specs.declared.types.Category.{Category}
 use Rattle.records.specs.Bytes.{part}
+use Rattle.records.specs.declared.Next.{Next}
 use Rattle.records.specs.Tree.{Key}
 use Rattle.resolution.specs.Resolve.{matches}
 use Rattle.records.specs.Optional.{orElse, optionOf}
 use Rattle.variants.specs.Outline.{Outline, variantsAt}
 use Rattle.variants.specs.Choice.{firstOf, keyMatches, isDefault, chosenAt}
-use Rattle.variants.specs.Relations.Sought.{patternPlace, outlineIn, equals, kindsOf, matchesBy, tried, answers}
+use Rattle.variants.specs.Relations.Sought.{patternPlace, outlineIn, equals, kindsOf, matchesBy, tried, answers, Sees, sees-text, sees-number, Chooses}
+use Rattle.variants.specs.declared.Asked.{Asked}
+use Rattle.variants.specs.declared.Asked.the-variants as asked
 use Rattle.variants.specs.declared.Span.{Span}
 use Rattle.variants.specs.declared.Sought.{Sought}
 use Rattle.variants.specs.declared.Sought.the-variants as sought
@@ -156,15 +159,27 @@ first-same by test e [] = refl
 first-same by test e (o ∷ os) = rw (e o, first-same by test e os)
 
 -- so what is chosen is the definition's choice
-pub text-chosen : (locale : ℕ) (t s : List ℕ) (at : ℕ) → patternPlace (orElse (firstOf (answers t sought.Text) (variantsAt s at)) (firstOf isDefault (variantsAt s at))) ≡ patternPlace (chosenAt locale (textual t) s at)
+text-chosen : (locale : ℕ) (t s : List ℕ) (at : ℕ) → patternPlace (orElse (firstOf (answers t sought.Text) (variantsAt s at)) (firstOf isDefault (variantsAt s at))) ≡ patternPlace (chosenAt locale (textual t) s at)
 unfolding chosenAt
 text-chosen locale t s at = ap (λ (o : Option Outline). patternPlace (orElse o (firstOf isDefault (variantsAt s at)))) (first-same (answers t sought.Text) (keyMatches locale (textual t)) (answers-text locale t) (variantsAt s at))
 
-pub number-chosen : (locale : ℕ) (t s : List ℕ) (at : ℕ) (n : code-number.Number) (c : Category) → categoryNumber c ≡ category locale (told n)
+number-chosen : (locale : ℕ) (t s : List ℕ) (at : ℕ) (n : code-number.Number) (c : Category) → categoryNumber c ≡ category locale (told n)
     → patternPlace (orElse (firstOf (answers t (sought.Number n c)) (variantsAt s at)) (firstOf isDefault (variantsAt s at))) ≡ patternPlace (chosenAt locale (numeric (told n)) s at)
 unfolding chosenAt
 number-chosen locale t s at n c ec =
     ap (λ (o : Option Outline). patternPlace (orElse o (firstOf isDefault (variantsAt s at)))) (first-same (answers t (sought.Number n c)) (keyMatches locale (numeric (told n))) (λ o. answers-number locale t n c o ec) (variantsAt s at))
+
+-- what a value is compared by
+pub sees-no-number : {a : Asked} → a ≡ asked.Text → Sees a sought.Text
+sees-no-number e = subst (λ (a : Asked). Sees a sought.Text) (sym e) sees-text
+
+pub sees-category : {a : Asked} {n : code-number.Number} {locale : ℕ} {c : Category} → a ≡ asked.Number n locale → categoryNumber c ≡ category locale (told n) → Sees a (sought.Number n c)
+sees-category {n = n} {c = c} e ec = subst (λ (a : Asked). Sees a (sought.Number n c)) (sym e) (sees-number _ _ c ec)
+
+pub asked-chosen : (a : Asked) (t s : List ℕ) (at : ℕ) {x : Sought} {r : Next} → Sees a x → r ≡ patternPlace (orElse (firstOf (answers t x) (variantsAt s at)) (firstOf isDefault (variantsAt s at))) → Chooses a t s at r
+unfolding Chooses
+asked-chosen asked.Text t s at sees-text e = λ locale. e ∙ text-chosen locale t s at
+asked-chosen (asked.Number n locale) t s at (sees-number _ _ c ec) e = e ∙ number-chosen locale t s at n c ec
 
 -- a value that matches no key chooses the first default
 module _ (locale : ℕ) (v : Value) (never-matches : (k : Key) → matches locale k v ≡ false) where

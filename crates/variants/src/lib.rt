@@ -10,7 +10,7 @@ ghost use Rattle.records.specs.Bytes.{part};
 ghost use Rattle.variants.specs.Outline.{variantsAt};
 ghost use Rattle.records.specs.Optional.{orElse};
 ghost use Rattle.variants.specs.Choice.{firstOf, isDefault, chosenAt};
-ghost use Rattle.variants.specs.Relations.Sought.{placeOf, patternPlace, Reads, equals, kindsOf, matchesBy, answers, patternAtPlace};
+ghost use Rattle.variants.specs.Relations.Sought.{placeOf, patternPlace, Reads, equals, kindsOf, matchesBy, answers, patternAtPlace, Sees, Chooses};
 use decimals::bytes::same_bytes;
 use decimals::types::Number;
 use literals::literal::Literal;
@@ -30,6 +30,12 @@ use walks::skip_pattern;
 enum Sought {
     Text,
     Number(Number, Category),
+}
+
+// A value before its category is known: a text, or a number and the locale.
+enum Asked {
+    Text,
+    Number(Number, u8),
 }
 
 // A variant by its positions: the key's kind, where the key begins and ends, the default Flag, where the pattern begins and ends.
@@ -195,8 +201,8 @@ pub fn choose_default(s: &[u8], at: usize) -> Next
     pattern_of(s, p)
 }
 
-// The pattern of the variant that a value chooses.
-fn choose(s: &[u8], at: usize, text: &[u8], x: Sought) -> Next
+// The pattern of the variant that a value chooses, by what keys are compared to.
+fn choose_by(s: &[u8], at: usize, text: &[u8], x: Sought) -> Next
     ensures { λ r. ⌜ r ≡ patternPlace (orElse (firstOf (answers (now (text .entry)) x) (variantsAt (now (s .entry)) at)) (firstOf isDefault (variantsAt (now (s .entry)) at))) ⌝ }
 {
     let Next::At(p) = search(s, at, text, x) else {
@@ -205,17 +211,34 @@ fn choose(s: &[u8], at: usize, text: &[u8], x: Sought) -> Next
     pattern_of(s, p)
 }
 
+// What keys are compared to: a number with its category.
+fn compared(a: Asked) -> Sought
+    ensures { λ r. ⌜ Sees a r ⌝ }
+{
+    match a {
+        Asked::Text => Sought::Text,
+        Asked::Number(n, locale) => Sought::Number(n, category(locale, n)),
+    }
+}
+
+// The pattern of the variant that a value chooses. The category is worked out here, and not where a pattern is written: the line of the table that is read
+// for it lies on the stack, and that would be in the frame of each pattern.
+fn choose(s: &[u8], at: usize, text: &[u8], a: Asked) -> Next
+    ensures { λ r. ⌜ Chooses a (now (text .entry)) (now (s .entry)) at r ⌝ }
+{
+    choose_by(s, at, text, compared(a))
+}
+
 // The pattern of the variant that a text chooses; in every locale the same.
 pub fn choose_text(s: &[u8], at: usize, text: &[u8]) -> Next
     ensures { λ r. ⌜ ((locale : ℕ) → r ≡ patternPlace (chosenAt locale (textual (now (text .entry))) (now (s .entry)) at)) ⌝ }
 {
-    choose(s, at, text, Sought::Text)
+    choose(s, at, text, Asked::Text)
 }
 
 // The pattern of the variant that a number chooses.
 pub fn choose_number(s: &[u8], at: usize, locale: u8, n: Number) -> Next
     ensures { λ r. ⌜ r ≡ patternPlace (chosenAt locale (numeric (told n)) (now (s .entry)) at) ⌝ }
 {
-    let c = category(locale, n);
-    choose(s, at, b"", Sought::Number(n, c))
+    choose(s, at, b"", Asked::Number(n, locale))
 }

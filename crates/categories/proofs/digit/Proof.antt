@@ -1,5 +1,4 @@
 -- `categories::digit` meets its contract: the entry at the number's place.
--- Made from Proof.answers, which stands beside it: change that, and run `proofs make`.
 use Prim.Native.Nat.{ℕ}
 use Rattle.categories.proofs.Entries.{place-high, place-low}
 use Rattle.categories.specs.Held.{held, heldDigit}

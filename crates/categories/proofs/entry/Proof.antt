@@ -1,5 +1,4 @@
 -- `categories::entry` meets its contract: the constant's line of a number is the one that the definition has there.
--- Made from Proof.answers, which stands beside it: change that, and run `proofs make`.
 use Rattle.categories.proofs.Entries.{entry-of, no-line, past-lines}
 use Rattle.categories.specs.Held.{held}
 use borrow.Author.Needs.{needs}

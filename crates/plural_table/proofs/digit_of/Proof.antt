@@ -1,5 +1,4 @@
 -- `plural_table::digit_of` meets its contract: the digit of the category that the conditions give.
--- Made from Proof.answers, which stands beside it: change that, and run `proofs make`.
 use Prim.Native.Nat.{_%_, _/_}
 use Rattle.decimals.specs.declared.types.Kind.{Kind}
 use Rattle.plural.proofs.Categories.{rule-bound}

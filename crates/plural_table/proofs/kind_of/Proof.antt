@@ -1,5 +1,4 @@
 -- `plural_table::kind_of` meets its contract, by its test.
--- Made from Proof.answers, which stands beside it: change that, and run `proofs make`.
 use Prim.Native.Nat.{_%_}
 use Rattle.plural.specs.Table.{kindOf}
 use mathlib.Core.Path.{_≡_, ap, sym}

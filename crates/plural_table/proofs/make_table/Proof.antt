@@ -1,5 +1,4 @@
 -- `plural_table::make_table` meets its contract: as far as it has come, each byte is that of the printed table.
--- Made from Proof.answers, which stands beside it: change that, and run `proofs make`.
 use Prim.Native.Nat.{_-_, _<_, ℕ}
 use Rattle.plural.proofs.Table.{table-right}
 use Rattle.plural.specs.Table.{printed}

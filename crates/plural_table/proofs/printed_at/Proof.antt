@@ -1,5 +1,4 @@
 -- `plural_table::printed_at` meets its contract: the place is that of a line and a number, or of a line's end.
--- Made from Proof.answers, which stands beside it: change that, and run `proofs make`.
 use Prim.Native.Nat.{_%_, _*_, _+_, _/_, _<_, ℕ}
 use Rattle.plural.proofs.Printed.{printed-digit, printed-end}
 use Rattle.plural.specs.Table.{printed}

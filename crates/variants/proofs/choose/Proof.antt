@@ -1,30 +1,17 @@
--- `variants::choose` meets its contract: by a key, or the first default.
-use Rattle.variants.proofs.Firsts.{by-default, by-key, pattern-none, pattern-there}
+-- `variants::choose` meets its contract: what keys are compared to is the value.
+use Rattle.variants.proofs.Keys.{asked-chosen}
 use borrow.Author.Needs.{needs}
-use mathlib.Core.Path.{_∙_}
 use Rattle.variants.proofs.choose.Statement.{statement}
 use Rattle.variants.proofs.choose.Tie as tie
 
-search-requires : tie.Need-search-requires
-search-requires c κs = search needs
+compared-requires : tie.Need-compared-requires
+compared-requires c κs = search needs
 
-enum-known-p : tie.Need-enum-known-p
-enum-known-p c = search needs
-
-enum-told : tie.Need-enum-told
-enum-told c = search needs
-
-choose-default-requires : tie.Need-choose-default-requires
-choose-default-requires c κs = search needs
+choose-by-requires : tie.Need-choose-by-requires
+choose-by-requires c κs = search needs
 
 returns : tie.Need-returns
-returns c = c .choose-default .ensures ∙ by-default _ _ _ _ (pattern-none _ _ _ (c .before .before .before .search .ensures) (c .before .enum-told .given .1))
-
-pattern-of-requires : tie.Need-pattern-of-requires
-pattern-of-requires c κs = search needs
-
-returns-2 : tie.Need-returns-2
-returns-2 c = c .pattern-of .ensures ∙ pattern-there _ _ _ (c .before .before .before .before .search .ensures) (c .before .before .p .given .1) ∙ by-key _ _ _ _ (c .before .before .before .before .search .ensures) (c .before .before .p .given .1)
+returns c = asked-chosen (c .before .before .before .before .args .a) _ _ _ (c .before .compared .ensures) (c .choose-by .ensures)
 
 pub choose-spec : {M : Type 1} → statement M
-choose-spec = tie.close (tie.spec search-requires enum-known-p enum-told choose-default-requires returns pattern-of-requires returns-2)
+choose-spec = tie.close (tie.spec compared-requires choose-by-requires returns)

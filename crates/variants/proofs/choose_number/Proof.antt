@@ -1,12 +1,8 @@
 -- `variants::choose_number` meets its contract: an Id key matches by the category, a literal by the value.
-use Rattle.variants.proofs.Keys.{number-chosen}
+use Rattle.variants.specs.Relations.Sought.{Chooses}
 use borrow.Author.Needs.{needs}
-use mathlib.Core.Path.{_∙_}
 use Rattle.variants.proofs.choose_number.Statement.{statement}
 use Rattle.variants.proofs.choose_number.Tie as tie
-
-category-requires : tie.Need-category-requires
-category-requires c κs = search needs
 
 slice-aggregate-choose : tie.Need-slice-aggregate-choose
 slice-aggregate-choose c = search needs
@@ -15,7 +11,8 @@ choose-requires : tie.Need-choose-requires
 choose-requires c κs = search needs
 
 returns : tie.Need-returns
-returns c = c .choose .ensures ∙ number-chosen _ _ _ _ _ _ (c .before .before .category .ensures)
+unfolding Chooses
+returns c = c .choose .ensures
 
 pub choose-number-spec : {M : Type 1} → statement M
-choose-number-spec = tie.close (tie.spec category-requires slice-aggregate-choose choose-requires returns)
+choose-number-spec = tie.close (tie.spec slice-aggregate-choose choose-requires returns)

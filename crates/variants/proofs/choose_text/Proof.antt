@@ -1,7 +1,6 @@
 -- `variants::choose_text` meets its contract: an Id key matches a text of the same bytes, a literal none.
-use Rattle.variants.proofs.Keys.{text-chosen}
+use Rattle.variants.specs.Relations.Sought.{Chooses}
 use borrow.Author.Needs.{needs}
-use mathlib.Core.Path.{_∙_}
 use Rattle.variants.proofs.choose_text.Statement.{statement}
 use Rattle.variants.proofs.choose_text.Tie as tie
 
@@ -9,7 +8,8 @@ choose-requires : tie.Need-choose-requires
 choose-requires c κs = search needs
 
 returns : tie.Need-returns
-returns c = λ locale. c .choose .ensures ∙ text-chosen locale _ _ _
+unfolding Chooses
+returns c = c .choose .ensures
 
 pub choose-text-spec : {M : Type 1} → statement M
 choose-text-spec = tie.close (tie.spec choose-requires returns)

@@ -10,13 +10,18 @@ use Rattle.decimals.specs.Relations.Shown.{told}
 use Rattle.decimals.specs.declared.types.Number as code-number
 use Rattle.literals.specs.Literal.{literal, isNumber}
 use Rattle.numbers.specs.Number.{sameNumber}
-use Rattle.plural.specs.Plural.{categoryNumber, keyword}
+use Rattle.numbers.specs.Value.{textual, numeric}
+use Rattle.plural.specs.Plural.{category, categoryNumber, keyword}
+use Rattle.plural.specs.declared.types.Category.{Category}
 use Rattle.decimals.specs.Bytes.{sameBytes}
 use Rattle.records.specs.Got.{Got, got, bad}
 use Rattle.records.specs.Bytes.{part}
 use Rattle.records.specs.declared.Next.{Next}
 use Rattle.records.specs.declared.Next.the-variants as next
 use Rattle.variants.specs.Outline.{Outline, outline, outlineAt}
+use Rattle.variants.specs.Choice.{chosenAt}
+use Rattle.variants.specs.declared.Asked.{Asked}
+use Rattle.variants.specs.declared.Asked.the-variants as asked
 use Rattle.variants.specs.declared.Sought.{Sought}
 use Rattle.variants.specs.declared.Sought.the-variants as sought
 use Rattle.variants.specs.declared.Span.{Span}
@@ -70,3 +75,13 @@ tried kind t x o = eqb (o .kind) kind && matchesBy kind (o .key) t x
 unfoldable pub answers : List ℕ → Sought → Outline → Bool
 answers t sought.Text o = tried 1 t sought.Text o
 answers t (sought.Number n c) o = tried 1 t (sought.Number n c) o || tried 2 t (sought.Number n c) o
+
+-- what keys are compared to: a number has its category
+pub data Sees : Asked → Sought → Type 0 where
+  sees-text : Sees asked.Text sought.Text
+  sees-number : (n : code-number.Number) (locale : ℕ) (c : Category) → categoryNumber c ≡ category locale (told n) → Sees (asked.Number n locale) (sought.Number n c)
+
+-- where the pattern stands that a value chooses; of a text in every locale
+unfoldable pub Chooses : Asked → List ℕ → List ℕ → ℕ → Next → Type 0
+Chooses asked.Text t s at r = (locale : ℕ) → r ≡ patternPlace (chosenAt locale (textual t) s at)
+Chooses (asked.Number n locale) t s at r = r ≡ patternPlace (chosenAt locale (numeric (told n)) s at)

@@ -1,5 +1,4 @@
 -- `plural::conditions::conditions` meets its contract: the rule of the kind.
--- Made from Proof.answers, which stands beside it: change that, and run `proofs make`.
 use Rattle.decimals.specs.declared.types.Kind.{Kind}
 use Rattle.plural.specs.Plural.{ruleOf}
 use borrow.Author.Needs.{needs}

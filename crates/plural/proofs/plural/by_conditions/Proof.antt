@@ -1,5 +1,4 @@
 -- `plural::plural::by_conditions` meets its contract: what the code has of a whole number stands for its operands.
--- Made from Proof.answers, which stands beside it: change that, and run `proofs make`.
 use Rattle.plural.specs.Plural.{wholeOperands}
 use borrow.Author.Needs.{needs}
 use mathlib.Core.Path.{refl}

@@ -1,5 +1,4 @@
 -- `plural::plural::by_table` meets its contract: the digit that is held is that of the category.
--- Made from Proof.answers, which stands beside it: change that, and run `proofs make`.
 use Rattle.plural.proofs.Categories.{rule-bound}
 use Rattle.plural.proofs.Table.{digit-right}
 use Rattle.plural.specs.Plural.{wholeOperands}

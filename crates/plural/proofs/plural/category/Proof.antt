@@ -1,5 +1,4 @@
 -- `plural::plural::category` meets its contract: the table's category where no fraction digit is shown, else that of the conditions.
--- Made from Proof.answers, which stands beside it: change that, and run `proofs make`.
 use Rattle.decimals.specs.Relations.Shown.{told}
 use Rattle.plural.proofs.Categories.{shows-none}
 use Rattle.plural.specs.Plural.{Operands, category, operands, ruleOf}
