@@ -6,7 +6,8 @@ use lib.ListN.{getD}
 use Rattle.decimals.specs.Ascii.{ascii}
 use Rattle.decimals.specs.Bytes.{choose}
 
--- "a constant table of 1,600 categories: for four locales, cardinal then ordinal, 200 entries each", as digits: "0 zero, 1 one, 2 two, 3 few, 4 many, 5 other"
+-- "the library holds, a constant table of 1,600 categories", as digits: "0 zero, 1 one, 2 two, 3 few, 4 many, 5 other". It says the code's constant once more, as no
+-- definition can name that.
 unfoldable pub held : List (List ℕ)
 held =
     ascii "51555555555555555555555555555555555555555555555555555555555555555555555555555555555555555555555555555555555555555555555555555555555555555555555555555555555555555555555555555555555555555555555555555555"
@@ -20,9 +21,9 @@ held =
     ∷ []
 
 -- "A whole number with v = 0 uses entry n below 100, else entry 100 + n mod 100"
-unfoldable pub place : ℕ → ℕ
-place n = choose (ltb n 100) n (100 + n % 100)
+unfoldable pub entryOf : ℕ → ℕ
+entryOf n = choose (ltb n 100) n (100 + n % 100)
 
--- the digit that a whole number has in a rule set, numbered as the lines are; `5` (53), other, in one that the table does not have
+-- the digit that the table has for a whole number in a rule set, which is numbered as the lines are; `5` (53), other, in one that has no line
 unfoldable pub heldDigit : ℕ → ℕ → ℕ
-heldDigit rule n = getD (getD held rule []) (place n) 53
+heldDigit rule n = getD (getD held rule []) (entryOf n) 53

@@ -18,7 +18,7 @@ const TABLE: [[u8; 200]; 8] = [
     *b"01233440005555555555555555555555555555555555555555555555555555555555555555555555555555555555555555555555555555555555555555555555555555555555555555555555555555555555555555555555555555555555555555555555",
 ];
 
-// The entry at a place of a line. A line is taken by its number, so that only its own bytes are copied.
+// An entry of a line. The number of each line is written out: `TABLE[rule]` would have all 1,600 bytes copied to the stack, and this only the 200 of the line.
 fn entry(rule: usize, at: usize) -> u8
     requires { ⌜ at < 200 ⌝ }
     ensures { λ r. ⌜ r ≡ getD (getD held rule []) at 53 ⌝ }
@@ -60,7 +60,7 @@ fn entry(rule: usize, at: usize) -> u8
     }
 }
 
-// The digit of the category that the table has for a whole number in a rule set, `5` in one that it does not have.
+// The digit that the table has for a whole number in a rule set, which is numbered as the lines are; `5` in one that has no line.
 pub fn digit(rule: usize, n: u64) -> u8
     ensures { λ r. ⌜ r ≡ heldDigit rule n ⌝ }
 {

@@ -51,16 +51,20 @@ whole-of : (x : Operands) {i : ℕ} → i ≡ x .i → x .v ≡ 0 → x .t ≡ 0
 unfolding wholeOperands
 whole-of x e v t = λ j. record { i = e j; v = sym v j; t = sym t j }
 
--- a number that shows no fraction digit is whole
-pub shows-none : (n : Number) {o : code-seen.Seen} → Shows (operands n) o → o .«no_digits» ≡ true → wholeOperands (o .i) ≡ operands n
-unfolding operands operandsOf wholeOperands
-shows-none n {o} h t =
+-- a number with v = 0 is whole
+pub whole-operands : (n : Number) {i : ℕ} → i ≡ operands n .i → operands n .v ≡ 0 → wholeOperands i ≡ operands n
+unfolding operands operandsOf
+whole-operands n e v =
     let p : ℕ = shortest (n .digits) (n .scale) .0 in
     let s : ℕ = shortest (n .digits) (n .scale) .1 in
-    let v : max s (orZero (n .options .minimumFractionDigits)) ≡ 0 = eqb-true _ _ (sym (h .v) ∙ t) in
+    let m : max s (orZero (n .options .minimumFractionDigits)) ≡ 0 = v in
     let z : s ≡ 0 = omega arith in
     let f : p % 10 ^ s ≡ 0 = rw z (mod-one p) in
-    whole-of (operands n) (h .i) v f
+    whole-of (operands n) e v f
+
+-- and so is one of which the code sees no fraction digit
+pub shows-none : (n : Number) {o : code-seen.Seen} → Shows (operands n) o → o .«no_digits» ≡ true → wholeOperands (o .i) ≡ operands n
+shows-none n h t = whole-operands n (h .i) (eqb-true _ _ (sym (h .v) ∙ t))
 
 pub cy-low : (n : ℕ) → n ≤ 2 → cyPlace n ≡ n
 unfolding cyPlace

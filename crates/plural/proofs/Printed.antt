@@ -1,15 +1,16 @@
 -- What stands where in the printed table.
-use mathlib.Core.Path.{_≡_, refl, ap, sym, _∙_}
+use mathlib.Core.Path.{_≡_, ap, sym, subst, _∙_}
 use mathlib.Core.List.{List, [], _∷_, _++_, map, append-assoc}
-use Prim.Native.Nat.{ℕ, zero, suc, _+_, _*_, _/_, _%_, _<_, _≤_}
-use native.Mathlib.Nat.{zero-add, add-zero, suc-add, add-suc, suc-mul, zero-mul, not-suc-le-zero, le-of-suc-le-suc}
+use Prim.Native.Nat.{ℕ, zero, suc, _+_, _*_, _<_, _≤_}
+use native.Mathlib.Nat.{zero-add, suc-mul, zero-mul, not-suc-le-zero, le-of-suc-le-suc}
 use native.Mathlib.Omega.{arith}
-use lib.ListN.{length, getD, length-append, length-map, List·getD-append, List·getD-map}
+use lib.ListN.{length, getD, length-append, List·getD-append}
 use lib.Seq.{getD-append-add}
 use Rattle.categories.proofs.Entries.{read-inside}
+use Rattle.decimals.specs.declared.types.Kind.{Kind}
 use Rattle.plural.specs.Plural.{wholeOperands, ruleOf}
-use Rattle.plural.specs.Table.{each, kindOf, line, table, digitOf, digitsOf, linesOf, printed}
-use Rattle.plural.proofs.Table.{each-at, each-length}
+use Rattle.plural.specs.Table.{line, ruleSet, digitOf, inDigits, table, joined, printed}
+use Rattle.plural.proofs.Table.{digits-line, digits-length, digits-at, digits-long, eight}
 
 -- a line with its line feed, and what stands behind it
 module _ (l rest : List ℕ) (w : ℕ) (n : length l ≡ w) where
@@ -23,50 +24,44 @@ module _ (l rest : List ℕ) (w : ℕ) (n : length l ≡ w) where
       let at : suc w + j ≡ length l + suc j = omega (arith, n) in
       ap (λ (k : ℕ). getD (l ++ (10 ∷ rest)) k 0) at ∙ getD-append-add l (10 ∷ rest) (suc j) 0
 
+-- the first line, and the next one
+first-line : (w k : ℕ) → 0 * suc w + k ≡ k
+first-line w k = ap (λ (z : ℕ). z + k) (zero-mul (suc w)) ∙ zero-add k
+
 next-line : (r w k : ℕ) → suc r * suc w + k ≡ suc w + (r * suc w + k)
 next-line r w k = let e : suc r * suc w ≡ r * suc w + suc w = suc-mul r (suc w) in omega (arith, e)
 
 -- where all lines have one length, a byte of a line or the line feed behind it
-lines-at : (f : ℕ → List ℕ) (w : ℕ) → ((r : ℕ) → length (f r) ≡ w) → (m n r k : ℕ) → r < n → k ≤ w → getD (linesOf (each f m n)) (r * suc w + k) 0 ≡ getD (f (m + r) ++ (10 ∷ [])) k 0
-unfolding each linesOf
-lines-at f w l m zero r k h b = absurd (not-suc-le-zero h)
-lines-at f w l m (suc n) zero k h b =
-    ap (λ (j : ℕ). getD (f m ++ (10 ∷ linesOf (each f (suc m) n))) j 0) (ap (λ (z : ℕ). z + k) (zero-mul (suc w)) ∙ zero-add k)
-    ∙ line-here (f m) (linesOf (each f (suc m) n)) w (l m) k b
-    ∙ ap (λ (j : ℕ). getD (f j ++ (10 ∷ [])) k 0) (sym (add-zero m))
-lines-at f w l m (suc n) (suc r) k h b =
-    ap (λ (j : ℕ). getD (f m ++ (10 ∷ linesOf (each f (suc m) n))) j 0) (next-line r w k)
-    ∙ line-past (f m) (linesOf (each f (suc m) n)) w (l m) (r * suc w + k)
-    ∙ lines-at f w l (suc m) n r k (le-of-suc-le-suc h) b
-    ∙ ap (λ (j : ℕ). getD (f j ++ (10 ∷ [])) k 0) (suc-add m r ∙ sym (add-suc m r))
+joined-at : (w : ℕ) (ls : List (List ℕ)) → ((r : ℕ) → r < length ls → length (getD ls r []) ≡ w) → (r k : ℕ) → r < length ls → k ≤ w → getD (joined ls) (r * suc w + k) 0 ≡ getD (getD ls r [] ++ (10 ∷ [])) k 0
+unfolding joined
+joined-at w [] n r k h b = absurd (not-suc-le-zero h)
+joined-at w (l ∷ ls) n zero k h b = ap (λ (j : ℕ). getD (l ++ (10 ∷ joined ls)) j 0) (first-line w k) ∙ line-here l (joined ls) w (n 0 h) k b
+joined-at w (l ∷ ls) n (suc r) k h b =
+    ap (λ (j : ℕ). getD (l ++ (10 ∷ joined ls)) j 0) (next-line r w k)
+    ∙ line-past l (joined ls) w (n 0 (omega arith)) (r * suc w + k)
+    ∙ joined-at w ls (λ (j : ℕ) (m : j < length ls). n (suc j) (omega arith)) r k (le-of-suc-le-suc h) b
 
--- the digits of a line
-row : ℕ → List ℕ
-row r = map digitOf (line r)
+printed-line : (r k : ℕ) → r < 8 → k ≤ 200 → getD printed (r * 201 + k) 0 ≡ getD (getD (inDigits table) r [] ++ (10 ∷ [])) k 0
+unfolding printed
+printed-line r k h b = joined-at 200 (inDigits table) digits-long r k (subst (λ (n : ℕ). r < n) (sym eight) h) b
 
-row-length : (r : ℕ) → length (row r) ≡ 200
-unfolding row line
-row-length r = length-map (line r) digitOf ∙ each-length _ 0 200
-
-printed-rows : printed ≡ linesOf (each row 0 8)
-unfolding printed digitsOf table each row
-printed-rows = refl
-
-printed-row : (r k : ℕ) → r < 8 → k ≤ 200 → getD printed (r * 201 + k) 0 ≡ getD (row r ++ (10 ∷ [])) k 0
-printed-row r k h b = ap (λ (l : List ℕ). getD l (r * 201 + k) 0) printed-rows ∙ lines-at row 200 row-length 0 8 r k h b ∙ ap (λ (j : ℕ). getD (row j ++ (10 ∷ [])) k 0) (zero-add r)
-
--- at a place of a line stands its digit, by the written conditions
-pub printed-digit : (r n : ℕ) → r < 8 → n < 200 → getD printed (r * 201 + n) 0 ≡ digitOf (ruleOf (kindOf (r % 2)) (r / 2) (wholeOperands n))
-unfolding row line
+-- in the place of a line and a number stands the line's digit
+pub printed-digit : (r n : ℕ) → r < 8 → n < 200 → getD printed (r * 201 + n) 0 ≡ getD (getD (inDigits table) r []) n 0
 printed-digit r n h b =
-    printed-row r n h (omega arith)
-    ∙ List·getD-append (row r) (10 ∷ []) 0 n (omega (arith, row-length r))
-    ∙ read-inside (row r) n 0 (digitOf 5) (omega (arith, row-length r))
-    ∙ List·getD-map digitOf (line r) n 5
-    ∙ ap digitOf (each-at _ 0 200 n 5 b ∙ ap (λ (j : ℕ). ruleOf (kindOf (r % 2)) (r / 2) (wholeOperands j)) (zero-add n))
+    let long : length (getD (inDigits table) r []) ≡ 200 = digits-long r (subst (λ (n : ℕ). r < n) (sym eight) h) in
+    printed-line r n h (omega arith) ∙ List·getD-append (getD (inDigits table) r []) (10 ∷ []) 0 n (omega arith)
 
 -- and behind each line its line feed
 pub printed-end : (r : ℕ) → r < 8 → getD printed (r * 201 + 200) 0 ≡ 10
 printed-end r h =
-    let long : 200 ≡ length (row r) + 0 = omega (arith, row-length r) in
-    printed-row r 200 h (omega arith) ∙ ap (λ (k : ℕ). getD (row r ++ (10 ∷ [])) k 0) long ∙ getD-append-add (row r) (10 ∷ []) 0 0
+    let long : length (getD (inDigits table) r []) ≡ 200 = digits-long r (subst (λ (n : ℕ). r < n) (sym eight) h) in
+    let end : 200 ≡ length (getD (inDigits table) r []) + 0 = omega arith in
+    printed-line r 200 h (omega arith) ∙ ap (λ (k : ℕ). getD (getD (inDigits table) r [] ++ (10 ∷ [])) k 0) end ∙ getD-append-add (getD (inDigits table) r []) (10 ∷ []) 0 0
+
+-- which is that of the conditions
+pub line-digit : (k : Kind) (locale n : ℕ) {r : ℕ} → r ≡ ruleSet k locale → locale < 4 → n < 200 → getD (getD (inDigits table) r []) n 0 ≡ digitOf (ruleOf k locale (wholeOperands n))
+line-digit k locale n e h b =
+    ap (λ (j : ℕ). getD (getD (inDigits table) j []) n 0) e
+    ∙ ap (λ (l : List ℕ). getD l n 0) (digits-line k locale h)
+    ∙ read-inside (map digitOf (line k locale)) n 0 53 (omega (arith, digits-length k locale))
+    ∙ digits-at k locale n b

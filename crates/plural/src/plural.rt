@@ -49,7 +49,7 @@ fn operands_of(n: Number) -> Seen
     }
 }
 
-// The category of a whole number with no fraction digits by the written conditions: what the table is made by.
+// The category of a whole number with v = 0 by the written conditions: the program `plural_table` makes its lines by it.
 pub fn by_conditions(locale: u8, kind: Kind, n: u64) -> Category
     ensures { λ r. ⌜ categoryNumber r ≡ ruleOf kind locale (wholeOperands n) ⌝ }
 {
@@ -64,7 +64,7 @@ pub fn by_conditions(locale: u8, kind: Kind, n: u64) -> Category
     )
 }
 
-// The same by the table.
+// The same category, read from the table.
 fn by_table(locale: u8, kind: Kind, n: u64) -> Category
     ensures { λ r. ⌜ categoryNumber r ≡ ruleOf kind locale (wholeOperands n) ⌝ }
 {

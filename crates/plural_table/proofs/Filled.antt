@@ -1,5 +1,5 @@
 -- A buffer that is filled byte by byte.
-use mathlib.Core.Path.{_≡_, refl, _∙_, ap, sym}
+use mathlib.Core.Path.{_≡_, refl, _∙_, sym}
 use mathlib.Core.List.{List}
 use mathlib.Core.Bool.{Bool, true, false}
 use Prim.Native.Nat.{ℕ, _+_, _<_, _≤_}
@@ -9,7 +9,7 @@ use lib.ListN.{length, getD, set, length-set}
 use lib.Seq.{getD-set-same, getD-set-other, ext-getD}
 use borrow.Author.Tests.{eqb-true, eqb-false}
 
--- a buffer of n bytes is what it is to be as far as a place
+-- a buffer of n bytes that has the bytes of p before a place
 pub record Filled (p : List ℕ) (n : ℕ) (l : List ℕ) (at : ℕ) : Type 0 where
   pub long : length l ≡ n
   pub same : (k : ℕ) → k < at → getD l k 0 ≡ getD p k 0

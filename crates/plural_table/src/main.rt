@@ -4,14 +4,15 @@ use libc::STDOUT_FILENO;
 use plural::plural::by_conditions;
 use plural::types::category_number;
 ghost use mathlib.Core.Path.{_≡_};
-ghost use Prim.Native.Nat.{_/_, _%_, _<_};
+ghost use mathlib.Core.List.{[]};
+ghost use Prim.Native.Nat.{_%_, _<_};
 ghost use lib.ListN.{getD};
-ghost use Rattle.plural.specs.Plural.{wholeOperands, ruleOf};
-ghost use Rattle.plural.specs.Table.{kindOf, digitOf, printed};
+ghost use Rattle.decimals.specs.Decimal.{kindNumber};
+ghost use Rattle.plural.specs.Table.{table, inDigits, printed};
 
-// The kind of a line's rule set.
+// The kind of a line's rule set: cardinal, then ordinal.
 fn kind_of(rule: u8) -> Kind
-    ensures { λ r. ⌜ r ≡ kindOf (rule % 2) ⌝ }
+    ensures { λ r. ⌜ kindNumber r ≡ rule % 2 ⌝ }
 {
     if rule % 2 == 0 {
         return Kind::Cardinal;
@@ -20,8 +21,9 @@ fn kind_of(rule: u8) -> Kind
 }
 
 // The digit of a number in a line, by the written conditions.
-fn digit_of(rule: u8, n: u64) -> u8
-    ensures { λ r. ⌜ r ≡ digitOf (ruleOf (kindOf (rule % 2)) (rule / 2) (wholeOperands n)) ⌝ }
+fn digit_in_line(rule: u8, n: u64) -> u8
+    requires { ⌜ (rule < 8) × (n < 200) ⌝ }
+    ensures { λ r. ⌜ r ≡ getD (getD (inDigits table) rule []) n 0 ⌝ }
 {
     b'0' + category_number(by_conditions(rule / 2, kind_of(rule), n))
 }
@@ -35,7 +37,7 @@ fn printed_at(at: usize) -> u8
     if n == 200 {
         return b'\n';
     }
-    digit_of((at / 201) as u8, n as u64)
+    digit_in_line((at / 201) as u8, n as u64)
 }
 
 // A buffer that holds the printed table.

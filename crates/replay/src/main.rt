@@ -119,14 +119,16 @@ fn show(counts: Counts, rows: &[u8], count: u8) {
     }
 }
 
-// The categories of a file of their own, counted at the place 34.
-fn by_table(counts: Counts) -> Counts {
+// The category cases of a file of their own: counted at the place 34 and, where they differ, 64 further, as those of operation 3 are at 3; what is not known stays
+// with the rest.
+fn table_categories(counts: Counts) -> Counts {
     let own = replayed(no_counts(), b"categories.vec");
-    counted(counted(counts, 34, count_at(own, 3)), 98, count_at(own, 67))
+    let known = counted(counts, 0, count_at(own, 0));
+    counted(counted(known, 34, count_at(own, 3)), 98, count_at(own, 67))
 }
 
 fn main() {
-    let a = by_table(replayed(no_counts(), b"numbers.vec"));
+    let a = table_categories(replayed(no_counts(), b"numbers.vec"));
     let b = replayed(a, b"images.vec");
     let f = replayed(replayed(b, b"additions.vec"), b"figure_additions.vec");
     let c = counted(f, 33, limit::limit());

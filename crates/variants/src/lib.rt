@@ -221,8 +221,8 @@ fn compared(a: Asked) -> Sought
     }
 }
 
-// The pattern of the variant that a value chooses. The category is worked out here, and not where a pattern is written: the line of the table that is read
-// for it lies on the stack, and that would be in the frame of each pattern.
+// The pattern of the variant that a value chooses. The category is worked out here: this function has two callers, so the compiler leaves it a frame of its own. In
+// `choose_number`, which has one, the bytes of the table's line that is read would stand in the frame of each expression being written (rust/tests/stack).
 fn choose(s: &[u8], at: usize, text: &[u8], a: Asked) -> Next
     ensures { λ r. ⌜ Chooses a (now (text .entry)) (now (s .entry)) at r ⌝ }
 {

@@ -1,6 +1,6 @@
--- `categories::digit` meets its contract: the entry at the number's place.
+-- `categories::digit` meets its contract: the number's entry.
 use Prim.Native.Nat.{ℕ}
-use Rattle.categories.proofs.Entries.{place-high, place-low}
+use Rattle.categories.proofs.Entries.{entry-high, entry-low}
 use Rattle.categories.specs.Held.{held, heldDigit}
 use borrow.Author.Needs.{needs}
 use lib.ListN.{getD}
@@ -14,7 +14,7 @@ entry-requires c κs = search needs
 
 returns : tie.Need-returns
 unfolding heldDigit
-returns c = c .entry .ensures ∙ ap (λ (k : ℕ). getD (getD held (c .before .before .args .rule) []) k 53) (sym (place-low (c .before .before .args .n) (c .before .if1 .taken)))
+returns c = c .entry .ensures ∙ ap (λ (k : ℕ). getD (getD held (c .before .before .args .rule) []) k 53) (sym (entry-low (c .before .before .args .n) (c .before .if1 .taken)))
 
 add-entry : tie.Need-add-entry
 add-entry c = search needs
@@ -24,7 +24,7 @@ entry-requires-2 c κs = search needs
 
 returns-2 : tie.Need-returns-2
 unfolding heldDigit
-returns-2 c = c .entry2 .ensures ∙ ap (λ (k : ℕ). getD (getD held (c .before .before .args .rule) []) k 53) (sym (place-high (c .before .before .args .n) (c .before .if1 .left)))
+returns-2 c = c .entry2 .ensures ∙ ap (λ (k : ℕ). getD (getD held (c .before .before .args .rule) []) k 53) (sym (entry-high (c .before .before .args .n) (c .before .if1 .left)))
 
 pub digit-spec : {M : Type 1} → statement M
 digit-spec = tie.close (tie.spec entry-requires returns add-entry entry-requires-2 returns-2)

@@ -14,17 +14,17 @@ returns c =
     let line : c .before .args .at / 201 < 8 = omega (arith, c .before .pre) in
     sym (printed-end (c .before .args .at / 201) line) ∙ ap (λ (k : ℕ). getD printed k 0) (let e : c .before .args .at / 201 * 201 + 200 ≡ c .before .args .at = omega (arith, c .if1 .taken) in e)
 
-cast-digit-of : tie.Need-cast-digit-of
-cast-digit-of c = search needs
+cast-digit-in-line : tie.Need-cast-digit-in-line
+cast-digit-in-line c = search needs
 
-digit-of-requires : tie.Need-digit-of-requires
-digit-of-requires c κs = search needs
+digit-in-line-requires : tie.Need-digit-in-line-requires
+digit-in-line-requires c κs = (omega (arith, c .before .pre), omega (arith, c .if1 .left))
 
 returns-2 : tie.Need-returns-2
 returns-2 c =
     let place : c .before .before .args .at / 201 * 201 + c .before .before .args .at % 201 ≡ c .before .before .args .at = omega arith in
     let line : c .before .before .args .at / 201 < 8 = omega (arith, c .before .before .pre) in
-    c .digit-of .ensures ∙ sym (printed-digit (c .before .before .args .at / 201) (c .before .before .args .at % 201) line (omega (arith, c .before .if1 .left))) ∙ ap (λ (k : ℕ). getD printed k 0) place
+    c .digit-in-line .ensures ∙ sym (printed-digit (c .before .before .args .at / 201) (c .before .before .args .at % 201) line (omega (arith, c .before .if1 .left))) ∙ ap (λ (k : ℕ). getD printed k 0) place
 
 pub printed-at-spec : {M : Type 1} → statement M
-printed-at-spec = tie.close (tie.spec returns cast-digit-of digit-of-requires returns-2)
+printed-at-spec = tie.close (tie.spec returns cast-digit-in-line digit-in-line-requires returns-2)
