@@ -221,8 +221,8 @@ fn compared(a: Asked) -> Sought
     }
 }
 
-// The pattern of the variant that a value chooses. The category is worked out here: this function has two callers, so the compiler leaves it a frame of its own. In
-// `choose_number`, which has one, the bytes of the table's line that is read would stand in the frame of each expression being written (rust/tests/stack).
+// The pattern of the variant that a value chooses. The category is worked out here, in a function that has two callers and so a frame of its own: in `choose_number`,
+// what the table needs on the stack would keep the compiler from putting the choice into the writing of a select, and each choice would pay for a call more.
 fn choose(s: &[u8], at: usize, text: &[u8], a: Asked) -> Next
     ensures { λ r. ⌜ Chooses a (now (text .entry)) (now (s .entry)) at r ⌝ }
 {
