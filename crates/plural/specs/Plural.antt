@@ -24,7 +24,7 @@ operandsOf (d, s) m = record { i = d / 10 ^ s; v = max s m; t = d % 10 ^ s }
 unfoldable pub operands : Number → Operands
 operands n = operandsOf (shortest (n .digits) (n .scale)) (orZero (n .options .minimumFractionDigits))
 
--- "A whole number with v = 0" (document 02, Card 4)
+-- "A whole number with v = 0" (document 02, Card 4): it has no fraction, and shows no fraction digit
 unfoldable pub wholeOperands : ℕ → Operands
 wholeOperands n = record { i = n; v = 0; t = 0 }
 

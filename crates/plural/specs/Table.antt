@@ -18,7 +18,7 @@ categoriesFrom k locale m (suc n) = ruleOf k locale (wholeOperands m) ∷ catego
 unfoldable pub line : Kind → ℕ → List ℕ
 line k locale = categoriesFrom k locale 0 200
 
--- "cardinal then ordinal", for n locales "in the order of their numbers", from one on
+-- "cardinal then ordinal", of n locales "in the order of their numbers", from a locale on
 unfoldable pub linesFrom : ℕ → ℕ → List (List ℕ)
 linesFrom locale zero = []
 linesFrom locale (suc n) = line Cardinal locale ∷ line Ordinal locale ∷ linesFrom (suc locale) n
