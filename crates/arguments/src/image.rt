@@ -11,14 +11,14 @@ use order::is_before;
 use records::{Head, Next, Num, Rule};
 
 // Arguments that were checked: where they end, where the last of them stands, and whether they are in order.
-#[derive(Drop)]
+#[derive(Clone, Copy)]
 pub(crate) struct Checked {
     pub at: usize,
     pub last: usize,
     pub fine: bool,
 }
 
-#[derive(Drop)]
+#[derive(Clone, Copy)]
 pub(crate) enum Run {
     Is(Checked),
     Bad,

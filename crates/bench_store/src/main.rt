@@ -1,5 +1,7 @@
 // Makes a store of 1,044,825 bytes and checks it 1,000 times; tools/bench-store times it. Sixteen resource images, each one message of 960 texts of 60
 // bytes and 960 variables: eight images of ASCII text, then eight of Cyrillic.
+#![tactic(auto)]
+
 use buffers::{Wrote, put_bytes};
 use libc::STDOUT_FILENO;
 use records::Next;

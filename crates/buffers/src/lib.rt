@@ -1,4 +1,6 @@
 // Lent buffers: bytes appended, a buffer filled with zeros, bytes moved to its back.
+#![tactic(auto)]
+
 ghost use Rattle.std.specs.Prelude.{◌≡◌, ℕ, ◌+◌, ◌≤◌, length, replicate};
 ghost use Rattle.records.specs.Bytes.{part};
 ghost use Rattle.buffers.specs.Relations.Append.{over, appended, moved_back};
@@ -6,7 +8,7 @@ ghost use Rattle.buffers.specs.Relations.Append.{over, appended, moved_back};
 use records::{has_bytes, write_bytes};
 
 // Past what was written; or there is no room for it, and nothing is written.
-#[derive(Drop)]
+#[derive(Clone, Copy)]
 pub enum Wrote {
     At(usize),
     Full,

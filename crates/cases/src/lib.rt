@@ -1,1 +1,2 @@
 // Cases of document 01, computed by the definitions.
+#![tactic(auto)]

@@ -1,4 +1,6 @@
 // The plural categories of whole numbers that show no fraction digit, as a constant table.
+#![tactic(auto)]
+
 ghost use Rattle.std.specs.Prelude.{◌≡◌, [], ◌<◌, get_or};
 ghost use Rattle.categories.specs.Held.{held, held_digit};
 

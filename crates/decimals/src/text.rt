@@ -8,7 +8,7 @@ ghost use Rattle.decimals.specs.Relations.Adds.{Adds};
 use crate::types::{Count, DIGITS_LIMIT, FRACTION_LIMIT, Number, NumberText, Options, SCALE_LIMIT};
 
 // A decimal without sign and options.
-#[derive(Drop)]
+#[derive(Clone, Copy)]
 pub struct Decimal {
     pub digits: u64,
     pub scale: u8,

@@ -12,14 +12,14 @@ pub const SCALE_LIMIT: u8 = 14;
 pub const FRACTION_LIMIT: u64 = 19;
 
 // The Rust's FluentNumberType.
-#[derive(Drop)]
+#[derive(Clone, Copy)]
 pub enum Kind {
     Cardinal,
     Ordinal,
 }
 
 // The Rust's FluentNumberStyle.
-#[derive(Drop)]
+#[derive(Clone, Copy)]
 pub enum Style {
     Decimal,
     Currency,
@@ -27,7 +27,7 @@ pub enum Style {
 }
 
 // The Rust's FluentNumberCurrencyDisplayStyle.
-#[derive(Drop)]
+#[derive(Clone, Copy)]
 pub enum Display {
     Symbol,
     Code,
@@ -35,14 +35,14 @@ pub enum Display {
 }
 
 // A digit count that may be unset.
-#[derive(Drop)]
+#[derive(Clone, Copy)]
 pub enum Count {
     Unset,
     Set(u64),
 }
 
 // The ten options, in the Rust's order. Of the currency only whether it is set.
-#[derive(Drop)]
+#[derive(Clone, Copy)]
 pub struct Options {
     pub kind: Kind,
     pub style: Style,
@@ -57,7 +57,7 @@ pub struct Options {
 }
 
 // The digits over 10^scale, with a sign and options.
-#[derive(Drop)]
+#[derive(Clone, Copy)]
 pub struct Number {
     pub negative: bool,
     pub digits: u64,
@@ -66,7 +66,7 @@ pub struct Number {
 }
 
 // A number's text: its first `len` bytes.
-#[derive(Drop)]
+#[derive(Clone, Copy)]
 pub struct NumberText {
     pub bytes: [u8; 36],
     pub len: usize,

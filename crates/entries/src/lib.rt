@@ -1,10 +1,12 @@
 // What an id has in a store, and the parts of an entry.
+#![tactic(auto)]
+
 pub mod entry;
 pub mod message;
 pub mod resource;
 
 // What holds an id, and where its entry stands in the store.
-#[derive(Drop)]
+#[derive(Clone, Copy)]
 pub enum Found {
     Message(usize),
     Term(usize),

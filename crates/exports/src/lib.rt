@@ -1,6 +1,8 @@
 // The proved operations for programs in C and Rust: `rt staticlib exports` writes target/staticlib/libexports.a, and include/weszlagyo.h declares them.
 // Each answers 0, or the number of its refusal, and writes its figures into the numbers that are lent to it. None has a `requires`: whatever bytes the
 // slices hold, the answer is the definition's.
+#![tactic(auto)]
+
 ghost use Rattle.std.specs.Prelude.{◌≡◌};
 ghost use Rattle.bundle.specs.Additions.{new_bundle, add_resource, add_resource_overriding, add_function};
 ghost use Rattle.records.specs.Optional.{option_of};

@@ -1,4 +1,6 @@
 // One item more in a store's bytes: whether there is room, the item behind the others, the used length and the count.
+#![tactic(auto)]
+
 ghost use Rattle.std.specs.Prelude.{◌≡◌, ◌+◌, ◌≤◌, ◌<◌, ◌∷◌, length, leb};
 ghost use Rattle.records.specs.Bytes.{to_be};
 ghost use Rattle.records.specs.Encode.{enc_function};

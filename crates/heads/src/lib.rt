@@ -2,6 +2,8 @@
 //
 // Each function takes every slice whatsoever: a byte that is not there counts as 0. What the bytes say of a store or an expression that decodes is in
 // the laws of proofs/Heads.
+#![tactic(auto)]
+
 ghost use Rattle.std.specs.Prelude.{◌≡◌};
 ghost use Rattle.heads.specs.Header.{locale_byte, isolated};
 ghost use Rattle.heads.specs.Tags.{text_tag, bare_at, marks_at};

@@ -1,4 +1,6 @@
 // The list of a plain addition: one Overriding record for each entry that is marked.
+#![tactic(auto)]
+
 ghost use Rattle.std.specs.Prelude.{◌≡◌, ℕ, ◌+◌, ◌≤◌, ◌<◌, List, length, get_or, eqb};
 ghost use Rattle.records.specs.Got.{got};
 ghost use Rattle.records.specs.Encode.{enc_all};
@@ -15,14 +17,14 @@ use records::{Next, Num, read_byte, read_u16};
 use texts::{Kind, put_header, put_overriding};
 
 // What was listed: all records, and how many; or nothing, as the buffer is too short.
-#[derive(Drop)]
+#[derive(Clone, Copy)]
 pub enum Listed {
     All(usize),
     Short,
 }
 
 // Records, and their bytes.
-#[derive(Drop)]
+#[derive(Clone, Copy)]
 pub struct Tally {
     pub count: usize,
     pub size: usize,

@@ -10,7 +10,7 @@ use decimals::bytes::is_digit;
 use decimals::types::{Count, Display, Kind, Number, Options, Style};
 
 // What reading a text as a literal answers.
-#[derive(Drop)]
+#[derive(Clone, Copy)]
 pub enum Literal {
     Is(Number),
     Bad,
@@ -66,7 +66,7 @@ pub fn is_number(s: &[u8]) -> bool
 }
 
 // What was read of a literal.
-#[derive(Drop)]
+#[derive(Clone, Copy)]
 struct Read {
     negative: bool,
     digits: u64,

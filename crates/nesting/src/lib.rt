@@ -1,1 +1,2 @@
 // The theorems about isolation marks: statements in specs/, proofs in proofs/. No code.
+#![tactic(auto)]

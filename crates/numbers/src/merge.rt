@@ -12,7 +12,7 @@ use decimals::text::whole;
 use decimals::types::{Count, Display, FRACTION_LIMIT, Kind, Number, Options, Style};
 
 // What merging one option answers: the options, or that the option is a minimumFractionDigits above the limit.
-#[derive(Drop)]
+#[derive(Clone, Copy)]
 pub enum Merged {
     Is(Options),
     TooLong,

@@ -1,4 +1,6 @@
 // The checks of patterns and expressions, and of what they hold: one cycle of calls.
+#![tactic(auto)]
+
 ghost use Rattle.std.specs.Prelude.{◌≡◌};
 ghost use Rattle.records.specs.Relations.Answer.{next_of};
 ghost use Rattle.records.specs.Tree.{no_variant, or};

@@ -8,7 +8,7 @@ use crate::types::Category;
 use decimals::types::Kind;
 
 // i whole part; v whether no fraction digit is shown; t whether there is no fraction.
-#[derive(Drop)]
+#[derive(Clone, Copy)]
 pub struct Seen {
     pub i: u64,
     pub no_digits: bool,

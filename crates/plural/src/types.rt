@@ -3,7 +3,7 @@ ghost use Rattle.std.specs.Prelude.{◌≡◌};
 ghost use Rattle.plural.specs.Plural.{category_number};
 
 // A plural category.
-#[derive(Drop)]
+#[derive(Clone, Copy)]
 pub enum Category {
     Zero,
     One,

@@ -1,4 +1,6 @@
 // Prints the table of plural categories that the library holds, made from the written conditions: eight lines of 200 digits.
+#![tactic(auto)]
+
 ghost use Rattle.std.specs.Prelude.{◌≡◌, [], ◌%◌, ◌<◌, get_or};
 ghost use Rattle.decimals.specs.Decimal.{kind_number};
 ghost use Rattle.plural.specs.Table.{table, in_digits, printed};

@@ -2,6 +2,8 @@
 //
 // Each function over a `Reader` takes it apart and leaves the work to a function on the image and the position, which the borrow checker covers: those of
 // `records`, and the ones at the end of this file. Other crates call `read_marked` and `read_size`, whose parameters are a plain slice and a number.
+#![tactic(auto)]
+
 ghost use Rattle.std.specs.Prelude.{◌≡◌, ◌-◌, length};
 ghost use Rattle.records.specs.Relations.Answer.{num_of};
 ghost use Rattle.records.specs.Bytes.{byte_at, number_at, span_at};
@@ -10,14 +12,14 @@ ghost use Rattle.reader.specs.Relations.Rows.{end_of, row_of, row_at, sized_of, 
 use records::Num;
 
 // An image, and a position in it.
-#[derive(Drop)]
+#[derive(Clone, Copy)]
 pub struct Reader<'a> {
     pub image: &'a [u8],
     pub at: usize,
 }
 
 // What three reads in a row answer, each from past the one before. Where one is malformed, those after it mean nothing.
-#[derive(Drop)]
+#[derive(Clone, Copy)]
 pub struct Row {
     pub first: Num,
     pub second: Num,
@@ -25,7 +27,7 @@ pub struct Row {
 }
 
 // What a u32 that counts bytes answers, where those bytes start, and how many the image has from there on.
-#[derive(Drop)]
+#[derive(Clone, Copy)]
 pub struct Sized {
     pub size: Num,
     pub at: usize,

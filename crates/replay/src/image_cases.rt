@@ -107,7 +107,7 @@ fn bit(s: &[u8], at: usize) -> bool {
 }
 
 // The byte at a place has this value, and so many bytes are left.
-#[derive(Drop)]
+#[derive(Clone, Copy)]
 struct Damage {
     place: usize,
     value: u8,

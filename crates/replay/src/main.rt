@@ -1,5 +1,7 @@
 // Replays the oracle's vectors of numbers, of stores and images, and of additions: every case is compared, and the counts are printed. Then the limit
 // of a store, which is too long for a vector.
+#![tactic(auto)]
+
 mod addition_cases;
 mod image_cases;
 mod limit;

@@ -99,7 +99,7 @@ pub(crate) fn category_case(s: &[u8]) -> bool {
 }
 
 // The options merged up to a position, and whether one was refused.
-#[derive(Drop)]
+#[derive(Clone, Copy)]
 struct Merging {
     options: Options,
     at: usize,

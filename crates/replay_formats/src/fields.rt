@@ -5,7 +5,7 @@ use resolver::format::Figures;
 use vectors::{blob, byte, past, past_blob, past_string, u16_at, u32_at};
 
 // Where the fields behind the store stand.
-#[derive(Drop)]
+#[derive(Clone, Copy)]
 pub struct Places {
     pub id: usize,
     pub has: usize,
@@ -57,7 +57,7 @@ pub(crate) fn answer_at(s: &[u8]) -> usize {
 }
 
 // How long the three buffers are.
-#[derive(Drop)]
+#[derive(Clone, Copy)]
 pub struct Lengths {
     pub text: usize,
     pub list: usize,

@@ -1,6 +1,8 @@
 // Replays the oracle's vectors of formattings, of one message and of a sheet: the answer, every count and every byte of text, list and workspace, for the
 // buffers that a case lends and, of a formatting that finishes, for ample, just fitting and short ones, and for a workspace of its figure and one byte less;
 // and prints the counts. Then the longest arguments image, and sheets too long for a vector.
+#![tactic(auto)]
+
 mod cases;
 mod fields;
 mod limit;

@@ -1,4 +1,6 @@
 // Sheet images: checking them, and reading where the parts of a request stand. Each function takes every slice whatsoever.
+#![tactic(auto)]
+
 pub mod image;
 pub mod request;
 
@@ -13,7 +15,7 @@ pub const MIN_ARGUMENTS: usize = 7;
 
 // Where the parts of a request stand in its sheet image: the bytes of the message's Id, those of the attribute's if it has one, and the arguments image,
 // each from a position up to another. Where it has no attribute, that part is empty.
-#[derive(Drop)]
+#[derive(Clone, Copy)]
 pub struct Spans {
     pub id: usize,
     pub id_end: usize,
@@ -25,7 +27,7 @@ pub struct Spans {
 }
 
 // A request's parts, or malformed.
-#[derive(Drop)]
+#[derive(Clone, Copy)]
 pub enum Asked {
     Is(Spans),
     Bad,

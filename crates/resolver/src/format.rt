@@ -22,7 +22,7 @@ use state::{ERRORS, HIGH, LIST_AT, REFUSED, Scope, TEXT_AT, UNFOUND, enter, star
 use texts::put_header;
 
 // What a formatting carries.
-#[derive(Drop)]
+#[derive(Clone, Copy)]
 pub struct Figures {
     pub text: usize,
     pub errors: usize,
@@ -32,7 +32,7 @@ pub struct Figures {
 }
 
 // Finished, or refused: before the run, where nothing changes, or in it, where the three buffers are cleared.
-#[derive(Drop)]
+#[derive(Clone, Copy)]
 pub enum Answer {
     Finished(Figures),
     Refused(u8),
@@ -40,7 +40,7 @@ pub enum Answer {
 }
 
 // Where a pattern stands in the store, or the refusal.
-#[derive(Drop)]
+#[derive(Clone, Copy)]
 pub enum Part {
     At(usize),
     Refused(u8),

@@ -1,4 +1,6 @@
 // The resolver: what a formatting answers. Its contracts' definitions are in specs/, and the steps of its writers in proofs/.
+#![tactic(auto)]
+
 mod call;
 mod expression;
 pub mod format;

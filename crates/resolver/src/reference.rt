@@ -13,7 +13,7 @@ use records::{Next, Num, read_byte};
 use state::{Reference, Referring, count_unfound};
 
 // A pattern; a message without a value, by its Id; nothing, and whether the lookup counts as lost; or no reference stands there.
-#[derive(Drop)]
+#[derive(Clone, Copy)]
 pub(crate) enum Target {
     At(usize),
     NoValue(usize, usize),
@@ -22,7 +22,7 @@ pub(crate) enum Target {
 }
 
 // The entry of the kind that is asked for; or that the Id has none of it, and whether it has none at all.
-#[derive(Drop)]
+#[derive(Clone, Copy)]
 pub(crate) enum Holder {
     Is(usize),
     Not(bool),

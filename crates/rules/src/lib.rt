@@ -1,4 +1,6 @@
 // The rules for the bytes of a Str: identifiers, text, string literals. Each function takes every slice whatsoever.
+#![tactic(auto)]
+
 pub mod ascii;
 pub mod id;
 pub mod string;

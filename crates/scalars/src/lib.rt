@@ -1,4 +1,6 @@
 // The Unicode scalars that escapes write.
+#![tactic(auto)]
+
 ghost use Rattle.std.specs.Prelude.{◌≡◌, ℕ, ◌<◌, length};
 ghost use Rattle.scalars.specs.Scalars.{scalar_or, enc_scalar};
 

@@ -1,4 +1,6 @@
 // A sheet in one call: store and sheet image are checked once, and its messages are formatted one after the other into the same text and the same list.
+#![tactic(auto)]
+
 mod message;
 
 ghost use Rattle.std.specs.Prelude.{◌≡◌};

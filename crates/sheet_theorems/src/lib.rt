@@ -1,1 +1,2 @@
 // The theorems about sheets: statements in specs/, proofs in proofs/. No code.
+#![tactic(auto)]

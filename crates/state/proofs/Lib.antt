@@ -1,4 +1,3 @@
 -- Laws that the proofs of several functions cite.
-pub mod Cells
 pub mod Laws
 pub mod Listed

@@ -1,4 +1,5 @@
 // How far a formatting has come: sixteen numbers that are lent down the whole of it, and each single step of them; and the Rust's Scope, by value.
+#![tactic(auto)]
 
 ghost use Rattle.std.specs.Prelude.{◌≡◌, true, ◌+◌, ◌<◌, eqb, set};
 ghost use Rattle.state.specs.Progress.{bit, progress_of, scope_of, scoped_s};
@@ -40,7 +41,7 @@ pub const LOCAL_BASE: usize = 14;
 pub const REFUSED: usize = 15;
 
 // The Rust's Scope: the placeables begun, the dirty mark, and a term's arguments.
-#[derive(Drop)]
+#[derive(Clone, Copy)]
 pub struct Scope {
     pub begun: usize,
     pub dirty: bool,
@@ -51,7 +52,7 @@ pub struct Scope {
 }
 
 // A reference's Id and attribute, and the position past them.
-#[derive(Drop)]
+#[derive(Clone, Copy)]
 pub struct Referring {
     pub from: usize,
     pub to: usize,
@@ -60,7 +61,7 @@ pub struct Referring {
     pub end: usize,
 }
 
-#[derive(Drop)]
+#[derive(Clone, Copy)]
 pub enum Reference {
     Is(Referring),
     Bad,

@@ -11,14 +11,14 @@ use buffers::Wrote;
 use records::{write_bytes, write_u16, write_u32};
 
 // What an Overriding record names.
-#[derive(Drop)]
+#[derive(Clone, Copy)]
 pub enum Kind {
     Message,
     Term,
 }
 
 // What a Reference record names.
-#[derive(Drop)]
+#[derive(Clone, Copy)]
 pub enum Referred {
     Message,
     Term,
@@ -27,7 +27,7 @@ pub enum Referred {
 }
 
 // The errors that name nothing.
-#[derive(Drop)]
+#[derive(Clone, Copy)]
 pub enum Plain {
     MissingDefault,
     Cyclic,

@@ -1,4 +1,6 @@
 // Error records written.
+#![tactic(auto)]
+
 pub mod errors;
 
 pub use errors::{

@@ -2,6 +2,8 @@
 //
 // Each function takes every slice whatsoever. The bytes of a pattern are its length and as many as that says; where no length can be read there are
 // none.
+#![tactic(auto)]
+
 ghost use Rattle.std.specs.Prelude.{◌≡◌, [], min};
 ghost use Rattle.decimals.specs.Bytes.{same_bytes};
 ghost use Rattle.resolution.specs.Resolve.{on_trail};

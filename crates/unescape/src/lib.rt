@@ -1,4 +1,6 @@
 // String literals read: the escapes of a text, and the bytes that it reads as.
+#![tactic(auto)]
+
 ghost use Rattle.std.specs.Prelude.{◌≡◌, true, ℕ, ◌+◌, ◌≤◌, ◌<◌, leb, length, drop, get_or};
 ghost use Rattle.buffers.specs.Relations.Append.{over, appended};
 ghost use Rattle.rules.specs.Rules.{hex};
@@ -11,14 +13,14 @@ use rules::is_hex;
 use scalars::{scalar_len, scalar_or};
 
 // The value of hexadecimal digits; or they are not all there.
-#[derive(Drop)]
+#[derive(Clone, Copy)]
 enum Digits {
     Value(u32),
     Broken,
 }
 
 // What stands at a place of a string literal: a byte, or an escape that gives a number; and how many bytes past the first belong to it.
-#[derive(Drop)]
+#[derive(Clone, Copy)]
 enum Piece {
     Byte(u8, usize),
     Scalar(u32, usize),

@@ -1,5 +1,7 @@
 // Values, and the one that was resolved last, in ten numbers that are lent: its kind; where its text stands, or a number's digits, scale, small options and
 // counts; and a position.
+#![tactic(auto)]
+
 ghost use Rattle.std.specs.Prelude.{◌≡◌, true, false, ◌<◌};
 ghost use Rattle.decimals.specs.Decimal.{kind_number, style_number, display_number};
 ghost use Rattle.values.specs.declared.Value.TheVariants as val;
@@ -11,7 +13,7 @@ use decimals::types::{
 use state::flag;
 
 // A value: the Rust's FluentValue. A text is a part of the store, of the arguments image or of the workspace.
-#[derive(Drop)]
+#[derive(Clone, Copy)]
 pub enum Value {
     Store(usize, usize),
     Args(usize, usize),
@@ -22,7 +24,7 @@ pub enum Value {
 }
 
 // A variable's value, or that it is missing.
-#[derive(Drop)]
+#[derive(Clone, Copy)]
 pub enum Local {
     Is(Value),
     Missing,

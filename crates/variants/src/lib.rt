@@ -1,4 +1,6 @@
 // Choosing a variant, on any bytes: the first whose key matches a value, or else the first default, among the variants that can be read.
+#![tactic(auto)]
+
 ghost use Rattle.std.specs.Prelude.{◌≡◌, ◌&&◌, ℕ, ◌-◌, ◌≤◌, length, eqb};
 ghost use Rattle.decimals.specs.Relations.Shown.{told};
 ghost use Rattle.numbers.specs.Value.{textual, numeric};
@@ -18,21 +20,21 @@ use records::{Next, Num, read_byte, read_str, read_u16};
 use walks::skip_pattern;
 
 // A value as keys are compared to it: a text, whose bytes are lent beside it, or a number and its category.
-#[derive(Drop)]
+#[derive(Clone, Copy)]
 enum Sought {
     Text,
     Number(Number, Category),
 }
 
 // A value before its category is known: a text, or a number and the locale.
-#[derive(Drop)]
+#[derive(Clone, Copy)]
 enum Asked {
     Text,
     Number(Number, u8),
 }
 
 // A variant by its positions: the key's kind, where the key begins and ends, the default Flag, where the pattern begins and ends.
-#[derive(Drop)]
+#[derive(Clone, Copy)]
 struct Span {
     kind: usize,
     from: usize,
@@ -42,7 +44,7 @@ struct Span {
     end: usize,
 }
 
-#[derive(Drop)]
+#[derive(Clone, Copy)]
 enum Read {
     Is(Span),
     Bad,

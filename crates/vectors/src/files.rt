@@ -35,7 +35,7 @@ pub fn next_case(fd: i32, buffer: &mut [u8]) -> usize
 }
 
 // Counts, each at a place.
-#[derive(Drop)]
+#[derive(Clone, Copy)]
 pub struct Counts {
     pub n: [u64; 128],
 }

@@ -1,4 +1,6 @@
 // What the programs share that replay the oracle's vectors: the fields of a case, the bytes that a case lends, the files, and the counts.
+#![tactic(auto)]
+
 pub mod compare;
 pub mod fields;
 pub mod files;

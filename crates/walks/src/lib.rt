@@ -2,6 +2,8 @@
 //
 // Each function takes every slice whatsoever, and answers where the outline of the record ends. Where a decoder reads the record, it ends there too
 // (the laws of proofs/Passing).
+#![tactic(auto)]
+
 ghost use Rattle.std.specs.Prelude.{◌≡◌};
 ghost use Rattle.records.specs.Relations.Answer.{next_of};
 ghost use Rattle.walks.specs.Outline.{sized_at, str_outline, many_outline, optional_outline, named_outline, variant_outline, argumentsOutline, expression_outline, element_outline};

@@ -1,4 +1,6 @@
 // The workspace figure: the most bytes of the workspace that were in use at a time.
+#![tactic(auto)]
+
 ghost use Rattle.std.specs.Prelude.{◌≡◌};
 ghost use Rattle.workspace.specs.Use.{highest_now};
 

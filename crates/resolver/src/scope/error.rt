@@ -7,7 +7,7 @@ use records::{Num, read_byte, read_str};
 use state::Reference;
 
 // A part of the words, one of the store, one of the words, one of the store. The words are `{???{-{$.()`.
-#[derive(Drop)]
+#[derive(Clone, Copy)]
 pub(crate) struct Pieces {
     pub head: usize,
     pub head_end: usize,

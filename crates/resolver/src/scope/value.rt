@@ -32,7 +32,7 @@ use workspace::highest;
 use writes::put::has_room;
 
 // A named argument, by positions in the store: its name, and its literal's tag and bytes.
-#[derive(Drop)]
+#[derive(Clone, Copy)]
 pub(crate) struct NamedSpan {
     pub from: usize,
     pub to: usize,
@@ -41,7 +41,7 @@ pub(crate) struct NamedSpan {
     pub end: usize,
 }
 
-#[derive(Drop)]
+#[derive(Clone, Copy)]
 pub(crate) enum NamedRead {
     Is(NamedSpan),
     Bad,

@@ -1,0 +1,24 @@
+-- `literals::literal::one_more` meets its contract, by cases.
+use Rattle.decimals.specs.Decimal.{or_zero}
+use Rattle.literals.specs.Literal.{one_more}
+use Rattle.decimals.specs.Relations.Shown.{told_count}
+use native.Mathlib.Omega.{arith}
+use Rattle.literals.proofs.literal.one_more.Goals as goal
+
+pub overflow_add-result : goal.overflow_add-result
+unfolding told_count or_zero
+overflow_add-result c =
+    let some = c.in-Set.is in
+    omega (arith, rw some at c.requires)
+
+pub returns-in-Unset : goal.returns-in-Unset
+unfolding told_count one_more
+returns-in-Unset c =
+    let none = c.in-Unset.is in
+    rw none
+
+pub returns-in-Set : goal.returns-in-Set
+unfolding told_count one_more
+returns-in-Set c =
+    let some = c.in-Set.is in
+    rw some
