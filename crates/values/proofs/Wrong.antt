@@ -5,10 +5,7 @@ use mathlib.Core.Bool.{Bool, true, false}
 use Prim.Native.Nat.{ℕ}
 use native.Mathlib.Omega.{arith}
 use borrow.Author.Tests.{ne_eqb}
-use types.Run.{OneOf, miss}
-use denote.Enum.Declared.{tag_of}
 use Rattle.decimals.specs.declared.types.Number as CodeNumber
-use Rattle.values.specs.contracts.Value.{the_type}
 use Rattle.values.specs.declared.Value.{Value}
 use Rattle.values.specs.declared.Value.TheVariants.{Store, Args, Work, Number, Nothing, Wrong}
 use Rattle.values.specs.Stored.{is_wrong, value_at}
@@ -41,14 +38,14 @@ unfolding is_wrong
 wrong_yes h = sym (ap is_wrong h)
 
 -- a value of any other kind is not
-pub wrong_else : (v : Value) → OneOf (0 ∷ 1 ∷ 2 ∷ 3 ∷ 4 ∷ []) (tag_of the_type v) → false ≡ is_wrong v
+pub wrong_else : (v : Value) → (v ≡ Wrong → ⊥) → false ≡ is_wrong v
 unfolding is_wrong
 wrong_else (Store a e) k = refl
 wrong_else (Args a e) k = refl
 wrong_else (Work a e) k = refl
 wrong_else (Number n) k = refl
 wrong_else Nothing k = refl
-wrong_else Wrong k = absurd (miss (0 ∷ 1 ∷ 2 ∷ 3 ∷ 4 ∷ []) 5 tt k)
+wrong_else Wrong k = absurd (k refl)
 
 -- a kind that is none of the others is the error
 pub wrong_kind : (k a e : ℕ) (n : CodeNumber.Number) → (k ≡ 1 → ⊥) → (k ≡ 2 → ⊥) → (k ≡ 3 → ⊥) → (k ≡ 4 → ⊥) → (k ≡ 5 → ⊥) → Wrong ≡ value_at k a e n

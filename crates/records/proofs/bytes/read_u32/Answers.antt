@@ -1,0 +1,20 @@
+-- `records::bytes::read_u32` meets its contract.
+use Rattle.records.proofs.Laws.{number_short, number-there, there}
+use native.Mathlib.Omega.{arith}
+use Rattle.records.proofs.bytes.read_u32.Goals as goal
+
+pub four-requires : goal.four-requires
+four-requires c =
+    let inside = there c.args.s.now c.args.at 4 c.has_bytes.ensures c.if-has_bytes.true in
+    inside
+
+pub overflow_add-result : goal.overflow_add-result
+overflow_add-result c =
+    let inside = there c.args.s.now c.args.at 4 c.has_bytes.ensures c.if-has_bytes.true in
+    let h = inside in omega arith
+
+pub returns-then-has_bytes : goal.returns-then-has_bytes
+returns-then-has_bytes c = number-there c.args.s.now c.args.at 4 c.has_bytes.ensures c.if-has_bytes.true c.four.ensures.0
+
+pub returns : goal.returns
+returns c = number_short c.args.s.now c.args.at 4 c.has_bytes.ensures c.if-has_bytes.false
