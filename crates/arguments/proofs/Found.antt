@@ -19,28 +19,28 @@ use Rattle.rules.specs.Rules.{is_utf8}
 use Rattle.records.specs.Images.{Argument, argument_value_at}
 use Rattle.arguments.specs.Relations.Given.{meant, Within}
 use Rattle.arguments.specs.Relations.Outline.{number_given, text_given, value_given, row_at, read_or, given_from}
-use Rattle.records.proofs.Laws.{after-elim, got_elim, span-in, byte_inv, number_inv, number_in, bytes-in, bytes-out}
+use Rattle.records.proofs.Laws.{after_elim, got_elim, span_in, byte_inv, number_inv, number_in, bytes_in, bytes_out}
 use Rattle.records.proofs.Views.{pick_elim, as_elim, num_is, num_none, ruled_elim, flag_elim}
 use Rattle.arguments.proofs.Laws.{between_in}
 use Rattle.arguments.proofs.Views.{argument_value_elim, argument_number_elim}
 
 -- a value by its tag
 module _ (s : List ℕ) (at : ℕ) {r : Num} (is : r ≡ num_of (byte_at s at)) where
-  pub value-bad : r ≡ num.Bad → value_given s at ≡ bad
+  pub value_bad : r ≡ num.Bad → value_given s at ≡ bad
   unfolding value_given after
-  value-bad h = rw (num_none is h)
+  value_bad h = rw (num_none is h)
 
-  pub value-text : {tag p : ℕ} → r ≡ num.At tag p → tag ≡ 1 → value_given s at ≡ text_given s p
+  pub value_text_law : {tag p : ℕ} → r ≡ num.At tag p → tag ≡ 1 → value_given s at ≡ text_given s p
   unfolding value_given after pick
-  value-text {tag} h i = rw (num_is is h, eq-eqb tag 1 i)
+  value_text_law {tag} h i = rw (num_is is h, eq-eqb tag 1 i)
 
-  pub value-number : {tag p : ℕ} → r ≡ num.At tag p → tag ≡ 2 → value_given s at ≡ number_given s p
+  pub value_number : {tag p : ℕ} → r ≡ num.At tag p → tag ≡ 2 → value_given s at ≡ number_given s p
   unfolding value_given after pick
-  value-number {tag} h i = rw (num_is is h, ne_eqb tag 1 (λ z. omega arith), eq-eqb tag 2 i)
+  value_number {tag} h i = rw (num_is is h, ne_eqb tag 1 (λ z. omega arith), eq-eqb tag 2 i)
 
-  pub value-nothing : {tag p : ℕ} → r ≡ num.At tag p → (tag ≡ 1 → ⊥) → (tag ≡ 2 → ⊥) → value_given s at ≡ got goal.Nothing p
+  pub value_nothing : {tag p : ℕ} → r ≡ num.At tag p → (tag ≡ 1 → ⊥) → (tag ≡ 2 → ⊥) → value_given s at ≡ got goal.Nothing p
   unfolding value_given after pick
-  value-nothing {tag} h i j = rw (num_is is h, ne_eqb tag 1 i, ne_eqb tag 2 j)
+  value_nothing {tag} h i j = rw (num_is is h, ne_eqb tag 1 i, ne_eqb tag 2 j)
 
 -- two readings of the same bytes end alike
 pub ends_alike : {A B C : Type 0} (g : Got A) (f : A → ℕ → B) (h : A → ℕ → C) → next_of (after g (λ a e. got (f a e) e)) ≡ next_of (after g (λ a e. got (h a e) e))
@@ -54,13 +54,13 @@ text_ends s at = ends_alike (span_at s at) (λ p e. part s p (e - p)) (λ p e. g
 
 -- a text by its Str
 module _ (s : List ℕ) (at : ℕ) where
-  pub text-bad : span_at s at ≡ bad → text_given s at ≡ bad
+  pub text_bad : span_at s at ≡ bad → text_given s at ≡ bad
   unfolding text_given after
-  text-bad h = rw h
+  text_bad h = rw h
 
-  pub text-is : {a e : ℕ} → span_at s at ≡ got a e → text_given s at ≡ got (goal.Text a e) e
+  pub text_is : {a e : ℕ} → span_at s at ≡ got a e → text_given s at ≡ got (goal.Text a e) e
   unfolding text_given after
-  text-is h = rw h
+  text_is h = rw h
 
 byte_in : (s : List ℕ) (at : ℕ) → at < length s → byte_at s at ≡ got (get_or s at 0) (at + 1)
 unfolding byte_at test
@@ -72,18 +72,18 @@ byte_out s at h = rw (le-ltb at (length s) h)
 
 -- a number by its parts
 module _ (s : List ℕ) (at : ℕ) where
-  pub number-bad : byte_at s at ≡ bad → number_given s at ≡ bad
+  pub number_bad : byte_at s at ≡ bad → number_given s at ≡ bad
   unfolding number_given after
-  number-bad h = rw h
+  number_bad h = rw h
 
   module _ {f p : ℕ} (hf : byte_at s at ≡ got f p) where
-    pub digits-bad : number_at 8 s p ≡ bad → number_given s at ≡ bad
+    pub digits_bad : number_at 8 s p ≡ bad → number_given s at ≡ bad
     unfolding number_given after
-    digits-bad h = rw (hf, h)
+    digits_bad h = rw (hf, h)
 
-    pub scale-bad : {d q : ℕ} → number_at 8 s p ≡ got d q → length s ≤ q → number_given s at ≡ bad
+    pub scale_bad : {d q : ℕ} → number_at 8 s p ≡ got d q → length s ≤ q → number_given s at ≡ bad
     unfolding number_given after
-    scale-bad {q = q} h l = rw (hf, h, byte_out s q l)
+    scale_bad {q = q} h l = rw (hf, h, byte_out s q l)
 
     pub number_is : {d q : ℕ} → number_at 8 s p ≡ got d q → q < length s → number_given s at ≡ got (goal.Number (eqb f 1) d (get_or s q 0)) (q + 1)
     unfolding number_given after
@@ -93,8 +93,8 @@ module _ (s : List ℕ) (at : ℕ) where
   unfolding number_given
   number_out bad w l = refl
   number_out (got v e) w l =
-      after-elim (byte_at s at) _ w (λ f p hf h.
-      after-elim (number_at 8 s p) _ h (λ d q hd h.
+      after_elim (byte_at s at) _ w (λ f p hf h.
+      after_elim (number_at 8 s p) _ h (λ d q hd h.
       as_elim _ (byte_at s q) h (λ k hk _.
       let ep = (byte_inv s at hf).2 in
       let eq = (number_inv s 8 p hd).1 in
@@ -102,18 +102,18 @@ module _ (s : List ℕ) (at : ℕ) where
       absurd (omega arith))))
 
   -- it is ten bytes
-  pub number-ends : next_of (bytes_at 10 s at) ≡ next_of (number_given s at)
+  pub number_ends : next_of (bytes_at 10 s at) ≡ next_of (number_given s at)
   unfolding next_of
-  number-ends = go (leb (at + 10) (length s)) refl
+  number_ends = go (leb (at + 10) (length s)) refl
     where
       go : (t : Bool) → leb (at + 10) (length s) ≡ t → next_of (bytes_at 10 s at) ≡ next_of (number_given s at)
       go true t =
           let l = leb-true (at + 10) (length s) t in
           let e : at + 1 + 8 + 1 ≡ at + 10 = omega arith in
-          rw (bytes-in s at 10 l, number_is (byte_in s at (omega arith)) (number_in s (at + 1) 8 (omega arith)) (omega arith), e)
+          rw (bytes_in s at 10 l, number_is (byte_in s at (omega arith)) (number_in s (at + 1) 8 (omega arith)) (omega arith), e)
       go false t =
           let l = leb-false (at + 10) (length s) t in
-          rw (bytes-out s at 10 (omega arith), number_out (number_given s at) refl (omega arith))
+          rw (bytes_out s at 10 (omega arith), number_out (number_given s at) refl (omega arith))
 
 -- what the code answers for a value
 pub given_bad : {g : Got Given} → g ≡ bad → goal.Missing ≡ given_from g
@@ -131,7 +131,7 @@ value_means s at {a} {e} h =
     argument_value_elim s at h
     (λ p t hb ht w.
     ruled_elim is_utf8 s p ht (λ q hs et _.
-    let k = span-in s p hs in
+    let k = span_in s p hs in
     (goal.Text q e, rw (hb, hs), ap some (ap Argument.string (between_in s q e k.0 k.1 ∙ sym et) ∙ sym w))))
     (λ p hb hn.
     argument_number_elim s p hn (λ f q d r k hf hd _ hk _ w.
@@ -143,13 +143,13 @@ value_means s at {a} {e} h =
 value_within : (s : List ℕ) (at : ℕ) {v : Given} {e : ℕ} → value_given s at ≡ got v e → Within s v
 unfolding value_given text_given number_given Within
 value_within s at h =
-    after-elim (byte_at s at) _ h (λ t p _ h.
+    after_elim (byte_at s at) _ h (λ t p _ h.
     pick_elim _ _ _ h
-    (λ _ h. after-elim (span_at s p) _ h (λ a i hs h. got_elim h (λ x y. subst (Within s) x (span-in s p hs))))
+    (λ _ h. after_elim (span_at s p) _ h (λ a i hs h. got_elim h (λ x y. subst (Within s) x (span_in s p hs))))
     (λ _ h. pick_elim _ _ _ h
-    (λ _ h. after-elim (byte_at s p) _ h (λ f q _ h. after-elim (number_at 8 s q) _ h (λ d r _ h. as_elim _ (byte_at s r) h (λ k _ w. subst (Within s) (sym w) tt))))
+    (λ _ h. after_elim (byte_at s p) _ h (λ f q _ h. after_elim (number_at 8 s q) _ h (λ d r _ h. as_elim _ (byte_at s r) h (λ k _ w. subst (Within s) (sym w) tt))))
     (λ _ h. got_elim h (λ x _. subst (Within s) x tt))))
 
 pub row_within : (s : List ℕ) (at : ℕ) {a : List ℕ × Given} {e : ℕ} → row_at s at ≡ got a e → Within s a.1
 unfolding row_at
-row_within s at h = after-elim (str_at s at) _ h (λ n p _ h. as_elim _ _ h (λ v hv w. subst (λ (y : List ℕ × Given). Within s y.1) (sym w) (value_within s p hv)))
+row_within s at h = after_elim (str_at s at) _ h (λ n p _ h. as_elim _ _ h (λ v hv w. subst (λ (y : List ℕ × Given). Within s y.1) (sym w) (value_within s p hv)))

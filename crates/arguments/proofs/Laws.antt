@@ -15,13 +15,13 @@ module _ (s : List ℕ) (a e : ℕ) where
   unfolding between between_if
   between_in h k = rw (le-leb a e h, le-leb e (length s) k)
 
-  pub between-after : e < a → between s a e ≡ []
+  pub between_after : e < a → between s a e ≡ []
   unfolding between between_if
-  between-after h = rw (lt-leb a e h)
+  between_after h = rw (lt-leb a e h)
 
-  pub between-past : length s < e → between s a e ≡ []
+  pub between_past : length s < e → between s a e ≡ []
   unfolding between between_if
-  between-past h = go (leb a e)
+  between_past h = go (leb a e)
     where
       go : (t : Bool) → between_if (t && leb e (length s)) s a e ≡ []
       go true = rw (lt-leb e (length s) h)

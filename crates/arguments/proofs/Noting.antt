@@ -55,20 +55,20 @@ step_next : (place n : ℕ) → (place + 1) * step_of n ≡ place * step_of n + 
 step_next place n = add-mul place 1 (step_of n) ∙ ap (λ (i : ℕ). place * step_of n + i) (one-mul (step_of n))
 
 module _ {s : List ℕ} {from n : ℕ} {places : List ℕ} {at left last : ℕ} {fine : Bool} {place : ℕ} (inv : Noting s from n places at left last fine place) where
-  pub noting-room : 0 < left → place < 256
-  noting-room z = below place 256 (step_of n) (omega (arith, inv.rest))
+  pub noting_room : 0 < left → place < 256
+  noting_room z = below place 256 (step_of n) (omega (arith, inv.rest))
 
-  pub noting-end : left ≤ 0 → {r : Run} → r ≡ run.Is (record { at = at; last = last; fine = fine }) → (r ≡ run_from n s from (length s) true) × Notes s from n places r
+  pub noting_end : left ≤ 0 → {r : Run} → r ≡ run.Is (record { at = at; last = last; fine = fine }) → (r ≡ run_from n s from (length s) true) × Notes s from n places r
   unfolding Notes PlacesOf
-  noting-end z {r} e = (e ∙ run_end s left at last fine inv.whole z, subst (Notes s from n places) (sym e) (λ j h. inv.noted j (below j place (step_of n) (omega (arith, inv.rest)))))
+  noting_end z {r} e = (e ∙ run_end s left at last fine inv.whole z, subst (Notes s from n places) (sym e) (λ j h. inv.noted j (below j place (step_of n) (omega (arith, inv.rest)))))
 
   module _ (z : 0 < left) {m : ℕ} (hm : m ≡ min (step_of n) left) {r : Run} (is : r ≡ run_from m s at last fine) where
     parted : run_from n s from (length s) true ≡ then r (λ c. run_from (left - m) s c.at c.last c.fine)
     parted = sym inv.whole ∙ run_split m (left - m) left s at last fine (omega arith) ∙ ap (λ (x : Run). then x (λ c. run_from (left - m) s c.at c.last c.fine)) (sym is)
 
-    pub noting-stop : (q : List ℕ) {x : Run} → r ≡ run.Bad → x ≡ run.Bad → (x ≡ run_from n s from (length s) true) × Notes s from n q x
+    pub noting_stop : (q : List ℕ) {x : Run} → r ≡ run.Bad → x ≡ run.Bad → (x ≡ run_from n s from (length s) true) × Notes s from n q x
     unfolding then Notes
-    noting-stop q {x} h e = (e ∙ sym (parted ∙ ap (λ (y : Run). then y (λ c. run_from (left - m) s c.at c.last c.fine)) h), subst (Notes s from n q) (sym e) tt)
+    noting_stop q {x} h e = (e ∙ sym (parted ∙ ap (λ (y : Run). then y (λ c. run_from (left - m) s c.at c.last c.fine)) h), subst (Notes s from n q) (sym e) tt)
 
     module _ {c : Checked} (h : r ≡ run.Is c) {q : List ℕ} (set_is : q ≡ set places place at) (long : length places ≡ 256) where
       -- where the run ends, if it is a whole one
@@ -82,9 +82,9 @@ module _ {s : List ℕ} {from n : ℕ} {places : List ℕ} {at left last : ℕ} 
           same : (i : ℕ) (b : Bool) {e : ℕ} → run.Is c ≡ run.Is (record { at = e; last = i; fine = b }) → c.at ≡ e
           same i b u = cc
 
-      pub noting-turn : {i j k : ℕ} {b : Bool} → i ≡ c.at → j ≡ c.last → b ≡ c.fine → k ≡ left - m → Noting s from n q i k j b (place + 1)
+      pub noting_turn : {i j k : ℕ} {b : Bool} → i ≡ c.at → j ≡ c.last → b ≡ c.fine → k ≡ left - m → Noting s from n q i k j b (place + 1)
       unfolding then
-      noting-turn {i} {j} {k} {b} ei ej eb ek = record {
+      noting_turn {i} {j} {k} {b} ei ej eb ek = record {
         whole = rw (ei, ej, eb, ek) (sym (parted ∙ ap (λ (y : Run). then y (λ c. run_from (left - m) s c.at c.last c.fine)) h));
         rest = omega (arith, inv.rest, step_next place n);
         noted = λ p lt. go p lt (eqb p place) refl;
@@ -97,7 +97,7 @@ module _ {s : List ℕ} {from n : ℕ} {places : List ℕ} {at left last : ℕ} 
           go : (p : ℕ) → p < place + 1 → (t : Bool) → eqb p place ≡ t → PlaceIs s from n p (get_or q p 0)
           go p lt true e =
               let w : p ≡ place = eqb-true p place e in
-              let y : get_or q p 0 ≡ at = ap (λ (o : List ℕ). get_or o p 0) set_is ∙ ap (λ (o : ℕ). get_or (set places place at) o 0) w ∙ get_or-set_same places place at 0 (omega (arith, noting-room z)) in
+              let y : get_or q p 0 ≡ at = ap (λ (o : List ℕ). get_or o p 0) set_is ∙ ap (λ (o : ℕ). get_or (set places place at) o 0) w ∙ get_or-set_same places place at 0 (omega (arith, noting_room z)) in
               λ l f hl. y ∙ inv.here z l f (subst (λ (o : ℕ). many [] ◌∷◌ (o * step_of n) argument_at s from ≡ got l f) w hl)
           go p lt false e =
               let y : get_or q p 0 ≡ get_or places p 0 = ap (λ (o : List ℕ). get_or o p 0) set_is ∙ get_or-set_other places place p at 0 (eqb-false p place e) in

@@ -23,7 +23,7 @@ use Rattle.records.specs.Decode.{many}
 use Rattle.records.specs.Images.{Argument, argument_at}
 use Rattle.records.specs.Names.{first_named}
 use Rattle.records.proofs.First.{named_here, named_past}
-use Rattle.records.proofs.Views.{num_is, num_none, str-is, str-bad, id_str, many-cons, many-nil}
+use Rattle.records.proofs.Views.{num_is, num_none, str_is, str_bad, id_str, many_cons, many_nil}
 use Rattle.order.specs.Order.{before}
 use Rattle.order.specs.Accepted.{leads, ascending, in_order, accepted, judge}
 use Rattle.order.specs.Relations.Compared.{order_if, order_of}
@@ -34,7 +34,7 @@ use Rattle.arguments.specs.Relations.Given.{meant, Within}
 use Rattle.arguments.specs.Relations.Outline.{readable, or_missing, sought_by, sought}
 use Rattle.arguments.specs.Relations.Places.{step_of, PlacesOf, Noted, is_past, is_above, MayBegin, FoundBy, no_count, from_place}
 use Rattle.arguments.proofs.Views.{argument_elim, arguments_image_elim}
-use Rattle.arguments.proofs.Sought.{sought_from, sought-within, sought-means}
+use Rattle.arguments.proofs.Sought.{sought_from, sought_within, sought_means}
 
 abbrev Pairs : Type 0
 Pairs = List (List ℕ × Argument)
@@ -45,7 +45,7 @@ pub many_split : (s : List ℕ) (a b n at : ℕ) → n ≡ a + b → {l : Pairs}
 unfolding many after
 many_split s zero b n at q {l} {f} h = let e : n ≡ b = omega arith in (at, refl, subst (λ (i : ℕ). many [] ◌∷◌ i argument_at s at ≡ got l f) e h)
 many_split s (suc a) b n at q {l} {f} h =
-    many-cons [] ◌∷◌ argument_at s n at (omega arith) h (λ x i t hx ht w.
+    many_cons [] ◌∷◌ argument_at s n at (omega arith) h (λ x i t hx ht w.
     let k = many_split s a b (n - 1) i (omega arith) ht in
     (k.0, rw (hx, k.1, w), subst (λ (m : Pairs). many [] ◌∷◌ b argument_at s k.0 ≡ got (drop (suc a) m) f) (sym w) k.2))
 
@@ -116,22 +116,22 @@ or_false true u h = absurd (false≢true (sym h))
 
 -- what is past, and what is above, by the code's tests
 module _ (s : List ℕ) (at : ℕ) (name : List ℕ) {r : Num} (is : r ≡ num_of (span_at s at)) where
-  pub past-none : r ≡ num.Bad → true ≡ is_past (str_at s at) name
+  pub past_none : r ≡ num.Bad → true ≡ is_past (str_at s at) name
   unfolding is_past
-  past-none h = rw (str-bad s at is h)
+  past_none h = rw (str_bad s at is h)
 
-  pub past-name : {p e : ℕ} → r ≡ num.At p e → {b : Bool} → b ≡ before name (part s p (e - p)) → b ≡ is_past (str_at s at) name
+  pub past_name : {p e : ℕ} → r ≡ num.At p e → {b : Bool} → b ≡ before name (part s p (e - p)) → b ≡ is_past (str_at s at) name
   unfolding is_past
-  past-name h w = w ∙ ap (λ (g : Got (List ℕ)). is_past g name) (sym (str-is s at is h))
+  past_name h w = w ∙ ap (λ (g : Got (List ℕ)). is_past g name) (sym (str_is s at is h))
 
 module _ (s places : List ℕ) (n : ℕ) (name : List ℕ) (j : ℕ) where
-  pub above-beyond : n ≤ j * step_of n → true ≡ is_above s places n name j
+  pub above_beyond : n ≤ j * step_of n → true ≡ is_above s places n name j
   unfolding is_above
-  above-beyond h = rw (le-leb n (j * step_of n) h)
+  above_beyond h = rw (le-leb n (j * step_of n) h)
 
-  pub above-there : j * step_of n < n → {b : Bool} → b ≡ is_past (str_at s (get_or places j 0)) name → b ≡ is_above s places n name j
+  pub above_there : j * step_of n < n → {b : Bool} → b ≡ is_past (str_at s (get_or places j 0)) name → b ≡ is_above s places n name j
   unfolding is_above
-  above-there h e = e ∙ rw (lt-leb n (j * step_of n) h)
+  above_there h e = e ∙ rw (lt-leb n (j * step_of n) h)
 
 -- a place times a step fits 64 bits
 pub product_fits : (n j : ℕ) → n < 18446744073709551616 → j < 256 → j * step_of n < 18446744073709551616
@@ -151,22 +151,22 @@ low_fits {s} {places} {n} {name} {j} low h = product_fits n j h (low_in s places
 
 module _ (s places name : List ℕ) (n : ℕ) {l : Pairs} {f : ℕ} (hm : many [] ◌∷◌ n argument_at s 7 ≡ got l f) (up : ascending l ≡ true) (pl : PlacesOf s 7 n places) where
   -- the arguments from a place on
-  place-on : (j : ℕ) → j * step_of n < n → many [] ◌∷◌ (n - j * step_of n) argument_at s (get_or places j 0) ≡ got (drop (j * step_of n) l) f
+  place_on : (j : ℕ) → j * step_of n < n → many [] ◌∷◌ (n - j * step_of n) argument_at s (get_or places j 0) ≡ got (drop (j * step_of n) l) f
   unfolding PlacesOf
-  place-on j h =
+  place_on j h =
       let k = many_split s (j * step_of n) (n - j * step_of n) n 7 (omega arith) hm in
       subst (λ (i : ℕ). many [] ◌∷◌ (n - j * step_of n) argument_at s i ≡ got (drop (j * step_of n) l) f) (sym (pl j h (take (j * step_of n) l) k.0 k.1)) k.2
 
   found_from : (j : ℕ) → j * step_of n < n → first_named name l ≡ first_named name (drop (j * step_of n) l) → meant s (sought_from s name (n - j * step_of n) (get_or places j 0)) ≡ first_named name l
   found_from j h e =
-      sought-means s name (n - j * step_of n) (get_or places j 0) (place-on j h)
+      sought_means s name (n - j * step_of n) (get_or places j 0) (place_on j h)
       ∙ sought_first name (drop (j * step_of n) l) (ascending_drop (j * step_of n) l up)
       ∙ sym e
 
-  none-given : (c at : ℕ) → c ≤ 0 → meant s (sought_from s name c at) ≡ none
+  none_given : (c at : ℕ) → c ≤ 0 → meant s (sought_from s name c at) ≡ none
   unfolding readable sought or_missing meant
-  none-given zero at z = refl
-  none-given (suc c) at z = absurd (omega arith)
+  none_given zero at z = refl
+  none_given (suc c) at z = absurd (omega arith)
 
   found_first : (j : ℕ) → j ≡ 0 → meant s (sought_from s name (n - j * step_of n) (get_or places j 0)) ≡ first_named name l
   unfolding first_named
@@ -180,16 +180,16 @@ module _ (s places name : List ℕ) (n : ℕ) {l : Pairs} {f : ℕ} (hm : many [
 
       go : (m : ℕ) → n ≡ m → meant s (sought_from s name (n - j * step_of n) (get_or places j 0)) ≡ first_named name l
       go zero z =
-          many-nil [] ◌∷◌ argument_at s n 7 (omega arith) hm (λ w _.
-          none-given (n - j * step_of n) (get_or places j 0) (omega arith) ∙ sym (ap (first_named name) w ∙ nothing))
+          many_nil [] ◌∷◌ argument_at s n 7 (omega arith) hm (λ w _.
+          none_given (n - j * step_of n) (get_or places j 0) (omega arith) ∙ sym (ap (first_named name) w ∙ nothing))
       go (suc m) z = found_from j (omega (arith, zeroed)) (ap (λ (d : ℕ). first_named name (drop d l)) (sym zeroed))
 
-  found-place : {j : ℕ} → MayBegin s places n name j → meant s (sought_from s name (n - j * step_of n) (get_or places j 0)) ≡ first_named name l
+  found_place : {j : ℕ} → MayBegin s places n name j → meant s (sought_from s name (n - j * step_of n) (get_or places j 0)) ≡ first_named name l
   unfolding is_past
-  found-place {j} (MayBegin.first e) = found_first j e
-  found-place {j} (MayBegin.further k h) =
+  found_place {j} (MayBegin.first e) = found_first j e
+  found_place {j} (MayBegin.further k h) =
       let w = above_not s places n name j h in
-      many-cons [] ◌∷◌ argument_at s (n - j * step_of n) (get_or places j 0) (omega (arith, w.0)) (place-on j w.0) (λ a e t ha ht q.
+      many_cons [] ◌∷◌ argument_at s (n - j * step_of n) (get_or places j 0) (omega (arith, w.0)) (place_on j w.0) (λ a e t ha ht q.
       argument_elim s (get_or places j 0) ha (λ m p v hi hv wa.
       let past : before name a.0 ≡ false = ap (λ (y : List ℕ × Argument). before name y.0) wa ∙ subst (λ (g : Got (List ℕ)). is_past g name ≡ false) (id_str s (get_or places j 0) hi) w.1 in
       found_from j w.0 (drop_named name (j * step_of n) l up a t q past)))
@@ -207,20 +207,20 @@ module _ {s places name : List ℕ} where
   pub found_within : {g : Given} → FoundBy s places name g → Within s g
   unfolding Within
   found_within (no_count h e) = subst (Within s) (sym e) tt
-  found_within (from_place n f j h low e) = subst (Within s) (sym e) (sought-within s name (n - j * step_of n) (get_or places j 0))
+  found_within (from_place n f j h low e) = subst (Within s) (sym e) (sought_within s name (n - j * step_of n) (get_or places j 0))
 
   -- where the image is accepted and its places are noted, what is found is what the definition says
-  pub found-means : {g : Given} → FoundBy s places name g → Noted s places → (l : Pairs) → judge s ≡ accepted l → meant s g ≡ first_named name l
+  pub found_means : {g : Given} → FoundBy s places name g → Noted s places → (l : Pairs) → judge s ≡ accepted l → meant s g ≡ first_named name l
   unfolding in_order Noted
-  found-means {g} (no_count h e) noted l a = arguments_image_elim s (accepted_read s l a).1 (λ k hk hm. absurd (no k (sym h ∙ hk)))
+  found_means {g} (no_count h e) noted l a = arguments_image_elim s (accepted_read s l a).1 (λ k hk hm. absurd (no k (sym h ∙ hk)))
     where
       no : (k : ℕ) → bad ≡ got k 7 → ⊥
       no k e = let z : ◌≡◌ {A = ℕ} 0 1 = cc in omega arith
-  found-means {g} (from_place n f j h low e) noted l a =
+  found_means {g} (from_place n f j h low e) noted l a =
       let w = accepted_read s l a in
       arguments_image_elim s w.1 (λ k hk hm.
       let q : k ≡ n = same k (sym hk ∙ h) in
-      ap (meant s) e ∙ found-place s places name n (subst (λ (i : ℕ). many [] ◌∷◌ i argument_at s 7 ≡ got l w.0) q hm) (and_true _ _ w.2).0 (noted n (subst (λ (i : ℕ). number_at 2 s 5 ≡ got i 7) q hk)) low)
+      ap (meant s) e ∙ found_place s places name n (subst (λ (i : ℕ). many [] ◌∷◌ i argument_at s 7 ≡ got l w.0) q hm) (and_true _ _ w.2).0 (noted n (subst (λ (i : ℕ). number_at 2 s 5 ≡ got i 7) q hk)) low)
     where
       same : (k : ℕ) → got k 7 ≡ got n f → k ≡ n
       same k e = cc

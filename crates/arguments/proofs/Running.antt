@@ -22,8 +22,8 @@ use Rattle.records.specs.Relations.Answer.{next_of, num_of}
 use Rattle.records.specs.Bytes.{part, byte_at, number_at, span_at, str_at}
 use Rattle.records.specs.Decode.{many}
 use Rattle.records.specs.Images.{Argument, argument_at}
-use Rattle.records.proofs.Laws.{after-elim, got_elim, byte_inv, number_inv, next-end}
-use Rattle.records.proofs.Views.{pick_elim, next_is, next_none, str-is, str-bad, id_str, many-cons, many-nil}
+use Rattle.records.proofs.Laws.{after_elim, got_elim, byte_inv, number_inv, next_end}
+use Rattle.records.proofs.Views.{pick_elim, next_is, next_none, str_is, str_bad, id_str, many_cons, many_nil}
 use Rattle.order.specs.Order.{before}
 use Rattle.order.specs.Accepted.{leads, ascending, is_least, all_least, in_order}
 use Rattle.arguments.specs.Relations.Given.{meant, between}
@@ -44,7 +44,7 @@ run_ends (suc n) s at last fine = go (argument_at s at) (λ e. run_ends n s e at
   where
     go : (g : Got (List ℕ × Argument)) → ((e : ℕ) → end_of (run_from n s e at (fine && stands_after s last at)) ≡ next_of (many [] ◌∷◌ n argument_at s e))
         → end_of (read_or run.Bad g (λ a e. run_from n s e at (fine && stands_after s last at))) ≡ next_of (after g (λ a e. after (many [] ◌∷◌ n argument_at s e) (λ l f. got (a ∷ l) f)))
-    go (got a e) ih = ih e ∙ next-end (λ (l : List (List ℕ × Argument)). a ∷ l) (many [] ◌∷◌ n argument_at s e) refl
+    go (got a e) ih = ih e ∙ next_end (λ (l : List (List ℕ × Argument)). a ∷ l) (many [] ◌∷◌ n argument_at s e) refl
     go bad ih = refl
 
 -- one more argument, and none
@@ -58,17 +58,17 @@ module _ (s : List ℕ) (left at last : ℕ) (fine : Bool) {y : Run} (inv : run_
       go (suc n) z = absurd (omega arith)
 
   module _ (z : 0 < left) {r : Next} (is : r ≡ next_of (argument_at s at)) where
-    pub run-stop : r ≡ next.Bad → run.Bad ≡ y
+    pub run_stop : r ≡ next.Bad → run.Bad ≡ y
     unfolding run_from read_or
-    run-stop h = go left z ∙ inv
+    run_stop h = go left z ∙ inv
       where
         go : (n : ℕ) → 0 < n → run.Bad ≡ run_from n s at last fine
         go zero z = absurd (omega arith)
         go (suc n) z = rw (next_none is h)
 
-    pub run-turn : {e : ℕ} → r ≡ next.At e → {b : Bool} → b ≡ fine && stands_after s last at → run_from (left - 1) s e at b ≡ y
+    pub run_turn : {e : ℕ} → r ≡ next.At e → {b : Bool} → b ≡ fine && stands_after s last at → run_from (left - 1) s e at b ≡ y
     unfolding run_from read_or
-    run-turn {e} h {b} q = next_is is h (λ a ha. go a ha left z ∙ inv)
+    run_turn {e} h {b} q = next_is is h (λ a ha. go a ha left z ∙ inv)
       where
         go : (a : List ℕ × Argument) → argument_at s at ≡ got a e → (n : ℕ) → 0 < n → run_from (n - 1) s e at b ≡ run_from n s at last fine
         go a ha zero z = absurd (omega arith)
@@ -99,21 +99,21 @@ run_split (suc a) b n s at last fine e = go n e (λ m i q. run_split a b m s i a
 
 -- a value by its variant: only a number can have a longer scale
 module _ {v w : Given} (is : v ≡ w) where
-  pub least-number : {f : Bool} {d k : ℕ} → v ≡ goal.Number f d k → {b : Bool} → b ≡ is_least (Argument.number f d k) → b ≡ least_given w
+  pub least_number : {f : Bool} {d k : ℕ} → v ≡ goal.Number f d k → {b : Bool} → b ≡ is_least (Argument.number f d k) → b ≡ least_given w
   unfolding least_given
-  least-number h e = e ∙ ap least_given (sym h ∙ is)
+  least_number h e = e ∙ ap least_given (sym h ∙ is)
 
-  pub least-missing : v ≡ goal.Missing → true ≡ least_given w
+  pub least_missing : v ≡ goal.Missing → true ≡ least_given w
   unfolding least_given
-  least-missing h = ap least_given (sym h ∙ is)
+  least_missing h = ap least_given (sym h ∙ is)
 
-  pub least-text : {a e : ℕ} → v ≡ goal.Text a e → true ≡ least_given w
+  pub least_text : {a e : ℕ} → v ≡ goal.Text a e → true ≡ least_given w
   unfolding least_given
-  least-text h = ap least_given (sym h ∙ is)
+  least_text h = ap least_given (sym h ∙ is)
 
-  pub least-nothing : v ≡ goal.Nothing → true ≡ least_given w
+  pub least_nothing : v ≡ goal.Nothing → true ≡ least_given w
   unfolding least_given
-  least-nothing h = ap least_given (sym h ∙ is)
+  least_nothing h = ap least_given (sym h ∙ is)
 
 pub least_whole : (f : Bool) (d k : ℕ) → k ≡ 0 → true ≡ is_least (Argument.number f d k)
 unfolding is_least
@@ -129,14 +129,14 @@ value_cases : {C : Type 0} (s : List ℕ) (at : ℕ) (g : Got Given) → value_g
 unfolding value_given text_given number_given given_from read_or least_given
 value_cases s at bad h c n = c refl
 value_cases s at (got v e) h c n =
-    after-elim (byte_at s at) _ h (λ t p hb h.
+    after_elim (byte_at s at) _ h (λ t p hb h.
     pick_elim _ _ _ h
-    (λ _ h. after-elim (span_at s p) _ h (λ a i hs h. got_elim h (λ x y. c (ap least_given (sym x)))))
+    (λ _ h. after_elim (span_at s p) _ h (λ a i hs h. got_elim h (λ x y. c (ap least_given (sym x)))))
     (λ _ h. pick_elim _ _ _ h
     (λ two h.
-    after-elim (byte_at s p) _ h (λ f q hf h.
-    after-elim (number_at 8 s q) _ h (λ d r hd h.
-    after-elim (byte_at s r) _ h (λ k i hk h. got_elim h (λ x y.
+    after_elim (byte_at s p) _ h (λ f q hf h.
+    after_elim (number_at 8 s q) _ h (λ d r hd h.
+    after_elim (byte_at s r) _ h (λ k i hk h. got_elim h (λ x y.
     let tb = byte_inv s at hb in
     let fb = byte_inv s p hf in
     let db = number_inv s 8 q hd in
@@ -147,57 +147,57 @@ value_cases s at (got v e) h c n =
 
 -- a value without a scale
 module _ (s : List ℕ) (at : ℕ) where
-  scale-none : at + 10 < length s → get_or s at 0 ≡ 2 → is_whole s at ≡ true → get_or s (at + 10) 0 ≡ 0
+  scale_none : at + 10 < length s → get_or s at 0 ≡ 2 → is_whole s at ≡ true → get_or s (at + 10) 0 ≡ 0
   unfolding is_whole
-  scale-none lt two h = eqb-true (get_or s (at + 10) 0) 0 (rw (lt-leb (length s) (at + 10) lt, eq-eqb (get_or s at 0) 2 two) at h)
+  scale_none lt two h = eqb-true (get_or s (at + 10) 0) 0 (rw (lt-leb (length s) (at + 10) lt, eq-eqb (get_or s at 0) 2 two) at h)
 
-  whole-number : (f : Bool) (d k e : ℕ) → k ≡ 0 → least_given (given_from (got (goal.Number f d k) e)) ≡ true
+  whole_number : (f : Bool) (d k e : ℕ) → k ≡ 0 → least_given (given_from (got (goal.Number f d k) e)) ≡ true
   unfolding given_from read_or least_given
-  whole-number f d k e z = sym (least_whole f d k z)
+  whole_number f d k e z = sym (least_whole f d k z)
 
-  pub whole-least : {b : Bool} → b ≡ is_whole s at → b ≡ true → true ≡ least_given (given_from (value_given s at))
-  whole-least e h = value_cases s at (value_given s at) refl (λ c. sym c) (λ f d k i lt two ek w.
-      sym (ap (λ (g : Got Given). least_given (given_from g)) w ∙ whole-number f d k i (ek ∙ scale-none lt two (sym e ∙ h))))
+  pub whole_least : {b : Bool} → b ≡ is_whole s at → b ≡ true → true ≡ least_given (given_from (value_given s at))
+  whole_least e h = value_cases s at (value_given s at) refl (λ c. sym c) (λ f d k i lt two ek w.
+      sym (ap (λ (g : Got Given). least_given (given_from g)) w ∙ whole_number f d k i (ek ∙ scale_none lt two (sym e ∙ h))))
 
   -- the tests of the code
-  pub whole-short : length s ≤ at + 10 → true ≡ is_whole s at
+  pub whole_short : length s ≤ at + 10 → true ≡ is_whole s at
   unfolding is_whole
-  whole-short h = rw (le-leb (length s) (at + 10) h)
+  whole_short h = rw (le-leb (length s) (at + 10) h)
 
   module _ (lt : at + 10 < length s) where
-    pub whole-other : (get_or s at 0 ≡ 2 → ⊥) → true ≡ is_whole s at
+    pub whole_other : (get_or s at 0 ≡ 2 → ⊥) → true ≡ is_whole s at
     unfolding is_whole
-    whole-other h = rw (lt-leb (length s) (at + 10) lt, ne_eqb (get_or s at 0) 2 h)
+    whole_other h = rw (lt-leb (length s) (at + 10) lt, ne_eqb (get_or s at 0) 2 h)
 
-    pub whole-scale : get_or s at 0 ≡ 2 → eqb (get_or s (at + 10) 0) 0 ≡ is_whole s at
+    pub whole_scale : get_or s at 0 ≡ 2 → eqb (get_or s (at + 10) 0) 0 ≡ is_whole s at
     unfolding is_whole
-    whole-scale h = rw (lt-leb (length s) (at + 10) lt, eq-eqb (get_or s at 0) 2 h)
+    whole_scale h = rw (lt-leb (length s) (at + 10) lt, eq-eqb (get_or s at 0) 2 h)
 
 -- an argument by its name, and the one before it by its name
 module _ (s : List ℕ) (last at : ℕ) {r : Num} (is : r ≡ num_of (span_at s at)) where
-  pub stands-nowhere : r ≡ num.Bad → false ≡ stands_after s last at
+  pub stands_nowhere : r ≡ num.Bad → false ≡ stands_after s last at
   unfolding stands_after read_or
-  stands-nowhere h = rw (str-bad s at is h)
+  stands_nowhere h = rw (str_bad s at is h)
 
   module _ {p e : ℕ} (h : r ≡ num.At p e) {b : Bool} (bs : b ≡ least_given (given_from (value_given s e))) where
     stands_by : stands_after s last at ≡ b && follows (str_at s last) (part s p (e - p))
     unfolding stands_after read_or
-    stands_by = rw (str-is s at is h, bs)
+    stands_by = rw (str_is s at is h, bs)
 
-    pub stands-longer : b ≡ false → false ≡ stands_after s last at
-    stands-longer w = sym (stands_by ∙ ap (λ (x : Bool). x && follows (str_at s last) (part s p (e - p))) w)
+    pub stands_longer : b ≡ false → false ≡ stands_after s last at
+    stands_longer w = sym (stands_by ∙ ap (λ (x : Bool). x && follows (str_at s last) (part s p (e - p))) w)
 
     module _ (w : b ≡ true) {q : Num} (qs : q ≡ num_of (span_at s last)) where
       follows_by : stands_after s last at ≡ follows (str_at s last) (part s p (e - p))
       follows_by = stands_by ∙ ap (λ (x : Bool). x && follows (str_at s last) (part s p (e - p))) w
 
-      pub stands-first : q ≡ num.Bad → true ≡ stands_after s last at
+      pub stands_first : q ≡ num.Bad → true ≡ stands_after s last at
       unfolding follows
-      stands-first k = sym (follows_by ∙ ap (λ (g : Got (List ℕ)). follows g (part s p (e - p))) (str-bad s last qs k))
+      stands_first k = sym (follows_by ∙ ap (λ (g : Got (List ℕ)). follows g (part s p (e - p))) (str_bad s last qs k))
 
-      pub stands-behind : {a c : ℕ} → q ≡ num.At a c → {x : Bool} → x ≡ before (part s a (c - a)) (part s p (e - p)) → x ≡ stands_after s last at
+      pub stands_behind : {a c : ℕ} → q ≡ num.At a c → {x : Bool} → x ≡ before (part s a (c - a)) (part s p (e - p)) → x ≡ stands_after s last at
       unfolding follows
-      stands-behind k y = y ∙ sym (follows_by ∙ ap (λ (g : Got (List ℕ)). follows g (part s p (e - p))) (str-is s last qs k))
+      stands_behind k y = y ∙ sym (follows_by ∙ ap (λ (g : Got (List ℕ)). follows g (part s p (e - p))) (str_is s last qs k))
 
 -- What a run says of the arguments that it read: each has the least scale, and its name follows the one before it.
 unfoldable pub risen : Got (List ℕ) → List (List ℕ × Argument) → Bool
@@ -234,14 +234,14 @@ stands_is s last at {a} {e} h =
 pub run_reads : (n : ℕ) (s : List ℕ) (at last : ℕ) (fine : Bool) {l : List (List ℕ × Argument)} {e : ℕ} → many [] ◌∷◌ n argument_at s at ≡ got l e
     → (last' : ℕ) × (run_from n s at last fine ≡ run.Is (record { at = e; last = last'; fine = fine && risen (str_at s last) l }))
 unfolding run_from read_or risen
-run_reads zero s at last fine {l} {e} h = many-nil [] ◌∷◌ argument_at s zero at (omega arith) h (λ w q. (last, rw (w, q) (ap (λ (b : Bool). run.Is (record { at = at; last = last; fine = b })) (ended fine))))
+run_reads zero s at last fine {l} {e} h = many_nil [] ◌∷◌ argument_at s zero at (omega arith) h (λ w q. (last, rw (w, q) (ap (λ (b : Bool). run.Is (record { at = at; last = last; fine = b })) (ended fine))))
   where
     ended : (b : Bool) → b ≡ b && true
     ended true = refl
     ended false = refl
 run_reads (suc n) s at last fine {l} {e} h =
     let m : suc n - 1 ≡ n = omega arith in
-    many-cons [] ◌∷◌ argument_at s (suc n) at (omega arith) h (λ a i t ha ht w.
+    many_cons [] ◌∷◌ argument_at s (suc n) at (omega arith) h (λ a i t ha ht w.
     let k = stands_is s last at ha in
     let x = run_reads n s i at (fine && stands_after s last at) (subst (λ (j : ℕ). many [] ◌∷◌ j argument_at s i ≡ got t e) m ht) in
     let f : (fine && stands_after s last at) && risen (str_at s at) t ≡ fine && risen (str_at s last) l =

@@ -20,7 +20,7 @@ use Rattle.records.specs.Images.{Argument, argument_at}
 use Rattle.order.specs.Relations.Compared.{order_of}
 use Rattle.arguments.specs.Relations.Given.{meant, Within}
 use Rattle.arguments.specs.Relations.Outline.{value_given, row_at, read_or, given_from, readable, or_missing, sought_by, sought}
-use Rattle.records.proofs.Views.{next_is, next_none, str-is, str-bad, id_str, many-cons, many-nil}
+use Rattle.records.proofs.Views.{next_is, next_none, str_is, str_bad, id_str, many_cons, many_nil}
 use Rattle.arguments.proofs.Views.{argument_elim}
 use Rattle.arguments.proofs.Found.{given_is, given_bad, value_means, row_within}
 
@@ -30,40 +30,40 @@ sought_from s name n at = or_missing (sought name (readable n row_at s at))
 
 -- a row by its parts
 module _ (s : List ℕ) (at : ℕ) where
-  row-no-name : str_at s at ≡ bad → row_at s at ≡ bad
+  row_no_name : str_at s at ≡ bad → row_at s at ≡ bad
   unfolding row_at after
-  row-no-name h = rw h
+  row_no_name h = rw h
 
-  row-no-value : {n : List ℕ} {g : ℕ} → str_at s at ≡ got n g → value_given s g ≡ bad → row_at s at ≡ bad
+  row_no_value : {n : List ℕ} {g : ℕ} → str_at s at ≡ got n g → value_given s g ≡ bad → row_at s at ≡ bad
   unfolding row_at after
-  row-no-value h k = rw (h, k)
+  row_no_value h k = rw (h, k)
 
   row_read : {n : List ℕ} {g : ℕ} → str_at s at ≡ got n g → {v : Given} {i : ℕ} → value_given s g ≡ got v i → row_at s at ≡ got (n, v) i
   unfolding row_at after
   row_read h k = rw (h, k)
 
 module _ (s name : List ℕ) (left at : ℕ) where
-  sought-none : left ≤ 0 → sought_from s name left at ≡ goal.Missing
+  sought_none : left ≤ 0 → sought_from s name left at ≡ goal.Missing
   unfolding readable sought or_missing
-  sought-none z = go left z
+  sought_none z = go left z
     where
       go : (n : ℕ) → n ≤ 0 → sought_from s name n at ≡ goal.Missing
       go zero z = refl
       go (suc n) z = absurd (omega arith)
 
   -- no row can be read
-  sought-bad : row_at s at ≡ bad → sought_from s name left at ≡ goal.Missing
+  sought_bad : row_at s at ≡ bad → sought_from s name left at ≡ goal.Missing
   unfolding readable read_or sought or_missing
-  sought-bad h = go left
+  sought_bad h = go left
     where
       go : (n : ℕ) → sought_from s name n at ≡ goal.Missing
       go zero = refl
       go (suc n) = rw h
 
   -- a row that is read: its name decides
-  sought-row : {n : List ℕ} {v : Given} {i : ℕ} → row_at s at ≡ got (n, v) i → 0 < left → sought_from s name left at ≡ or_missing (sought_by (order_of n name) v (sought name (readable (left - 1) row_at s i)))
+  sought_row : {n : List ℕ} {v : Given} {i : ℕ} → row_at s at ≡ got (n, v) i → 0 < left → sought_from s name left at ≡ or_missing (sought_by (order_of n name) v (sought name (readable (left - 1) row_at s i)))
   unfolding readable read_or sought
-  sought-row {n} {v} {i} h z = go left z
+  sought_row {n} {v} {i} h z = go left z
     where
       go : (m : ℕ) → 0 < m → sought_from s name m at ≡ or_missing (sought_by (order_of n name) v (sought name (readable (m - 1) row_at s i)))
       go zero z = absurd (omega arith)
@@ -71,12 +71,12 @@ module _ (s name : List ℕ) (left at : ℕ) where
 
 -- the turns of the loop: what is left gives what all of them give
 module _ (s name : List ℕ) (left at : ℕ) {y : Given} (inv : sought_from s name left at ≡ y) where
-  pub scan-end : left ≤ 0 → goal.Missing ≡ y
-  scan-end z = sym (sought-none s name left at z) ∙ inv
+  pub scan_end : left ≤ 0 → goal.Missing ≡ y
+  scan_end z = sym (sought_none s name left at z) ∙ inv
 
   module _ {r : Num} (is : r ≡ num_of (span_at s at)) where
-    pub scan-name : r ≡ num.Bad → goal.Missing ≡ y
-    scan-name h = sym (sought-bad s name left at (row-no-name s at (str-bad s at is h))) ∙ inv
+    pub scan_name : r ≡ num.Bad → goal.Missing ≡ y
+    scan_name h = sym (sought_bad s name left at (row_no_name s at (str_bad s at is h))) ∙ inv
 
     module _ {p g : ℕ} (h : r ≡ num.At p g) {o : Order} (os : o ≡ order_of (part s p (g - p)) name) (z : 0 < left) where
       -- what a readable value gives, and what an unreadable one does
@@ -84,62 +84,62 @@ module _ (s name : List ℕ) (left at : ℕ) {y : Given} (inv : sought_from s na
       by_value {C} f k = go (value_given s g) refl
         where
           go : (x : Got Given) → value_given s g ≡ x → C
-          go bad e = f e (sym (sought-bad s name left at (row-no-value s at (str-is s at is h) e)) ∙ inv)
+          go bad e = f e (sym (sought_bad s name left at (row_no_value s at (str_is s at is h) e)) ∙ inv)
           go (got v i) e =
               k v i e
               (ap (λ (x : Order). or_missing (sought_by x v (sought name (readable (left - 1) row_at s i)))) os
-              ∙ sym (sought-row s name left at (row_read s at (str-is s at is h) e) z)
+              ∙ sym (sought_row s name left at (row_read s at (str_is s at is h) e) z)
               ∙ inv)
 
-      pub scan-greater : o ≡ order.Greater → goal.Missing ≡ y
+      pub scan_greater : o ≡ order.Greater → goal.Missing ≡ y
       unfolding sought_by or_missing
-      scan-greater w = by_value (λ _ e. e) (λ v i _ e. sym (ap (λ (x : Order). or_missing (sought_by x v (sought name (readable (left - 1) row_at s i)))) w) ∙ e)
+      scan_greater w = by_value (λ _ e. e) (λ v i _ e. sym (ap (λ (x : Order). or_missing (sought_by x v (sought name (readable (left - 1) row_at s i)))) w) ∙ e)
 
-      pub scan-same : o ≡ order.Same → {b : Given} → b ≡ given_from (value_given s g) → b ≡ y
+      pub scan_same : o ≡ order.Same → {b : Given} → b ≡ given_from (value_given s g) → b ≡ y
       unfolding sought_by or_missing
-      scan-same w {b} eb =
+      scan_same w {b} eb =
           by_value
           (λ e m. eb ∙ sym (given_bad e) ∙ m)
           (λ v i e m. eb ∙ sym (given_is e) ∙ sym (ap (λ (x : Order). or_missing (sought_by x v (sought name (readable (left - 1) row_at s i)))) w) ∙ m)
 
       module _ (w : o ≡ order.Less) {x : Next} (vs : x ≡ next_of (value_given s g)) where
-        pub scan-value : x ≡ next.Bad → goal.Missing ≡ y
-        scan-value b = sym (sought-bad s name left at (row-no-value s at (str-is s at is h) (next_none vs b))) ∙ inv
+        pub scan_value : x ≡ next.Bad → goal.Missing ≡ y
+        scan_value b = sym (sought_bad s name left at (row_no_value s at (str_is s at is h) (next_none vs b))) ∙ inv
 
-        pub scan-turn : {i : ℕ} → x ≡ next.At i → sought_from s name (left - 1) i ≡ y
+        pub scan_turn : {i : ℕ} → x ≡ next.At i → sought_from s name (left - 1) i ≡ y
         unfolding sought_by
-        scan-turn {i} e = next_is vs e (λ v hv.
-            sym (sought-row s name left at (row_read s at (str-is s at is h) hv) z
+        scan_turn {i} e = next_is vs e (λ v hv.
+            sym (sought_row s name left at (row_read s at (str_is s at is h) hv) z
             ∙ ap (λ (x : Order). or_missing (sought_by x v (sought name (readable (left - 1) row_at s i)))) (sym os ∙ w))
             ∙ inv)
 
 -- a text that is found lies in the bytes, whatever they are
 module _ (s name : List ℕ) where
-  by-within : (o : Order) (v : Given) (r : Option Given) → Within s v → Within s (or_missing r) → Within s (or_missing (sought_by o v r))
+  by_within : (o : Order) (v : Given) (r : Option Given) → Within s v → Within s (or_missing r) → Within s (or_missing (sought_by o v r))
   unfolding sought_by or_missing Within
-  by-within order.Less v r h k = k
-  by-within order.Same v r h k = h
-  by-within order.Greater v r h k = tt
+  by_within order.Less v r h k = k
+  by_within order.Same v r h k = h
+  by_within order.Greater v r h k = tt
 
-  pub sought-within : (n at : ℕ) → Within s (sought_from s name n at)
+  pub sought_within : (n at : ℕ) → Within s (sought_from s name n at)
   unfolding readable read_or sought or_missing Within
-  sought-within zero at = tt
-  sought-within (suc n) at = go (row_at s at) refl (sought-within n)
+  sought_within zero at = tt
+  sought_within (suc n) at = go (row_at s at) refl (sought_within n)
     where
       go : (x : Got (List ℕ × Given)) → row_at s at ≡ x → ((e : ℕ) → Within s (sought_from s name n e)) → Within s (or_missing (sought name (read_or [] x (λ a e. a ∷ readable n row_at s e))))
       go bad h ih = tt
-      go (got a e) h ih = by-within (order_of a.0 name) a.1 (sought name (readable n row_at s e)) (row_within s at h) (ih e)
+      go (got a e) h ih = by_within (order_of a.0 name) a.1 (sought name (readable n row_at s e)) (row_within s at h) (ih e)
 
   -- what is found where the arguments decode
-  pub sought-means : (n at : ℕ) {l : List (List ℕ × Argument)} {f : ℕ} → many [] ◌∷◌ n argument_at s at ≡ got l f → meant s (sought_from s name n at) ≡ sought name l
+  pub sought_means : (n at : ℕ) {l : List (List ℕ × Argument)} {f : ℕ} → many [] ◌∷◌ n argument_at s at ≡ got l f → meant s (sought_from s name n at) ≡ sought name l
   unfolding readable read_or row_at after sought sought_by or_missing meant
-  sought-means zero at h = many-nil [] ◌∷◌ argument_at s zero at (omega arith) h (λ e _. rw e)
-  sought-means (suc n) at {l} {f} h =
+  sought_means zero at h = many_nil [] ◌∷◌ argument_at s zero at (omega arith) h (λ e _. rw e)
+  sought_means (suc n) at {l} {f} h =
       let m : suc n - 1 ≡ n = omega arith in
-      many-cons [] ◌∷◌ argument_at s (suc n) at (omega arith) h (λ a e t ha ht w.
+      many_cons [] ◌∷◌ argument_at s (suc n) at (omega arith) h (λ a e t ha ht w.
       argument_elim s at ha (λ i p v hi hv wa.
       let k = value_means s p hv in
-      let x = sought-means n e (subst (λ (j : ℕ). many [] ◌∷◌ j argument_at s e ≡ got t f) m ht) in
+      let x = sought_means n e (subst (λ (j : ℕ). many [] ◌∷◌ j argument_at s e ≡ got t f) m ht) in
       rw (id_str s at hi, k.1, w, wa) (by (order_of i name) k.0 v k.2 (sought name (readable n row_at s e)) (sought name t) x)))
     where
       by : (o : Order) (g : Given) (v : Argument) → meant s g ≡ some v → (r : Option Given) (q : Option Argument) → meant s (or_missing r) ≡ q → meant s (or_missing (sought_by o g r)) ≡ sought_by o v q

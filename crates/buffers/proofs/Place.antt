@@ -20,16 +20,16 @@ module _ (d : List ℕ) (at : ℕ) where
   over_none = sym (paste-zero d at [])
 
   -- the library's two ways to write
-  pub paste-over : (bs : List ℕ) → paste d at bs (length bs) ≡ over d at bs
+  pub paste_over : (bs : List ℕ) → paste d at bs (length bs) ≡ over d at bs
   unfolding over
-  paste-over bs = rw (take-length bs)
+  paste_over bs = rw (take-length bs)
 
   pub sets_over : (bs : List ℕ) → at + length bs ≤ length d → sets d at bs ≡ over d at bs
   unfolding over
   sets_over bs h = sets-eq bs d at h
 
-  pub set-over : (x : ℕ) → at < length d → set d at x ≡ over d at (x ∷ [])
-  set-over x h = sets_over (x ∷ []) (omega arith)
+  pub set_over : (x : ℕ) → at < length d → set d at x ≡ over d at (x ∷ [])
+  set_over x h = sets_over (x ∷ []) (omega arith)
 
   -- the front with what was written
   pub length_head : (bs : List ℕ) → at ≤ length d → length (take at d ++ bs) ≡ at + length bs
@@ -43,21 +43,21 @@ module _ (d : List ℕ) (at : ℕ) where
       let g = length-drop (at + length bs) d in
       omega arith
 
-  pub take-over : (bs : List ℕ) → at ≤ length d → take (at + length bs) (over d at bs) ≡ take at d ++ bs
+  pub take_over : (bs : List ℕ) → at ≤ length d → take (at + length bs) (over d at bs) ≡ take at d ++ bs
   unfolding over
-  take-over bs h = take_at (take at d ++ bs) (drop (at + length bs) d) (at + length bs) (length_head bs h)
+  take_over bs h = take_at (take at d ++ bs) (drop (at + length bs) d) (at + length bs) (length_head bs h)
 
-  pub drop-over : (bs : List ℕ) → at ≤ length d → drop (at + length bs) (over d at bs) ≡ drop (at + length bs) d
+  pub drop_over : (bs : List ℕ) → at ≤ length d → drop (at + length bs) (over d at bs) ≡ drop (at + length bs) d
   unfolding over
-  drop-over bs h = drop_at (take at d ++ bs) (drop (at + length bs) d) (at + length bs) (length_head bs h)
+  drop_over bs h = drop_at (take at d ++ bs) (drop (at + length bs) d) (at + length bs) (length_head bs h)
 
-  pub front-over : (bs : List ℕ) → at ≤ length d → take at (over d at bs) ≡ take at d
+  pub front_over : (bs : List ℕ) → at ≤ length d → take at (over d at bs) ≡ take at d
   unfolding over
-  front-over bs h = rw append_assoc (take_at (take at d) (bs ++ drop (at + length bs) d) at (length-take-le at d h))
+  front_over bs h = rw append_assoc (take_at (take at d) (bs ++ drop (at + length bs) d) at (length-take-le at d h))
 
-  pub part-over : (bs : List ℕ) → at ≤ length d → part (over d at bs) at (length bs) ≡ bs
+  pub part_over : (bs : List ℕ) → at ≤ length d → part (over d at bs) at (length bs) ≡ bs
   unfolding over
-  part-over bs h =
+  part_over bs h =
       let e : drop at (take at d ++ bs ++ drop (at + length bs) d) ≡ bs ++ drop (at + length bs) d = rw append_assoc (drop_at (take at d) (bs ++ drop (at + length bs) d) at (length-take-le at d h)) in
       rw e (take_at bs (drop (at + length bs) d) (length bs) refl)
 
@@ -70,23 +70,23 @@ module _ (d : List ℕ) (at : ℕ) where
 
 -- two writes, one after the other, are one
 module _ (d : List ℕ) (at : ℕ) (a : List ℕ) where
-  pub over-over : (b : List ℕ) → at + (length a + length b) ≤ length d → over (over d at a) (at + length a) b ≡ over d at (a ++ b)
+  pub over_over : (b : List ℕ) → at + (length a + length b) ≤ length d → over (over d at a) (at + length a) b ≡ over d at (a ++ b)
   unfolding over
-  over-over b h =
-      let t : take (at + length a) (take at d ++ a ++ drop (at + length a) d) ≡ take at d ++ a = take-over d at a (omega arith) in
-      let u : drop (at + length a) (take at d ++ a ++ drop (at + length a) d) ≡ drop (at + length a) d = drop-over d at a (omega arith) in
+  over_over b h =
+      let t : take (at + length a) (take at d ++ a ++ drop (at + length a) d) ≡ take at d ++ a = take_over d at a (omega arith) in
+      let u : drop (at + length a) (take at d ++ a ++ drop (at + length a) d) ≡ drop (at + length a) d = drop_over d at a (omega arith) in
       let v : drop (at + length a + length b) (take at d ++ a ++ drop (at + length a) d) ≡ drop (at + length a + length b) d = sym (drop-drop (length b) (at + length a) _) ∙ ap (drop (length b)) u ∙ drop-drop (length b) (at + length a) d in
       let l : at + length a + length b ≡ at + length (a ++ b) = omega (arith, length-append a b) in
       rw (t, v, l) (ap (λ (x : List ℕ). x ++ drop (at + length (a ++ b)) d) (append_assoc (take at d) a b))
 
-  pub then-over : (b : List ℕ) {e : List ℕ} {p : ℕ} → e ≡ over d at a → p ≡ at + length a → at + (length a + length b) ≤ length d → over e p b ≡ over d at (a ++ b)
-  then-over b h q f = rw (h, q) (over-over b f)
+  pub then_over : (b : List ℕ) {e : List ℕ} {p : ℕ} → e ≡ over d at a → p ≡ at + length a → at + (length a + length b) ≤ length d → over e p b ≡ over d at (a ++ b)
+  then_over b h q f = rw (h, q) (over_over b f)
 
-  pub then-set : (x : ℕ) {e : List ℕ} {p : ℕ} → e ≡ over d at a → p ≡ at + length a → at + (length a + 1) ≤ length d → set e p x ≡ over d at (a ++ (x ∷ []))
-  then-set x {e} {p} h q f =
+  pub then_set : (x : ℕ) {e : List ℕ} {p : ℕ} → e ≡ over d at a → p ≡ at + length a → at + (length a + 1) ≤ length d → set e p x ≡ over d at (a ++ (x ∷ []))
+  then_set x {e} {p} h q f =
       let l = length_over d at a (omega arith) in
       let i : at + length a < length (over d at a) = omega arith in
-      rw (h, q, set-over (over d at a) (at + length a) x i) (over-over (x ∷ []) f)
+      rw (h, q, set_over (over d at a) (at + length a) x i) (over_over (x ∷ []) f)
 
 -- a byte before what was written
 pub set_before : (d bs : List ℕ) (p x : ℕ) → p < length d → set (over d (p + 1) bs) p x ≡ over d p (x ∷ bs)
@@ -104,63 +104,63 @@ over_all d bs h = rw (drop_of_length-le d {i = 0 + length bs} (omega arith)) (ap
 
 -- an attempt that succeeds, and one that does not
 module _ (d : List ℕ) (at : ℕ) (bs : List ℕ) where
-  pub appended-fits : {e : List ℕ} {p : ℕ} → at + length bs ≤ length d → p ≡ at + length bs → e ≡ over d at bs → (At p, e) ≡ appended d at bs
+  pub appended_fits : {e : List ℕ} {p : ℕ} → at + length bs ≤ length d → p ≡ at + length bs → e ≡ over d at bs → (At p, e) ≡ appended d at bs
   unfolding appended attempt
-  appended-fits h q g = rw (le-leb _ _ h, q, g)
+  appended_fits h q g = rw (le-leb _ _ h, q, g)
 
-  pub appended-full : length d < at + length bs → (Full, d) ≡ appended d at bs
+  pub appended_full : length d < at + length bs → (Full, d) ≡ appended d at bs
   unfolding appended attempt
-  appended-full h = rw (lt-leb _ _ h)
+  appended_full h = rw (lt-leb _ _ h)
 
 -- no bytes always fit, and change nothing
 pub appended_none : (d : List ℕ) (at : ℕ) → at ≤ length d → appended d at [] ≡ (At at, d)
-appended_none d at h = sym (appended-fits d at [] (omega arith) (omega arith) (sym (over_none d at)))
+appended_none d at h = sym (appended_fits d at [] (omega arith) (omega arith) (sym (over_none d at)))
 
 -- what the answer says
 module _ (d : List ℕ) (at : ℕ) (bs : List ℕ) {r : Wrote} {e : List ℕ} where
-  pub attempt-at : (t : Bool) {p : ℕ} → (r, e) ≡ attempt t d at bs → r ≡ At p → (t ≡ true) × (p ≡ at + length bs) × (e ≡ over d at bs)
+  pub attempt_at : (t : Bool) {p : ℕ} → (r, e) ≡ attempt t d at bs → r ≡ At p → (t ≡ true) × (p ≡ at + length bs) × (e ≡ over d at bs)
   unfolding attempt
-  attempt-at true {p} h q =
+  attempt_at true {p} h q =
       let a : r ≡ At (at + length bs) = ap (λ (x : Wrote × List ℕ). x.0) h in
       (refl, (cc), ap (λ (x : Wrote × List ℕ). x.1) h)
-  attempt-at false h q =
+  attempt_at false h q =
       let a : r ≡ Full = ap (λ (x : Wrote × List ℕ). x.0) h in
       let z : ◌≡◌ {A = ℕ} 0 1 = cc in
       absurd (omega arith)
 
-  pub attempt-no : (t : Bool) → (r, e) ≡ attempt t d at bs → r ≡ Full → (t ≡ false) × (e ≡ d)
+  pub attempt_no : (t : Bool) → (r, e) ≡ attempt t d at bs → r ≡ Full → (t ≡ false) × (e ≡ d)
   unfolding attempt
-  attempt-no true h q =
+  attempt_no true h q =
       let a : r ≡ At (at + length bs) = ap (λ (x : Wrote × List ℕ). x.0) h in
       let z : ◌≡◌ {A = ℕ} 0 1 = cc in
       absurd (omega arith)
-  attempt-no false h q = (refl, ap (λ (x : Wrote × List ℕ). x.1) h)
+  attempt_no false h q = (refl, ap (λ (x : Wrote × List ℕ). x.1) h)
 
-  pub appended-at : {p : ℕ} → (r, e) ≡ appended d at bs → r ≡ At p → (at + length bs ≤ length d) × (p ≡ at + length bs) × (e ≡ over d at bs)
+  pub appended_at : {p : ℕ} → (r, e) ≡ appended d at bs → r ≡ At p → (at + length bs ≤ length d) × (p ≡ at + length bs) × (e ≡ over d at bs)
   unfolding appended
-  appended-at h q = let w = attempt-at _ h q in (leb-true _ _ w.0, w.1, w.2)
+  appended_at h q = let w = attempt_at _ h q in (leb-true _ _ w.0, w.1, w.2)
 
-  pub appended-no : (r, e) ≡ appended d at bs → r ≡ Full → (length d < at + length bs) × (e ≡ d)
+  pub appended_no : (r, e) ≡ appended d at bs → r ≡ Full → (length d < at + length bs) × (e ≡ d)
   unfolding appended
-  appended-no h q = let w = attempt-no _ h q in (leb-false _ _ w.0, w.1)
+  appended_no h q = let w = attempt_no _ h q in (leb-false _ _ w.0, w.1)
 
 -- bytes stored one by one
 module _ (d : List ℕ) (at a b : ℕ) where
-  pub store-2 : at + 2 ≤ length d → set (set d at a) (at + 1) b ≡ over d at (a ∷ b ∷ [])
-  store-2 h = rw add-one (sets_over d at (a ∷ b ∷ []) h)
+  pub store_2 : at + 2 ≤ length d → set (set d at a) (at + 1) b ≡ over d at (a ∷ b ∷ [])
+  store_2 h = rw add-one (sets_over d at (a ∷ b ∷ []) h)
 
-  pub store-3 : (c : ℕ) → at + 3 ≤ length d → set (set (set d at a) (at + 1) b) (at + 2) c ≡ over d at (a ∷ b ∷ c ∷ [])
-  store-3 c h = rw (add-one, add-two) (sets_over d at (a ∷ b ∷ c ∷ []) h)
+  pub store_3 : (c : ℕ) → at + 3 ≤ length d → set (set (set d at a) (at + 1) b) (at + 2) c ≡ over d at (a ∷ b ∷ c ∷ [])
+  store_3 c h = rw (add-one, add-two) (sets_over d at (a ∷ b ∷ c ∷ []) h)
 
-  pub store-4 : (c e : ℕ) → at + 4 ≤ length d → set (set (set (set d at a) (at + 1) b) (at + 2) c) (at + 3) e ≡ over d at (a ∷ b ∷ c ∷ e ∷ [])
-  store-4 c e h = rw (add-one, add-two, add-three) (sets_over d at (a ∷ b ∷ c ∷ e ∷ []) h)
+  pub store_4 : (c e : ℕ) → at + 4 ≤ length d → set (set (set (set d at a) (at + 1) b) (at + 2) c) (at + 3) e ≡ over d at (a ∷ b ∷ c ∷ e ∷ [])
+  store_4 c e h = rw (add-one, add-two, add-three) (sets_over d at (a ∷ b ∷ c ∷ e ∷ []) h)
 
 -- zeros from the front on: a turn, and the end
 module _ (d₀ : List ℕ) {d : List ℕ} (i : ℕ) where
-  pub fill-turn : i < length d₀ → d ≡ over d₀ 0 (replicate i 0) → set d i 0 ≡ over d₀ 0 (replicate (i + 1) 0)
-  fill-turn h e =
+  pub fill_turn : i < length d₀ → d ≡ over d₀ 0 (replicate i 0) → set d i 0 ≡ over d₀ 0 (replicate (i + 1) 0)
+  fill_turn h e =
       let l = length-replicate {A = ℕ} i 0 in
-      then-set d₀ 0 (replicate i 0) 0 e (omega arith) (omega arith) ∙ ap (over d₀ 0) (replicate-append-replicate i 1 0)
+      then_set d₀ 0 (replicate i 0) 0 e (omega arith) (omega arith) ∙ ap (over d₀ 0) (replicate-append-replicate i 1 0)
 
   pub fill_end : i ≤ length d₀ → length d₀ ≤ i → d ≡ over d₀ 0 (replicate i 0) → d ≡ replicate (length d₀) 0
   fill_end h g e =
@@ -189,40 +189,40 @@ module _ (w₀ : List ℕ) (from n to : ℕ) (h : from ≤ to) (g : to + n ≤ l
       let m : drop j (part w₀ from n) ≡ get_or w₀ (from + j) 0 ∷ drop (j + 1) (part w₀ from n) = drop-cons (part w₀ from n) j 0 (omega arith) ∙ rw (c, add-one) in
       rw (b, m, f) (set_before w₀ (drop (j + 1) (part w₀ from n)) (to + j) (get_or w₀ (from + j) 0) (omega arith))
 
-  pub move-turn : (i : ℕ) {w : List ℕ} → 0 < i → i ≤ n → w ≡ over w₀ (to + i) (drop i (part w₀ from n)) → set w (to + (i - 1)) (get_or w (from + (i - 1)) 0) ≡ over w₀ (to + (i - 1)) (drop (i - 1) (part w₀ from n))
-  move-turn i {w} z k e =
+  pub move_turn : (i : ℕ) {w : List ℕ} → 0 < i → i ≤ n → w ≡ over w₀ (to + i) (drop i (part w₀ from n)) → set w (to + (i - 1)) (get_or w (from + (i - 1)) 0) ≡ over w₀ (to + (i - 1)) (drop (i - 1) (part w₀ from n))
+  move_turn i {w} z k e =
       let m : i ≡ i - 1 + 1 = omega arith in
       step (i - 1) (omega arith) (subst (λ (x : ℕ). w ≡ over w₀ (to + x) (drop x (part w₀ from n))) m e)
 
-  pub move-end : (i : ℕ) {w : List ℕ} → i ≤ 0 → w ≡ over w₀ (to + i) (drop i (part w₀ from n)) → w ≡ over w₀ to (part w₀ from n)
-  move-end i {w} z e =
+  pub move_end : (i : ℕ) {w : List ℕ} → i ≤ 0 → w ≡ over w₀ (to + i) (drop i (part w₀ from n)) → w ≡ over w₀ to (part w₀ from n)
+  move_end i {w} z e =
       let m : i ≡ 0 = omega arith in
       let k : to + 0 ≡ to = omega arith in
       let f : w ≡ over w₀ (to + 0) (drop 0 (part w₀ from n)) = subst (λ (x : ℕ). w ≡ over w₀ (to + x) (drop x (part w₀ from n))) m e in
       rw k at f
 
 module _ (w : List ℕ) (from n to : ℕ) where
-  pub moved_back : from ≤ to → to + n ≤ length w → moved_back w from n to ≡ over w to (part w from n)
+  pub moved_back_law : from ≤ to → to + n ≤ length w → moved_back w from n to ≡ over w to (part w from n)
   unfolding moved_back
-  moved_back h g = rw (le-leb _ _ h, le-leb _ _ g)
+  moved_back_law h g = rw (le-leb _ _ h, le-leb _ _ g)
 
-  pub not-moved : to < from → moved_back w from n to ≡ w
+  pub not_moved : to < from → moved_back w from n to ≡ w
   unfolding moved_back
-  not-moved h = rw (lt-leb _ _ h)
+  not_moved h = rw (lt-leb _ _ h)
 
-  pub not-inside : from ≤ to → length w < to + n → moved_back w from n to ≡ w
+  pub not_inside : from ≤ to → length w < to + n → moved_back w from n to ≡ w
   unfolding moved_back
-  not-inside h g = rw (le-leb _ _ h, lt-leb _ _ g)
+  not_inside h g = rw (le-leb _ _ h, lt-leb _ _ g)
 
   -- what a move keeps, and what it moves
   pub moved_keeps : from ≤ to → to + n ≤ length w → Keeps w from to n (moved_back w from n to)
   moved_keeps h g =
       let l : length (part w from n) ≡ n = simp (length-take, length-drop) (omega arith) in
-      let a : moved_back w from n to ≡ over w to (part w from n) = moved_back h g in
+      let a : moved_back w from n to ≡ over w to (part w from n) = moved_back_law h g in
       let b : to + length (part w from n) ≡ to + n = omega arith in
       record {
         size = ap length a ∙ length_over w to (part w from n) (omega arith);
-        front = ap (take from) a ∙ sym (take-take from to (over w to (part w from n)) h) ∙ ap (take from) (front-over w to (part w from n) (omega arith)) ∙ take-take from to w h;
-        moved = rw a (subst (λ (k : ℕ). part (over w to (part w from n)) to k ≡ part w from n) l (part-over w to (part w from n) (omega arith)));
-        rest = rw a (subst (λ (k : ℕ). drop k (over w to (part w from n)) ≡ drop k w) b (drop-over w to (part w from n) (omega arith)));
+        front = ap (take from) a ∙ sym (take-take from to (over w to (part w from n)) h) ∙ ap (take from) (front_over w to (part w from n) (omega arith)) ∙ take-take from to w h;
+        moved = rw a (subst (λ (k : ℕ). part (over w to (part w from n)) to k ≡ part w from n) l (part_over w to (part w from n) (omega arith)));
+        rest = rw a (subst (λ (k : ℕ). drop k (over w to (part w from n)) ≡ drop k w) b (drop_over w to (part w from n) (omega arith)));
       }

@@ -102,10 +102,10 @@ module _ (s image : List ℕ) (octets : Octets s) (bytes : Octets image) where
       }
 
   -- an accepted plain resource stands behind the other items
-  pub resource-accepted : (l : List ℕ) (n : ℕ) → (add_resource s image l).answer ≡ done n
+  pub resource_accepted : (l : List ℕ) (n : ℕ) → (add_resource s image l).answer ≡ done n
       → AcceptedResource s image (add_resource s image l).slice Item.plain
   unfolding add_resource add_plain_to refuse
-  resource-accepted l n = go (store_of s) (resource_of image) refl refl
+  resource_accepted l n = go (store_of s) (resource_of image) refl refl
     where
       go : (g : Got Store) (r : Got (List Entry)) → store_of s ≡ g → resource_of image ≡ r → (add_plain_to s image l g r).answer ≡ done n
           → AcceptedResource s image (add_plain_to s image l g r).slice Item.plain
@@ -114,10 +114,10 @@ module _ (s image : List ℕ) (octets : Octets s) (bytes : Octets image) where
       go (got v used) (got es e) p q h = plain l v used es e p q n h
 
   -- an accepted overriding resource stands behind the other items
-  pub overriding-accepted : (n : ℕ) → (add_resource_overriding s image).answer ≡ done n
+  pub overriding_accepted : (n : ℕ) → (add_resource_overriding s image).answer ≡ done n
       → AcceptedResource s image (add_resource_overriding s image).slice Item.overriding
   unfolding add_resource_overriding add_overriding_to refuse
-  overriding-accepted n = go (store_of s) (resource_of image) refl refl
+  overriding_accepted n = go (store_of s) (resource_of image) refl refl
     where
       go : (g : Got Store) (r : Got (List Entry)) → store_of s ≡ g → resource_of image ≡ r → (add_overriding_to s image g r).answer ≡ done n
           → AcceptedResource s image (add_overriding_to s image g r).slice Item.overriding
@@ -141,9 +141,9 @@ module _ (s id : List ℕ) (octets : Octets s) (code : ℕ) where
       rw (a.1 ∙ b.1 ∙ c.1 ∙ d.1) (accept s octets v used p (Item.function id) (id_valid id a.0) (3 ∷ enc_function id) refl (9 + length id) (function_length id) d.0)
 
   -- an accepted function stands behind the other items
-  pub function-accepted : (n : ℕ) → (add_function s id code).answer ≡ done n → Accepted s (add_function s id code).slice (Item.function id)
+  pub function_accepted : (n : ℕ) → (add_function s id code).answer ≡ done n → Accepted s (add_function s id code).slice (Item.function id)
   unfolding add_function add_function_to refuse
-  function-accepted n = go (store_of s) refl
+  function_accepted n = go (store_of s) refl
     where
       go : (g : Got Store) → store_of s ≡ g → (add_function_to s id code g).answer ≡ done n
           → Accepted s (add_function_to s id code g).slice (Item.function id)

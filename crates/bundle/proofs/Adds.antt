@@ -30,24 +30,24 @@ use Rattle.bundle.proofs.Placing.{not_refused, resource_placed, function_placed,
 
 -- a plain addition, by its answers
 module _ (s image l : List ℕ) where
-  pub plain-4 : store_of s ≡ bad → gave (answer.Refused 4) s l ≡ add_resource s image l
+  pub plain_4 : store_of s ≡ bad → gave (answer.Refused 4) s l ≡ add_resource s image l
   unfolding gave answer_of add_resource add_plain_to refuse
-  plain-4 h = rw h
+  plain_4 h = rw h
 
   module _ {st : Store} {u : ℕ} (hs : store_of s ≡ got st u) where
-    pub plain-5 : resource_of image ≡ bad → gave (answer.Refused 5) s l ≡ add_resource s image l
+    pub plain_5 : resource_of image ≡ bad → gave (answer.Refused 5) s l ≡ add_resource s image l
     unfolding gave answer_of add_resource add_plain_to refuse
-    plain-5 h = rw (hs, h)
+    plain_5 h = rw (hs, h)
 
     module _ {es : List Entry} {e : ℕ} (hr : resource_of image ≡ got es e) where
-      pub plain-6 : has_room (length s) u (length st.items) (1 + length image) ≡ false → gave (answer.Refused 6) s l ≡ add_resource s image l
+      pub plain_6 : has_room (length s) u (length st.items) (1 + length image) ≡ false → gave (answer.Refused 6) s l ≡ add_resource s image l
       unfolding gave answer_of add_resource add_plain_to refuse or_refuse
-      plain-6 h = rw (hs, hr, h)
+      plain_6 h = rw (hs, hr, h)
 
       module _ (room : has_room (length s) u (length st.items) (1 + length image) ≡ true) where
-        pub plain-7 : length l < length (enc_errors (repeats (find_in st.items) es)) → gave (answer.Refused 7) s l ≡ add_resource s image l
+        pub plain_7 : length l < length (enc_errors (repeats (find_in st.items) es)) → gave (answer.Refused 7) s l ≡ add_resource s image l
         unfolding gave answer_of add_resource add_plain_to refuse or_refuse listed
-        plain-7 h = rw (hs, hr, room, lt-leb (length (enc_errors (repeats (find_in st.items) es))) (length l) h)
+        plain_7 h = rw (hs, hr, room, lt-leb (length (enc_errors (repeats (find_in st.items) es))) (length l) h)
 
         pub plain_done : {n : ℕ} {s' l' : List ℕ} → length (enc_errors (repeats (find_in st.items) es)) ≤ length l → n ≡ length (repeats (find_in st.items) es)
             → s' ≡ with_item s u (length st.items) (1 ∷ image) → l' ≡ at_front (enc_errors (repeats (find_in st.items) es)) l → gave (answer.Done n) s' l' ≡ add_resource s image l
@@ -56,19 +56,19 @@ module _ (s image l : List ℕ) where
 
 -- an overriding addition
 module _ (s image : List ℕ) where
-  pub over-4 : store_of s ≡ bad → gave (answer.Refused 4) s [] ≡ add_resource_overriding s image
+  pub over_4 : store_of s ≡ bad → gave (answer.Refused 4) s [] ≡ add_resource_overriding s image
   unfolding gave answer_of add_resource_overriding add_overriding_to refuse
-  over-4 h = rw h
+  over_4 h = rw h
 
   module _ {st : Store} {u : ℕ} (hs : store_of s ≡ got st u) where
-    pub over-5 : resource_of image ≡ bad → gave (answer.Refused 5) s [] ≡ add_resource_overriding s image
+    pub over_5 : resource_of image ≡ bad → gave (answer.Refused 5) s [] ≡ add_resource_overriding s image
     unfolding gave answer_of add_resource_overriding add_overriding_to refuse
-    over-5 h = rw (hs, h)
+    over_5 h = rw (hs, h)
 
     module _ {es : List Entry} {e : ℕ} (hr : resource_of image ≡ got es e) where
-      pub over-6 : has_room (length s) u (length st.items) (1 + length image) ≡ false → gave (answer.Refused 6) s [] ≡ add_resource_overriding s image
+      pub over_6 : has_room (length s) u (length st.items) (1 + length image) ≡ false → gave (answer.Refused 6) s [] ≡ add_resource_overriding s image
       unfolding gave answer_of add_resource_overriding add_overriding_to refuse or_refuse
-      over-6 h = rw (hs, hr, h)
+      over_6 h = rw (hs, hr, h)
 
       pub over_done : {s' : List ℕ} → has_room (length s) u (length st.items) (1 + length image) ≡ true → s' ≡ with_item s u (length st.items) (2 ∷ image) → gave (answer.Done 0) s' [] ≡ add_resource_overriding s image
       unfolding gave answer_of add_resource_overriding add_overriding_to or_refuse succeed
@@ -100,24 +100,24 @@ module _ (s id : List ℕ) (code : ℕ) where
           unfolding gave answer_of add_function add_function_to refuse or_refuse
           function_6 h = rw (hs, hi, eq-eqb code 1 hc, hf, h)
 
-          pub function-done : {s' : List ℕ} → has_room (length s) u (length st.items) (9 + length id) ≡ true → s' ≡ with_item s u (length st.items) (3 ∷ enc_function id) → gave (answer.Done 0) s' [] ≡ add_function s id code
+          pub function_done : {s' : List ℕ} → has_room (length s) u (length st.items) (9 + length id) ≡ true → s' ≡ with_item s u (length st.items) (3 ∷ enc_function id) → gave (answer.Done 0) s' [] ≡ add_function s id code
           unfolding gave answer_of add_function add_function_to or_refuse succeed
-          function-done h es' = rw (hs, hi, eq-eqb code 1 hc, hf, h, es')
+          function_done h es' = rw (hs, hi, eq-eqb code 1 hc, hf, h, es')
 
 -- by the place of the item: a refusal
 known_refusal : {r : Place} {m n : ℕ} → r ≡ place.Refused m → r ≡ place.Refused n → m ≡ n
 known_refusal h e = cc
 
 pub plain_no_place : (s image l : List ℕ) {r : Place} {n : ℕ} → ResourcePlace s image r → r ≡ place.Refused n → gave (answer.Refused n) s l ≡ add_resource s image l
-plain_no_place s image l (places.resource_4 hs h) e = rw (← known_refusal h e) (plain-4 s image l hs)
-plain_no_place s image l (places.resource_5 st u hs hr h) e = rw (← known_refusal h e) (plain-5 s image l hs hr)
-plain_no_place s image l (places.resource_6 st u es f hs hr room h) e = rw (← known_refusal h e) (plain-6 s image l hs hr room)
+plain_no_place s image l (places.resource_4 hs h) e = rw (← known_refusal h e) (plain_4 s image l hs)
+plain_no_place s image l (places.resource_5 st u hs hr h) e = rw (← known_refusal h e) (plain_5 s image l hs hr)
+plain_no_place s image l (places.resource_6 st u es f hs hr room h) e = rw (← known_refusal h e) (plain_6 s image l hs hr room)
 plain_no_place s image l (places.is_resource_at st u es f hs hr room h) e = absurd (not_refused h e)
 
 pub over_no_place : (s image : List ℕ) {r : Place} {n : ℕ} → ResourcePlace s image r → r ≡ place.Refused n → gave (answer.Refused n) s [] ≡ add_resource_overriding s image
-over_no_place s image (places.resource_4 hs h) e = rw (← known_refusal h e) (over-4 s image hs)
-over_no_place s image (places.resource_5 st u hs hr h) e = rw (← known_refusal h e) (over-5 s image hs hr)
-over_no_place s image (places.resource_6 st u es f hs hr room h) e = rw (← known_refusal h e) (over-6 s image hs hr room)
+over_no_place s image (places.resource_4 hs h) e = rw (← known_refusal h e) (over_4 s image hs)
+over_no_place s image (places.resource_5 st u hs hr h) e = rw (← known_refusal h e) (over_5 s image hs hr)
+over_no_place s image (places.resource_6 st u es f hs hr room h) e = rw (← known_refusal h e) (over_6 s image hs hr room)
 over_no_place s image (places.is_resource_at st u es f hs hr room h) e = absurd (not_refused h e)
 
 pub function_no_place : (s id : List ℕ) (code : ℕ) {r : Place} {n : ℕ} → FunctionPlace s id code r → r ≡ place.Refused n → gave (answer.Refused n) s [] ≡ add_function s id code
@@ -137,7 +137,7 @@ over_filed s image {u = u} p q w =
 pub function_filed : (s id : List ℕ) (code : ℕ) {r : Place} {u k : ℕ} {s' : List ℕ} → FunctionPlace s id code r → r ≡ place.At u k → s' ≡ written_if (leb (length id) 255) s (file_item s u k (3 ∷ enc_function id))
     → gave (answer.Done 0) s' [] ≡ add_function s id code
 function_filed s id code {u = u} p q w =
-    function_placed p q (λ st hs hi hc hf ek room. function-done s id code hs hi hc hf room (w ∙ function_item s id p q ∙ ap (λ (j : ℕ). with_item s u j (3 ∷ enc_function id)) ek))
+    function_placed p q (λ st hs hi hc hf ek room. function_done s id code hs hi hc hf room (w ∙ function_item s id p q ∙ ap (λ (j : ℕ). with_item s u j (3 ∷ enc_function id)) ek))
 
 -- the list of a plain addition
 not_short : {w : Listed} {n : ℕ} → w ≡ list.All n → w ≡ list.Short → ⊥
@@ -159,10 +159,10 @@ module _ (s image l marks : List ℕ) {r : Place} {u k : ℕ} (p : ResourcePlace
       go : (st : Store) (es : List Entry) (e : ℕ) → store_of s ≡ got st u → resource_of image ≡ got es e → has_room (length s) u (length st.items) (1 + length image) ≡ true
           → Lists (repeats (find_in st.items) es) l w l' → gave (answer.Refused 7) s l' ≡ add_resource s image l
       go st es e hs hr room (lists_all a _ _) = absurd (not_short a h)
-      go st es e hs hr room (lists_short _ n o) = rw o (plain-7 s image l hs hr room n)
+      go st es e hs hr room (lists_short _ n o) = rw o (plain_7 s image l hs hr room n)
 
-  pub plain-filed : {n : ℕ} {s' : List ℕ} → w ≡ list.All n → s' ≡ file_item s u k (1 ∷ image) → gave (answer.Done n) s' l' ≡ add_resource s image l
-  plain-filed {n} {s'} h i = listing (λ st es e hs hr ek room z. go st es e hs hr ek room z)
+  pub plain_filed : {n : ℕ} {s' : List ℕ} → w ≡ list.All n → s' ≡ file_item s u k (1 ∷ image) → gave (answer.Done n) s' l' ≡ add_resource s image l
+  plain_filed {n} {s'} h i = listing (λ st es e hs hr ek room z. go st es e hs hr ek room z)
     where
       go : (st : Store) (es : List Entry) (e : ℕ) → store_of s ≡ got st u → resource_of image ≡ got es e → k ≡ length st.items → has_room (length s) u (length st.items) (1 + length image) ≡ true
           → Lists (repeats (find_in st.items) es) l w l' → gave (answer.Done n) s' l' ≡ add_resource s image l

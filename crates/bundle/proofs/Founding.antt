@@ -11,7 +11,7 @@ use Rattle.records.specs.Bytes.{to_be}
 use Rattle.records.specs.Encode.{enc_all, enc_counted, enc_flag, enc_whole, enc_store}
 use Rattle.records.specs.Images.{max_locale}
 use Rattle.records.specs.Relations.Write.{over_fit}
-use Rattle.records.proofs.Writing.{fits-sets}
+use Rattle.records.proofs.Writing.{fits_sets}
 use Rattle.buffers.proofs.Place.{sets_over}
 use Rattle.growth.specs.Items.{at_front}
 use Rattle.growth.proofs.Items.{over_front}
@@ -34,23 +34,23 @@ unfolding enc_store enc_whole enc_counted enc_all to_be new_bytes
 new_is locale isolating h = rw (flag_byte isolating h)
 
 module _ (s : List ℕ) (locale isolating : ℕ) where
-  pub new-1 : length s < 9 → gave (answer.Refused 1) s [] ≡ new_bundle s locale isolating
+  pub new_1 : length s < 9 → gave (answer.Refused 1) s [] ≡ new_bundle s locale isolating
   unfolding gave answer_of new_bundle or_refuse refuse
-  new-1 h = rw (lt-leb 9 (length s) h)
+  new_1 h = rw (lt-leb 9 (length s) h)
 
   module _ (l9 : 9 ≤ length s) where
-    pub new-2 : 3 < locale → gave (answer.Refused 2) s [] ≡ new_bundle s locale isolating
+    pub new_2 : 3 < locale → gave (answer.Refused 2) s [] ≡ new_bundle s locale isolating
     unfolding gave answer_of new_bundle or_refuse refuse max_locale
-    new-2 h = rw (le-leb 9 (length s) l9, lt-leb locale 3 h)
+    new_2 h = rw (le-leb 9 (length s) l9, lt-leb locale 3 h)
 
-    pub new-3 : locale ≤ 3 → 1 < isolating → gave (answer.Refused 3) s [] ≡ new_bundle s locale isolating
+    pub new_3 : locale ≤ 3 → 1 < isolating → gave (answer.Refused 3) s [] ≡ new_bundle s locale isolating
     unfolding gave answer_of new_bundle or_refuse refuse max_locale
-    new-3 h k = rw (le-leb 9 (length s) l9, le-leb locale 3 h, lt-leb isolating 1 k)
+    new_3 h k = rw (le-leb 9 (length s) l9, le-leb locale 3 h, lt-leb isolating 1 k)
 
-    pub new-done : locale ≤ 3 → isolating ≤ 1 → {a : List ℕ} → a ≡ over_fit s 0 (to_be 4 9) → gave (answer.Done 0) (set (set (set (set (set a 4 1) 5 locale) 6 isolating) 7 0) 8 0) [] ≡ new_bundle s locale isolating
+    pub new_done : locale ≤ 3 → isolating ≤ 1 → {a : List ℕ} → a ≡ over_fit s 0 (to_be 4 9) → gave (answer.Done 0) (set (set (set (set (set a 4 1) 5 locale) 6 isolating) 7 0) 8 0) [] ≡ new_bundle s locale isolating
     unfolding gave answer_of new_bundle or_refuse succeed max_locale at_front new_bytes to_be
-    new-done h k {a} q =
-        let p : a ≡ sets s 0 (to_be 4 9) = q ∙ fits-sets s 0 (to_be 4 9) (omega arith) in
+    new_done h k {a} q =
+        let p : a ≡ sets s 0 (to_be 4 9) = q ∙ fits_sets s 0 (to_be 4 9) (omega arith) in
         let w : set (set (set (set (set a 4 1) 5 locale) 6 isolating) 7 0) 8 0 ≡ sets s 0 (new_bytes locale isolating) = rw p in
         let f : sets s 0 (new_bytes locale isolating) ≡ new_bytes locale isolating ++ drop 9 s = sets_over s 0 (new_bytes locale isolating) (omega arith) ∙ over_front s (new_bytes locale isolating) 9 refl in
         rw (le-leb 9 (length s) l9, le-leb locale 3 h, le-leb isolating 1 k, new_is locale isolating k, w, f)

@@ -17,7 +17,7 @@ use Rattle.layout.proofs.Numbers.{length_to_be}
 use Rattle.layout.proofs.Octets.{octets_append}
 use Rattle.layout.proofs.Theorems.{store_sound, store_complete, store_octets}
 use Rattle.growth.specs.Items.{at_front, with_item, has_room}
-use Rattle.growth.proofs.Items.{room-is}
+use Rattle.growth.proofs.Items.{room_is}
 use Rattle.bundle.specs.Growth.{with_more, Grown}
 
 all_append : {A : Type 0} (Ok : A → Type 0) (l k : List A) → All Ok l → All Ok k → All Ok (l ++ k)
@@ -74,17 +74,17 @@ record Room (s : List ℕ) (used n k : ℕ) : Type 0 where
 
 room_parts : (s : List ℕ) (used n k : ℕ) → has_room (length s) used n k ≡ true → Room s used n k
 unfolding max_store max_items
-room_parts s used n k h = let r = room-is (length s) used n k h in record { slice = r.0; store = r.1; items = r.2 }
+room_parts s used n k h = let r = room_is (length s) used n k h in record { slice = r.0; store = r.1; items = r.2 }
 
 module _ (s : List ℕ) (oct : Octets s) (v : Store) (used : ℕ) (h : store_of s ≡ got v used) where
   -- the parts of the slice
-  used-is : used ≡ 9 + length (enc_all enc_item v.items)
-  used-is =
+  used_is : used ≡ 9 + length (enc_all enc_item v.items)
+  used_is =
       let y = store_sound s oct h in
       sym (length-take-le used s y.2) ∙ ap length y.1 ∙ store_length v
 
-  slice-shape : s ≡ to_be 4 (9 + length (enc_all enc_item v.items)) ++ (front v ++ (to_be 2 (length v.items) ++ (enc_all enc_item v.items ++ drop used s)))
-  slice-shape =
+  slice_shape : s ≡ to_be 4 (9 + length (enc_all enc_item v.items)) ++ (front v ++ (to_be 2 (length v.items) ++ (enc_all enc_item v.items ++ drop used s)))
+  slice_shape =
       let y = store_sound s oct h in
       let q : take used s ++ drop used s ≡ s = take-append-drop used s in
       sym q ∙ ap (λ (l : List ℕ). l ++ drop used s) (y.1 ∙ store_shape v) ∙ simp append_assoc
@@ -93,40 +93,40 @@ module _ (s : List ℕ) (oct : Octets s) (v : Store) (used : ℕ) (h : store_of 
   front_is =
       let a : List ℕ = to_be 4 (9 + length (enc_all enc_item v.items)) in
       let r : List ℕ = to_be 2 (length v.items) ++ (enc_all enc_item v.items ++ drop used s) in
-      ap (λ (l : List ℕ). part l 4 3) slice-shape ∙ ap (take 3) (drop_at a (front v ++ r) 4 (length_to_be 4 _)) ∙ take_at (front v) r 3 (front_length v)
+      ap (λ (l : List ℕ). part l 4 3) slice_shape ∙ ap (take 3) (drop_at a (front v ++ r) 4 (length_to_be 4 _)) ∙ take_at (front v) r 3 (front_length v)
 
-  items-are : part s 9 (used - 9) ≡ enc_all enc_item v.items
-  items-are =
+  items_are : part s 9 (used - 9) ≡ enc_all enc_item v.items
+  items_are =
       let a : List ℕ = to_be 4 (9 + length (enc_all enc_item v.items)) in
       let n : List ℕ = to_be 2 (length v.items) in
       let e : List ℕ = enc_all enc_item v.items in
       let q : a ++ (front v ++ (n ++ (e ++ drop used s))) ≡ (a ++ (front v ++ n)) ++ (e ++ drop used s) = simp append_assoc in
       let k : length (front v ++ n) ≡ 5 = omega (arith, length-append (front v) n, length_to_be 2 (length v.items), front_length v) in
       let l : length (a ++ (front v ++ n)) ≡ 9 = omega (arith, length-append a (front v ++ n), length_to_be 4 (9 + length e), k) in
-      let m : length e ≡ used - 9 = omega (arith, used-is) in
-      ap (λ (l : List ℕ). part l 9 (used - 9)) (slice-shape ∙ q) ∙ ap (take (used - 9)) (drop_at (a ++ (front v ++ n)) (e ++ drop used s) 9 l) ∙ take_at e (drop used s) (used - 9) m
+      let m : length e ≡ used - 9 = omega (arith, used_is) in
+      ap (λ (l : List ℕ). part l 9 (used - 9)) (slice_shape ∙ q) ∙ ap (take (used - 9)) (drop_at (a ++ (front v ++ n)) (e ++ drop used s) 9 l) ∙ take_at e (drop used s) (used - 9) m
 
   module _ (x : Item) where
-    more-items : enc_all enc_item (v.items ++ (x ∷ [])) ≡ enc_all enc_item v.items ++ enc_item x
-    more-items = enc_append enc_item v.items (x ∷ []) ∙ ap (λ (l : List ℕ). enc_all enc_item v.items ++ l) (enc_one enc_item x)
+    more_items : enc_all enc_item (v.items ++ (x ∷ [])) ≡ enc_all enc_item v.items ++ enc_item x
+    more_items = enc_append enc_item v.items (x ∷ []) ∙ ap (λ (l : List ℕ). enc_all enc_item v.items ++ l) (enc_one enc_item x)
 
-    more-count : length (v.items ++ (x ∷ [])) ≡ length v.items + 1
-    more-count = length-append v.items (x ∷ [])
+    more_count : length (v.items ++ (x ∷ [])) ≡ length v.items + 1
+    more_count = length-append v.items (x ∷ [])
 
-    more-used : 9 + length (enc_all enc_item (v.items ++ (x ∷ []))) ≡ used + length (enc_item x)
-    more-used = omega (arith, used-is, ap length more-items, length-append (enc_all enc_item v.items) (enc_item x))
+    more_used : 9 + length (enc_all enc_item (v.items ++ (x ∷ []))) ≡ used + length (enc_item x)
+    more_used = omega (arith, used_is, ap length more_items, length-append (enc_all enc_item v.items) (enc_item x))
 
-    more-length : length (enc_store (with_more v x)) ≡ used + length (enc_item x)
-    more-length = store_length (with_more v x) ∙ more-used
+    more_length : length (enc_store (with_more v x)) ≡ used + length (enc_item x)
+    more_length = store_length (with_more v x) ∙ more_used
 
     -- the bytes at the front are those of the store with the item behind
-    at_front : with_item s used (length v.items) (enc_item x) ≡ at_front (enc_store (with_more v x)) s
+    at_front_law : with_item s used (length v.items) (enc_item x) ≡ at_front (enc_store (with_more v x)) s
     unfolding with_item
-    at_front = rw (front_is, items-are, store_shape (with_more v x), more-used, more-count, more-items)
+    at_front_law = rw (front_is, items_are, store_shape (with_more v x), more_used, more_count, more_items)
 
-    with_item : with_item s used (length v.items) (enc_item x) ≡ enc_store (with_more v x) ++ drop (used + length (enc_item x)) s
+    with_item_law : with_item s used (length v.items) (enc_item x) ≡ enc_store (with_more v x) ++ drop (used + length (enc_item x)) s
     unfolding at_front
-    with_item = at_front ∙ ap (λ (j : ℕ). enc_store (with_more v x) ++ drop j s) more-length
+    with_item_law = at_front_law ∙ ap (λ (j : ℕ). enc_store (with_more v x) ++ drop j s) more_length
 
     -- one item more
     pub grown : ValidItem x → has_room (length s) used (length v.items) (length (enc_item x)) ≡ true
@@ -136,9 +136,9 @@ module _ (s : List ℕ) (oct : Octets s) (v : Store) (used : ℕ) (h : store_of 
         let n : ℕ = length (enc_item x) in
         let y = store_sound s oct h in
         let r : Room s used (length v.items) n = room_parts s used (length v.items) n room in
-        let ok : ValidStore (with_more v x) = (y.0.0, all_append ValidItem v.items (x ∷ []) y.0.1 (valid, tt), omega (arith, more-count, r.items), omega (arith, more-length, r.store)) in
+        let ok : ValidStore (with_more v x) = (y.0.0, all_append ValidItem v.items (x ∷ []) y.0.1 (valid, tt), omega (arith, more_count, r.items), omega (arith, more_length, r.store)) in
         record {
-          reads = rw with_item (store_complete (drop (used + n) s) ok ∙ ap (got (with_more v x)) more-length);
-          size = rw with_item (omega (arith, length-append (enc_store (with_more v x)) (drop (used + n) s), length-drop (used + n) s, more-length, r.slice));
-          octets = rw with_item (octets_append (enc_store (with_more v x)) (drop (used + n) s) (store_octets (with_more v x) ok) (octets_drop (used + n) s oct));
+          reads = rw with_item_law (store_complete (drop (used + n) s) ok ∙ ap (got (with_more v x)) more_length);
+          size = rw with_item_law (omega (arith, length-append (enc_store (with_more v x)) (drop (used + n) s), length-drop (used + n) s, more_length, r.slice));
+          octets = rw with_item_law (octets_append (enc_store (with_more v x)) (drop (used + n) s) (store_octets (with_more v x) ok) (octets_drop (used + n) s oct));
         }

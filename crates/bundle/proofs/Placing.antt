@@ -15,12 +15,12 @@ use Rattle.rules.specs.Rules.{is_id}
 use Rattle.records.specs.Decode.{many}
 use Rattle.records.specs.Encode.{enc_function}
 use Rattle.records.specs.Images.{Entry, Store, max_image, is_some, store_of, resource_of}
-use Rattle.records.proofs.Views.{both, never, next_is, many-cons, many-nil}
+use Rattle.records.proofs.Views.{both, never, next_is, many_cons, many_nil}
 use Rattle.entries.specs.Lookup.{find_in}
 use Rattle.entries.proofs.Lengths.{short_id}
 use Rattle.entries.proofs.Open.{store_parts, whole_resource}
 use Rattle.growth.specs.Items.{with_item, has_room, written_if, file_item}
-use Rattle.growth.proofs.Items.{filed-is, short_written, function_length}
+use Rattle.growth.proofs.Items.{filed_is, short_written, function_length}
 use Rattle.bundle.specs.declared.Place.{Place}
 use Rattle.bundle.specs.declared.Place.TheVariants as place
 use Rattle.bundle.specs.Relations.Places.{ResourcePlace, resource_4, resource_5, resource_6, is_resource_at, FunctionPlace, function_4, function_8, function_9, function_10, function_6, is_function_at}
@@ -31,9 +31,9 @@ unfolding max_image
 image_small s is h = next_is is h (λ es hr. whole_resource s hr (λ k _ _ ef le _. omega arith))
 
 many_length : {A : Type 0} (p : Parser A) (s : List ℕ) (n at : ℕ) {l : List A} {f : ℕ} → many [] ◌∷◌ n p s at ≡ got l f → n ≡ length l
-many_length p s zero at h = many-nil [] ◌∷◌ p s zero at (omega arith) h (λ el _. sym (ap length el))
+many_length p s zero at h = many_nil [] ◌∷◌ p s zero at (omega arith) h (λ el _. sym (ap length el))
 many_length p s (suc n) at {l} {f} h =
-    many-cons [] ◌∷◌ p s (suc n) at (omega arith) h (λ a e l' _ hl el.
+    many_cons [] ◌∷◌ p s (suc n) at (omega arith) h (λ a e l' _ hl el.
     let m : suc n - 1 ≡ n = omega arith in
     let ih = many_length p s n e (subst (λ (j : ℕ). many [] ◌∷◌ j p s e ≡ got l' f) m hl) in
     let el' : length l ≡ suc (length l') = ap length el in
@@ -47,43 +47,43 @@ count_bad s h hs = store_parts s hs (λ k _ _ hk _ _ _ _. never h hk)
 
 -- the place of a resource, test by test
 module _ (s image : List ℕ) where
-  pub place-4 : store_of s ≡ bad → ResourcePlace s image (place.Refused 4)
-  place-4 h = resource_4 h refl
+  pub place_4 : store_of s ≡ bad → ResourcePlace s image (place.Refused 4)
+  place_4 h = resource_4 h refl
 
   module _ {st : Store} {u : ℕ} (hs : store_of s ≡ got st u) where
-    pub place-5 : resource_of image ≡ bad → ResourcePlace s image (place.Refused 5)
-    place-5 h = resource_5 st u hs h refl
+    pub place_5 : resource_of image ≡ bad → ResourcePlace s image (place.Refused 5)
+    place_5 h = resource_5 st u hs h refl
 
     module _ {es : List Entry} {e : ℕ} (hr : resource_of image ≡ got es e) where
-      pub place-6 : has_room (length s) u (length st.items) (1 + length image) ≡ false → ResourcePlace s image (place.Refused 6)
-      place-6 h = resource_6 st u es e hs hr h refl
+      pub place_6 : has_room (length s) u (length st.items) (1 + length image) ≡ false → ResourcePlace s image (place.Refused 6)
+      place_6 h = resource_6 st u es e hs hr h refl
 
       pub place_at : {n : ℕ} → n ≡ length st.items → has_room (length s) u (length st.items) (1 + length image) ≡ true → ResourcePlace s image (place.At u n)
       place_at q h = is_resource_at st u es e hs hr h (ap (place.At u) q)
 
 -- the place of a function
 module _ (s id : List ℕ) (code : ℕ) where
-  pub named-4 : store_of s ≡ bad → FunctionPlace s id code (place.Refused 4)
-  named-4 h = function_4 h refl
+  pub named_4 : store_of s ≡ bad → FunctionPlace s id code (place.Refused 4)
+  named_4 h = function_4 h refl
 
   module _ {st : Store} {u : ℕ} (hs : store_of s ≡ got st u) where
-    pub named-8 : is_id id ≡ false → FunctionPlace s id code (place.Refused 8)
-    named-8 h = function_8 st u hs h refl
+    pub named_8 : is_id id ≡ false → FunctionPlace s id code (place.Refused 8)
+    named_8 h = function_8 st u hs h refl
 
     module _ (hi : is_id id ≡ true) where
-      pub named-9 : (code ≡ 1 → ⊥) → FunctionPlace s id code (place.Refused 9)
-      named-9 h = function_9 st u hs hi h refl
+      pub named_9 : (code ≡ 1 → ⊥) → FunctionPlace s id code (place.Refused 9)
+      named_9 h = function_9 st u hs hi h refl
 
       module _ (hc : code ≡ 1) where
-        pub named-10 : is_some (find_in st.items id) ≡ true → FunctionPlace s id code (place.Refused 10)
-        named-10 h = function_10 st u hs hi hc h refl
+        pub named_10 : is_some (find_in st.items id) ≡ true → FunctionPlace s id code (place.Refused 10)
+        named_10 h = function_10 st u hs hi hc h refl
 
         module _ (hf : is_some (find_in st.items id) ≡ false) where
-          pub named-6 : has_room (length s) u (length st.items) (9 + length id) ≡ false → FunctionPlace s id code (place.Refused 6)
-          named-6 h = function_6 st u hs hi hc hf h refl
+          pub named_6 : has_room (length s) u (length st.items) (9 + length id) ≡ false → FunctionPlace s id code (place.Refused 6)
+          named_6 h = function_6 st u hs hi hc hf h refl
 
-          pub named-at : {n : ℕ} → n ≡ length st.items → has_room (length s) u (length st.items) (9 + length id) ≡ true → FunctionPlace s id code (place.At u n)
-          named-at q h = is_function_at st u hs hi hc hf h (ap (place.At u) q)
+          pub named_at_law : {n : ℕ} → n ≡ length st.items → has_room (length s) u (length st.items) (9 + length id) ≡ true → FunctionPlace s id code (place.At u n)
+          named_at_law q h = is_function_at st u hs hi hc hf h (ap (place.At u) q)
 
 -- a place is no refusal
 pub not_refused : {r : Place} {u k n : ℕ} → r ≡ place.At u k → r ≡ place.Refused n → ⊥
@@ -116,14 +116,14 @@ function_placed {s = s} {r = r} {u = u} {k = k} (is_function_at st v hs hi hc hf
 
 -- an item is filed at its place
 module _ (s item : List ℕ) {u k n : ℕ} (e : length item ≡ n) {st : Store} (hs : store_of s ≡ got st u) (ek : k ≡ length st.items) (room : has_room (length s) u (length st.items) n ≡ true) where
-  filed-at : file_item s u k item ≡ with_item s u k item
-  filed-at = store_parts s hs (λ _ _ _ _ _ _ lo _. filed-is s u k item lo e (ap (λ (j : ℕ). has_room (length s) u j n) ek ∙ room))
+  filed_at : file_item s u k item ≡ with_item s u k item
+  filed_at = store_parts s hs (λ _ _ _ _ _ _ lo _. filed_is s u k item lo e (ap (λ (j : ℕ). has_room (length s) u j n) ek ∙ room))
 
 pub resource_item : (s image : List ℕ) (mode : ℕ) {r : Place} {u k : ℕ} → ResourcePlace s image r → r ≡ place.At u k → file_item s u k (mode ∷ image) ≡ with_item s u k (mode ∷ image)
-resource_item s image mode p q = resource_placed p q (λ st es e hs _ ek room. filed-at s (mode ∷ image) (omega arith) hs ek room)
+resource_item s image mode p q = resource_placed p q (λ st es e hs _ ek room. filed_at s (mode ∷ image) (omega arith) hs ek room)
 
 pub function_item : (s id : List ℕ) {code : ℕ} {r : Place} {u k : ℕ} → FunctionPlace s id code r → r ≡ place.At u k
     → written_if (leb (length id) 255) s (file_item s u k (3 ∷ enc_function id)) ≡ with_item s u k (3 ∷ enc_function id)
 function_item s id p q =
     function_placed p q (λ st hs hi _ _ ek room.
-    sym (short_written (length id) s _ (short_id id hi) refl) ∙ filed-at s (3 ∷ enc_function id) (function_length id) hs ek room)
+    sym (short_written (length id) s _ (short_id id hi) refl) ∙ filed_at s (3 ∷ enc_function id) (function_length id) hs ek room)

@@ -1,12 +1,12 @@
 -- Document 01, "What each operation refuses": each refusal once, and what the slices hold then.
 use Rattle.std.specs.Prelude.{◌≡◌, refl, List, [], ◌∷◌, ℕ, replicate}
 use Rattle.std.proofs.Math.Option.{none, some}
-use Rattle.records.specs.Tree.{Literal, no_more, inline, nested, no-inline, and, no_variant}
+use Rattle.records.specs.Tree.{Literal, no_more, inline, nested, no_inline, and, no_variant}
 use Rattle.records.specs.Images.{Entry, Item}
 use Rattle.records.specs.Encode.{enc_resource, enc_arguments_image}
 use Rattle.bundle.specs.Additions as bundle
 use Rattle.bundle.specs.Additions.{Added, new_bundle, add_resource, add_resource_overriding, add_function}
-use Rattle.resolution.specs.Format.{finished, refusedBefore, refusedRunning, Buffers, Formatted, format}
+use Rattle.resolution.specs.Format.{finished, refused_before, refused_running, Buffers, Formatted, format}
 use Rattle.cases.specs.Text.{Bytes, ascii}
 use Rattle.resolution.specs.Case.{a_message, a_term, say, put, choice, numbered, default, var, numeral, call, whole, lent}
 use Rattle.cases.specs.Case.{stored, computed}
@@ -18,7 +18,7 @@ messages =
     a_message "a" (say "Hello" no_more)
     ∷ a_message "v" (put (var "n") no_more)
     ∷ a_message "s" (choice (nested (inline (var "n"))) (numbered "1" (say "x" no_more) (default "o" (say "y" no_more) no_variant)) no_more)
-    ∷ a_message "f" (put (call "NUMBER" (and (numeral "5") no-inline) ((ascii "minimumFractionDigits", Literal.number (ascii "20")) ∷ [])) no_more)
+    ∷ a_message "f" (put (call "NUMBER" (and (numeral "5") no_inline) ((ascii "minimumFractionDigits", Literal.number (ascii "20")) ∷ [])) no_more)
     ∷ a_term "t" (say "T" no_more)
     ∷ []
 
@@ -38,11 +38,11 @@ lengths t l w = record { text = replicate t 0xAA; list = replicate l 0xBB; work 
 
 -- "all these change nothing"
 unfoldable pub unchanged : ℕ → Buffers → Formatted
-unchanged n b = record { answer = refusedBefore n; buffers = b }
+unchanged n b = record { answer = refused_before n; buffers = b }
 
 -- "These fill text, list and workspace with zeros."
 unfoldable pub cleared : ℕ → ℕ → ℕ → ℕ → Formatted
-cleared n t l w = record { answer = refusedRunning n; buffers = record { text = replicate t 0; list = replicate l 0; work = replicate w 0 } }
+cleared n t l w = record { answer = refused_running n; buffers = record { text = replicate t 0; list = replicate l 0; work = replicate w 0 } }
 
 -- Format: "4; 8; 11 no such message; 12 no such value or attribute; 13 malformed arguments; 7 list buffer under 5 bytes", and 19 "directly after 13". Where two apply, the one that
 -- stands first in this list is the answer: each call below is also refused for every later reason that it can be.

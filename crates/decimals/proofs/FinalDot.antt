@@ -13,7 +13,7 @@ use Rattle.decimals.specs.Bytes.{digit}
 use Rattle.decimals.specs.Decimal.{Number, shortest, or_zero}
 use Rattle.decimals.specs.Text.{digits_of, decimal, sign_text, fraction_digits, with_dot, fraction_text, decimal_text, number_text}
 use Rattle.decimals.specs.FinalDot.{original_fraction, original_decimal, original_text, dot_removed, last_or, OnlyADot, NoDotWithoutDigits}
-use Rattle.decimals.proofs.Writing.{decimal_small, decimal_more, dot_none, dot_some, fraction_digits_length, fraction-none, fraction-own}
+use Rattle.decimals.proofs.Writing.{decimal_small, decimal_more, dot_none, dot_some, fraction_digits_length, fraction_none, fraction_own}
 use Rattle.decimals.proofs.Tests.{digit_bounds}
 
 -- a text whose last byte is a digit, whatever stands before it
@@ -90,8 +90,8 @@ fraction_there d (suc s) e = absurd (omega arith)
 
 fraction_elsewhere : (o : Option ℕ) (d s : ℕ) → (o ≡ some 0 → s ≡ 0 → ⊥) → fraction_text o d s ≡ original_fraction o d s
 unfolding original_fraction fraction_text fraction_digits or_zero
-fraction_elsewhere none d zero f = fraction-none none d zero refl (omega arith) refl
-fraction_elsewhere none d (suc s) f = fraction-own none d (suc s) {k = 0} refl (omega arith) (λ e. omega arith)
+fraction_elsewhere none d zero f = fraction_none none d zero refl (omega arith) refl
+fraction_elsewhere none d (suc s) f = fraction_own none d (suc s) {k = 0} refl (omega arith) (λ e. omega arith)
 fraction_elsewhere (some m) d s f = go (eqb (s + (m - s)) 0) refl
   where
     go : (t : Bool) → eqb (s + (m - s)) 0 ≡ t → fraction_text (some m) d s ≡ 46 ∷ (digits_of s d ++ replicate (m - s) 48)

@@ -17,11 +17,11 @@ module _ (f : ℕ → ℕ → ℕ) (s : List ℕ) where
   run_end q i h = rw (drop_of_length-le s h)
 
   -- a turn of the loop, and its end
-  pub run-turn : {q r i x : ℕ} → i < length s → run f q (drop i s) ≡ x → r ≡ f q (get_or s i 0) → run f r (drop (i + 1) s) ≡ x
-  run-turn {q} {r} {i} h p e = rw (e, ← run_more q i h) p
+  pub run_turn : {q r i x : ℕ} → i < length s → run f q (drop i s) ≡ x → r ≡ f q (get_or s i 0) → run f r (drop (i + 1) s) ≡ x
+  run_turn {q} {r} {i} h p e = rw (e, ← run_more q i h) p
 
-  pub run-done : (q : ℕ) {i x : ℕ} → length s ≤ i → run f q (drop i s) ≡ x → x ≡ q
-  run-done q {i} h p = sym p ∙ run_end q i h
+  pub run_done : (q : ℕ) {i x : ℕ} → length s ≤ i → run f q (drop i s) ≡ x → x ≡ q
+  run_done q {i} h p = sym p ∙ run_end q i h
 
 -- over one list, and then over another
 pub run_append : (f : ℕ → ℕ → ℕ) (q : ℕ) (a b : List ℕ) → run f q (a ++ b) ≡ run f (run f q a) b

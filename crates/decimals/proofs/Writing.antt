@@ -172,25 +172,25 @@ number_parts n e = rw (e, number_text)
 
 -- the three ways of a fraction, by its digits and its minimum: none, its own, and its own with zeros
 module _ (m : Option ℕ) (d s : ℕ) {k : ℕ} (e : k ≡ or_zero m) where
-  pub fraction-none : k ≤ s → s ≡ 0 → fraction_text m d s ≡ []
+  pub fraction_none : k ≤ s → s ≡ 0 → fraction_text m d s ≡ []
   unfolding fraction_text
-  fraction-none h z = dot_none (fraction_digits (or_zero m) d s) (omega (arith, fraction_digits_length (or_zero m) d s))
+  fraction_none h z = dot_none (fraction_digits (or_zero m) d s) (omega (arith, fraction_digits_length (or_zero m) d s))
 
-  pub fraction-own : k ≤ s → (s ≡ 0 → ⊥) → fraction_text m d s ≡ 46 ∷ digits_of s d
+  pub fraction_own : k ≤ s → (s ≡ 0 → ⊥) → fraction_text m d s ≡ 46 ∷ digits_of s d
   unfolding fraction_text fraction_digits
-  fraction-own h z =
+  fraction_own h z =
       let n : or_zero m - s ≡ 0 = omega arith in
       dot_some (digits_of s d ++ replicate (or_zero m - s) 48) (omega (arith, fraction_digits_length (or_zero m) d s)) ∙ rw n (ap (λ (l : List ℕ). 46 ∷ l) (append-nil (digits_of s d)))
 
-  pub fraction-padded : s < k → fraction_text m d s ≡ 46 ∷ (digits_of s d ++ replicate (k - s) 48)
+  pub fraction_padded : s < k → fraction_text m d s ≡ 46 ∷ (digits_of s d ++ replicate (k - s) 48)
   unfolding fraction_text fraction_digits
-  fraction-padded h = rw e (dot_some (digits_of s d ++ replicate (or_zero m - s) 48) (omega (arith, fraction_digits_length (or_zero m) d s)))
+  fraction_padded h = rw e (dot_some (digits_of s d ++ replicate (or_zero m - s) 48) (omega (arith, fraction_digits_length (or_zero m) d s)))
 
-  pub own-length : k ≤ s → (s ≡ 0 → ⊥) → length (fraction_text m d s) ≡ s + 1
-  own-length h z = ap length (fraction-own h z) ∙ omega (arith, digits_length s d)
+  pub own_length : k ≤ s → (s ≡ 0 → ⊥) → length (fraction_text m d s) ≡ s + 1
+  own_length h z = ap length (fraction_own h z) ∙ omega (arith, digits_length s d)
 
-  pub padded-length : s < k → length (fraction_text m d s) ≡ k + 1
-  padded-length h = ap length (fraction-padded h) ∙ omega (arith, length-append (digits_of s d) (replicate (k - s) 48), digits_length s d, length-replicate {A = ℕ} (k - s) 48)
+  pub padded_length : s < k → length (fraction_text m d s) ≡ k + 1
+  padded_length h = ap length (fraction_padded h) ∙ omega (arith, length-append (digits_of s d) (replicate (k - s) 48), digits_length s d, length-replicate {A = ℕ} (k - s) 48)
 
 -- what is added to a text, one after the other
 pub adds_none : (t : NumberText) → Adds t [] t

@@ -23,77 +23,77 @@ use Rattle.records.proofs.First.{named_here, named_past}
 
 -- the entries of a resource
 module _ (s : List ℕ) (at : ℕ) {r : Num} (is : r ≡ num_of (behind 5 (number_at 2) s at)) where
-  pub resource-bad : r ≡ num.Bad → entries_in s at ≡ []
+  pub resource_bad : r ≡ num.Bad → entries_in s at ≡ []
   unfolding entries_in list_after
-  resource-bad h = rw (num_none is h)
+  resource_bad h = rw (num_none is h)
 
-  pub resource-start : {k p : ℕ} → r ≡ num.At k p → entries_in s at ≡ readable k entry_head entry_outline s p
+  pub resource_start : {k p : ℕ} → r ≡ num.At k p → entries_in s at ≡ readable k entry_head entry_outline s p
   unfolding entries_in list_after
-  resource-start h = rw (num_is is h)
+  resource_start h = rw (num_is is h)
 
 -- the Id of a function
 module _ (s : List ℕ) (at : ℕ) (id : List ℕ) {r : Num} (is : r ≡ num_of (behind 6 span_at s at)) where
-  pub function-bad : r ≡ num.Bad → first_named id (function_in s at) ≡ none
+  pub function_bad : r ≡ num.Bad → first_named id (function_in s at) ≡ none
   unfolding function_in list_after first_named
-  function-bad h = rw (behind_no_str 6 s at (num_none is h))
+  function_bad h = rw (behind_no_str 6 s at (num_none is h))
 
   module _ (a e : ℕ) (h : r ≡ num.At a e) where
-    function-row : function_in s at ≡ (part s a (e - a), Location.function) ∷ []
+    function_row : function_in s at ≡ (part s a (e - a), Location.function) ∷ []
     unfolding function_in list_after
-    function-row = rw (behind_str 6 s at (num_is is h))
+    function_row = rw (behind_str 6 s at (num_is is h))
 
-    pub function-here : same_bytes (part s a (e - a)) id ≡ true → first_named id (function_in s at) ≡ some Location.function
-    function-here y = ap (first_named id) function-row ∙ named_here id (part s a (e - a), Location.function) [] y
+    pub function_here : same_bytes (part s a (e - a)) id ≡ true → first_named id (function_in s at) ≡ some Location.function
+    function_here y = ap (first_named id) function_row ∙ named_here id (part s a (e - a), Location.function) [] y
 
-    pub function-other : same_bytes (part s a (e - a)) id ≡ false → first_named id (function_in s at) ≡ none
+    pub function_other : same_bytes (part s a (e - a)) id ≡ false → first_named id (function_in s at) ≡ none
     unfolding first_named
-    function-other y = ap (first_named id) function-row ∙ named_past id (part s a (e - a), Location.function) [] y
+    function_other y = ap (first_named id) function_row ∙ named_past id (part s a (e - a), Location.function) [] y
 
 -- an entry, behind its Id
 module _ (s : List ℕ) (at : ℕ) {r : Num} (is : r ≡ num_of (behind 1 span_at s at)) where
-  pub entry-bad : r ≡ num.Bad → next.Bad ≡ next_of (entry_outline s at)
+  pub entry_bad : r ≡ num.Bad → next.Bad ≡ next_of (entry_outline s at)
   unfolding entry_outline after next_of
-  entry-bad h = rw (behind_no_str 1 s at (num_none is h))
+  entry_bad h = rw (behind_no_str 1 s at (num_none is h))
 
-  pub value-no-id : r ≡ num.Bad → next.Bad ≡ at_position (position_of (value_in s at))
+  pub value_no_id : r ≡ num.Bad → next.Bad ≡ at_position (position_of (value_in s at))
   unfolding value_in after position_of at_position
-  value-no-id h = rw (behind_no_str 1 s at (num_none is h))
+  value_no_id h = rw (behind_no_str 1 s at (num_none is h))
 
-  pub attributes-no-id : r ≡ num.Bad → attributes_in s at ≡ []
+  pub attributes_no_id : r ≡ num.Bad → attributes_in s at ≡ []
   unfolding attributes_in list_after
-  attributes-no-id h = rw (behind_no_str 1 s at (num_none is h))
+  attributes_no_id h = rw (behind_no_str 1 s at (num_none is h))
 
   module _ (a e : ℕ) (h : r ≡ num.At a e) where
     id_there : behind 1 str_at s at ≡ got (part s a (e - a)) e
     id_there = behind_str 1 s at (num_is is h)
 
-    pub entry-rest : {x : Next} → x ≡ next_of (after (value_outline s e) (λ v q. attributes_outline s q)) → x ≡ next_of (entry_outline s at)
+    pub entry_rest : {x : Next} → x ≡ next_of (after (value_outline s e) (λ v q. attributes_outline s q)) → x ≡ next_of (entry_outline s at)
     unfolding entry_outline
-    entry-rest q = q ∙ ap next_of (sym (after_is (behind 1 str_at s at) _ id_there))
+    entry_rest q = q ∙ ap next_of (sym (after_is (behind 1 str_at s at) _ id_there))
 
     module _ {f : Num} (fs : f ≡ num_of (byte_at s e)) where
-      pub value-no-flag : f ≡ num.Bad → next.Bad ≡ at_position (position_of (value_in s at))
+      pub value_no_flag : f ≡ num.Bad → next.Bad ≡ at_position (position_of (value_in s at))
       unfolding value_in after position_of at_position
-      value-no-flag k = rw (id_there, num_none fs k)
+      value_no_flag k = rw (id_there, num_none fs k)
 
-      pub value-absent : {t p : ℕ} → f ≡ num.At t p → t ≡ 0 → next.Bad ≡ at_position (position_of (value_in s at))
+      pub value_absent : {t p : ℕ} → f ≡ num.At t p → t ≡ 0 → next.Bad ≡ at_position (position_of (value_in s at))
       unfolding value_in after test position_of at_position
-      value-absent {t} k z = rw (id_there, num_is fs k, eq-eqb t 0 z)
+      value_absent {t} k z = rw (id_there, num_is fs k, eq-eqb t 0 z)
 
-      pub value-present : {t p : ℕ} → f ≡ num.At t p → (t ≡ 0 → ⊥) → next.At p ≡ at_position (position_of (value_in s at))
+      pub value_present : {t p : ℕ} → f ≡ num.At t p → (t ≡ 0 → ⊥) → next.At p ≡ at_position (position_of (value_in s at))
       unfolding value_in after test position_of at_position
-      value-present {t} k z = rw (id_there, num_is fs k, ne_eqb t 0 z)
+      value_present {t} k z = rw (id_there, num_is fs k, ne_eqb t 0 z)
 
     module _ {v : Next} (vs : v ≡ next_of (value_outline s e)) where
-      pub attributes-no-value : v ≡ next.Bad → attributes_in s at ≡ []
+      pub attributes_no_value : v ≡ next.Bad → attributes_in s at ≡ []
       unfolding attributes_in list_after
-      attributes-no-value k = rw (id_there, next_none vs k)
+      attributes_no_value k = rw (id_there, next_none vs k)
 
       module _ (p : ℕ) (k : v ≡ next.At p) {c : Num} (cs : c ≡ num_of (number_at 2 s p)) where
-        pub attributes-no-count : c ≡ num.Bad → attributes_in s at ≡ []
+        pub attributes_no_count : c ≡ num.Bad → attributes_in s at ≡ []
         unfolding attributes_in list_after
-        attributes-no-count w = next_is vs k (λ b q. rw (id_there, q, num_none cs w))
+        attributes_no_count w = next_is vs k (λ b q. rw (id_there, q, num_none cs w))
 
-        pub attributes-start : {n i : ℕ} → c ≡ num.At n i → attributes_in s at ≡ readable n attribute_head attribute_outline s i
+        pub attributes_start : {n i : ℕ} → c ≡ num.At n i → attributes_in s at ≡ readable n attribute_head attribute_outline s i
         unfolding attributes_in list_after
-        attributes-start w = next_is vs k (λ b q. rw (id_there, q, num_is cs w))
+        attributes_start w = next_is vs k (λ b q. rw (id_there, q, num_is cs w))

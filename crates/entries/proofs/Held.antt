@@ -17,7 +17,7 @@ use Rattle.records.specs.Relations.Answer.{next_of, num_of}
 use Rattle.records.specs.Bytes.{byte_at, bytes_at, number_at}
 use Rattle.records.specs.Images.{is_some}
 use Rattle.decimals.specs.Bytes.{same_bytes}
-use Rattle.records.proofs.Laws.{after_is, after-elim, bytes_inv, byte_inv}
+use Rattle.records.proofs.Laws.{after_is, after_elim, bytes_inv, byte_inv}
 use Rattle.records.proofs.Views.{num_is, num_none, next_is, next_none}
 use Rattle.entries.specs.declared.Found.{Found}
 use Rattle.entries.specs.declared.Found.TheVariants as found
@@ -26,7 +26,7 @@ use Rattle.entries.specs.Lookup.{last_named}
 use Rattle.records.specs.Optional.{or_else, option_of}
 use Rattle.entries.specs.Outline.{list_after, readable, Location, kind_as, Ids, entries_in, function_in, ids_by, item_head, item_outline, items_in, located_after, locate_from, locate}
 use Rattle.entries.specs.Relations.Meets.{found_of, held_by, after_ids}
-use Rattle.entries.proofs.Walk.{list-none, list-bad, list-stuck, list-next}
+use Rattle.entries.proofs.Walk.{list_none, list_bad, list_stuck, list_next}
 use Rattle.records.proofs.First.{or_none}
 use Rattle.entries.proofs.Open.{byte_in}
 
@@ -60,16 +60,16 @@ is_held o h e = ap is_some (ap held_by (sym e) ∙ says_held h)
 
 -- the kind of an entry
 module _ (s : List ℕ) (at : ℕ) where
-  pub kind-one : get_or s at 0 ≡ 1 → found.Message at ≡ found_of (some (kind_as (eqb (get_or s at 0) 1) at))
+  pub kind_one : get_or s at 0 ≡ 1 → found.Message at ≡ found_of (some (kind_as (eqb (get_or s at 0) 1) at))
   unfolding found_of kind_as
-  kind-one h = rw (eq-eqb (get_or s at 0) 1 h)
+  kind_one h = rw (eq-eqb (get_or s at 0) 1 h)
 
   pub kind_other : (get_or s at 0 ≡ 1 → ⊥) → found.Term at ≡ found_of (some (kind_as (eqb (get_or s at 0) 1) at))
   unfolding found_of kind_as
   kind_other h = rw (ne_eqb (get_or s at 0) 1 h)
 
-  pub kind-none : length s ≤ at → found.Term at ≡ found_of (some (kind_as (eqb (get_or s at 0) 1) at))
-  kind-none h = kind_other (λ k. let z : get_or s at 0 ≡ 0 = get_or-eq_default s 0 h in omega arith)
+  pub kind_none : length s ≤ at → found.Term at ≡ found_of (some (kind_as (eqb (get_or s at 0) 1) at))
+  kind_none h = kind_other (λ k. let z : get_or s at 0 ≡ 0 = get_or-eq_default s 0 h in omega arith)
 
 -- one among the entries of an id, or the last one so far
 pub last_found : (o : Option Location) {r : Found} → or_else o (held_by found.Nothing) ≡ held_by r → r ≡ found_of o
@@ -90,31 +90,31 @@ or_other o e h = rw e h
 
 -- what an id has after an item
 module _ (s : List ℕ) (at : ℕ) (id : List ℕ) {m : Num} (is : m ≡ num_of (byte_at s at)) (held : Found) where
-  abbrev afterItem : Option Location
-  afterItem = after_ids (item_head s at) id (held_by held)
+  abbrev after_item : Option Location
+  after_item = after_ids (item_head s at) id (held_by held)
 
-  pub after-bad : m ≡ num.Bad → held ≡ found_of afterItem
+  pub after_bad : m ≡ num.Bad → held ≡ found_of after_item
   unfolding item_head after after_ids
-  after-bad h = is_found (rw (num_none is h))
+  after_bad h = is_found (rw (num_none is h))
 
   module _ (b p : ℕ) (h : m ≡ num.At b p) where
-    pub after-function : {l r : Found} → b ≡ 3 → l ≡ found_of (first_named id (function_in s p)) → r ≡ found_of (or_else (held_by held) (held_by l)) → r ≡ found_of afterItem
+    pub after_function : {l r : Found} → b ≡ 3 → l ≡ found_of (first_named id (function_in s p)) → r ≡ found_of (or_else (held_by held) (held_by l)) → r ≡ found_of after_item
     unfolding item_head after after_ids ids_by located_after
-    after-function e w q = rw (num_is is h, ne_eqb b 2 (λ k. omega arith), eq-eqb b 3 e) (q ∙ ap (λ (o : Option Location). found_of (or_else (held_by held) o)) (says_held w))
+    after_function e w q = rw (num_is is h, ne_eqb b 2 (λ k. omega arith), eq-eqb b 3 e) (q ∙ ap (λ (o : Option Location). found_of (or_else (held_by held) o)) (says_held w))
 
     -- a resource
     module _ (n3 : b ≡ 3 → ⊥) {l : List (List ℕ × Location)} (row : entries_in s p ≡ l) where
-      pub after_last : {f r : Found} → b ≡ 2 → f ≡ found_of (last_named id l) → r ≡ found_of (or_else (held_by f) (held_by held)) → r ≡ found_of afterItem
+      pub after_last : {f r : Found} → b ≡ 2 → f ≡ found_of (last_named id l) → r ≡ found_of (or_else (held_by f) (held_by held)) → r ≡ found_of after_item
       unfolding item_head after after_ids ids_by located_after
       after_last e w q = rw (num_is is h, eq-eqb b 2 e, row) (q ∙ ap (λ (o : Option Location). found_of (or_else o (held_by held))) (says_held w))
 
-      pub after_first : {f r : Found} → (b ≡ 2 → ⊥) → f ≡ found_of (first_named id l) → r ≡ found_of (or_else (held_by held) (held_by f)) → r ≡ found_of afterItem
+      pub after_first : {f r : Found} → (b ≡ 2 → ⊥) → f ≡ found_of (first_named id l) → r ≡ found_of (or_else (held_by held) (held_by f)) → r ≡ found_of after_item
       unfolding item_head after after_ids ids_by located_after
       after_first n2 w q = rw (num_is is h, ne_eqb b 2 n2, ne_eqb b 3 n3, row) (q ∙ ap (λ (o : Option Location). found_of (or_else (held_by held) o)) (says_held w))
 
-    pub after-empty : (b ≡ 3 → ⊥) → entries_in s p ≡ [] → held ≡ found_of afterItem
+    pub after_empty : (b ≡ 3 → ⊥) → entries_in s p ≡ [] → held ≡ found_of after_item
     unfolding item_head after after_ids ids_by located_after last_named first_named or_else
-    after-empty n3 row = is_found (rw (num_is is h, ne_eqb b 3 n3) (go (eqb b 2)))
+    after_empty n3 row = is_found (rw (num_is is h, ne_eqb b 3 n3) (go (eqb b 2)))
       where
         go : (t : Bool) → located_after (ids_by t false s p) id (held_by held) ≡ held_by held
         go true = rw row refl
@@ -122,18 +122,18 @@ module _ (s : List ℕ) (at : ℕ) (id : List ℕ) {m : Num} (is : m ≡ num_of 
 
 -- what is held stays, unless an overriding resource is at the position
 module _ (s : List ℕ) (at : ℕ) (id : List ℕ) where
-  only-last : (b c : Bool) (p : ℕ) (x : Location) → b ≡ false → located_after (ids_by b c s p) id (some x) ≡ some x
+  only_last : (b c : Bool) (p : ℕ) (x : Location) → b ≡ false → located_after (ids_by b c s p) id (some x) ≡ some x
   unfolding ids_by located_after or_else
-  only-last true c p x e = cc
-  only-last false true p x e = refl
-  only-last false false p x e = refl
+  only_last true c p x e = cc
+  only_last false true p x e = refl
+  only_last false false p x e = refl
 
   kept : (x : Location) → eqb (get_or s at 0) 2 ≡ false → after_ids (item_head s at) id (some x) ≡ some x
   unfolding item_head after after_ids
   kept x e = go (byte_at s at) refl
     where
       go : (g : Got ℕ) → byte_at s at ≡ g → after_ids (after g (λ m p. got (ids_by (eqb m 2) (eqb m 3) s p) p)) id (some x) ≡ some x
-      go (got m p) h = only-last _ _ p x (ap (λ (k : ℕ). eqb k 2) (byte_inv s at h).1 ∙ e)
+      go (got m p) h = only_last _ _ p x (ap (λ (k : ℕ). eqb k 2) (byte_inv s at h).1 ∙ e)
       go bad h = refl
 
   pub unchanged : (held : Found) {r : Bool} → r ≡ not (is_some (held_by held)) || eqb (get_or s at 0) 2 → r ≡ false → held ≡ found_of (after_ids (item_head s at) id (held_by held))
@@ -152,36 +152,36 @@ module _ (s id : List ℕ) where
 
   pub from_none : (n at : ℕ) (held : Found) → n ≤ 0 → HeldFrom n at held ≡ held_by held
   unfolding locate_from
-  from_none n at held z = ap (λ (l : List Ids). locate_from l id (held_by held)) (list-none item_head item_outline s n at z)
+  from_none n at held z = ap (λ (l : List Ids). locate_from l id (held_by held)) (list_none item_head item_outline s n at z)
 
   module _ (n at : ℕ) (held : Found) (z : 0 < n) {now : Found} (a : now ≡ found_of (after_ids (item_head s at) id (held_by held))) {r : Next} (is : r ≡ next_of (item_outline s at)) where
-    pub from-stuck : r ≡ next.Bad → HeldFrom n at held ≡ held_by now
+    pub from_stuck : r ≡ next.Bad → HeldFrom n at held ≡ held_by now
     unfolding locate_from after_ids
-    from-stuck b = go (item_head s at) refl
+    from_stuck b = go (item_head s at) refl
       where
         go : (g : Got Ids) → item_head s at ≡ g → HeldFrom n at held ≡ held_by now
-        go (got x e) h = ap (λ (l : List Ids). locate_from l id (held_by held)) (list-stuck item_head item_outline s n at z h (next_none is b)) ∙ ap (λ (g : Got Ids). after_ids g id (held_by held)) (sym h) ∙ sym (says_held a)
-        go bad h = ap (λ (l : List Ids). locate_from l id (held_by held)) (list-bad item_head item_outline s n at h) ∙ ap (λ (g : Got Ids). after_ids g id (held_by held)) (sym h) ∙ sym (says_held a)
+        go (got x e) h = ap (λ (l : List Ids). locate_from l id (held_by held)) (list_stuck item_head item_outline s n at z h (next_none is b)) ∙ ap (λ (g : Got Ids). after_ids g id (held_by held)) (sym h) ∙ sym (says_held a)
+        go bad h = ap (λ (l : List Ids). locate_from l id (held_by held)) (list_bad item_head item_outline s n at h) ∙ ap (λ (g : Got Ids). after_ids g id (held_by held)) (sym h) ∙ sym (says_held a)
 
     pub from_next : {i : ℕ} → r ≡ next.At i → HeldFrom n at held ≡ HeldFrom (n - 1) i now
     unfolding locate_from after_ids item_head item_outline
     from_next {i} b =
         next_is is b (λ x w.
-        after-elim (bytes_at 1 s at) _ w (λ bs p hb _.
+        after_elim (bytes_at 1 s at) _ w (λ bs p hb _.
         let k = bytes_inv s at 1 hb in
         let k0 = k.0 in
         let hd = after_is (byte_at s at) _ (byte_in s at (omega arith)) in
-        ap (λ (l : List Ids). locate_from l id (held_by held)) (list-next item_head item_outline s n at z hd w)
+        ap (λ (l : List Ids). locate_from l id (held_by held)) (list_next item_head item_outline s n at z hd w)
         ∙ ap (locate_from (readable (n - 1) item_head item_outline s i) id) (ap (λ (g : Got Ids). after_ids g id (held_by held)) (sym hd) ∙ sym (says_held a))))
 
   pub from_start : (n at : ℕ) {r : Found} → HeldFrom n at found.Nothing ≡ held_by r → r ≡ found_of (locate_from (readable n item_head item_outline s at) id none)
   unfolding held_by
   from_start n at h = is_found h
 
-  pub locate-bad : {r : Num} → r ≡ num_of (number_at 2 s 7) → r ≡ num.Bad → locate s id ≡ none
+  pub locate_bad : {r : Num} → r ≡ num_of (number_at 2 s 7) → r ≡ num.Bad → locate s id ≡ none
   unfolding locate items_in list_after locate_from
-  locate-bad is h = rw (num_none is h)
+  locate_bad is h = rw (num_none is h)
 
-  pub locate-start : {r : Num} {k p : ℕ} → r ≡ num_of (number_at 2 s 7) → r ≡ num.At k p → locate s id ≡ locate_from (readable k item_head item_outline s p) id none
+  pub locate_start : {r : Num} {k p : ℕ} → r ≡ num_of (number_at 2 s 7) → r ≡ num.At k p → locate s id ≡ locate_from (readable k item_head item_outline s p) id none
   unfolding locate items_in list_after
-  locate-start is h = rw (num_is is h)
+  locate_start is h = rw (num_is is h)

@@ -14,10 +14,10 @@ use Rattle.decimals.specs.Bytes.{run}
 use Rattle.rules.specs.Rules.{is_id, id_step}
 use Rattle.records.specs.Decode.{optional_at, entry_pattern_at}
 use Rattle.records.specs.Images.{Entry, attributes_at, entry_at}
-use Rattle.records.proofs.Laws.{after-elim, got_elim, bytes_inv, number2, number_inv}
+use Rattle.records.proofs.Laws.{after_elim, got_elim, bytes_inv, number2, number_inv}
 use Rattle.records.proofs.Views.{both, optional_elim, attributes_elim, entry_elim, id_elim}
 use Rattle.entries.specs.Outline.{behind}
-use Rattle.entries.proofs.Inside.{entry-pattern-stays, many-stays, attribute-stays}
+use Rattle.entries.proofs.Inside.{entry_pattern_stays, many_stays, attribute_stays}
 use Rattle.entries.proofs.Open.{byte_end, entry_parts}
 
 -- numbers of two bytes
@@ -29,9 +29,9 @@ u16_small s at {n} {e} b h =
 pub id_small : (s : List ℕ) (at : ℕ) {a e : ℕ} → ((i : ℕ) → get_or s i 0 < 256) → behind 1 span_at s at ≡ got a e → e - a < 65536
 unfolding behind span_at
 id_small s at {a} {e} b h =
-    after-elim (bytes_at 1 s at) _ h (λ bs i _ h.
-    after-elim (number_at 2 s i) _ h (λ n p hn h.
-    after-elim (bytes_at n s p) _ h (λ bs' j hb h.
+    after_elim (bytes_at 1 s at) _ h (λ bs i _ h.
+    after_elim (number_at 2 s i) _ h (λ n p hn h.
+    after_elim (bytes_at n s p) _ h (λ bs' j hb h.
     got_elim h (λ ea ee.
     let w = bytes_inv s p n hb in let w2 = w.2 in
     let x = u16_small s i b hn in
@@ -41,9 +41,9 @@ id_small s at {a} {e} b h =
 id_place : (s : List ℕ) (at : ℕ) {a e : ℕ} → behind 1 span_at s at ≡ got a e → (a ≡ at + 3) × (a ≤ e) × (e ≤ length s)
 unfolding behind span_at
 id_place s at {a} {e} h =
-    after-elim (bytes_at 1 s at) _ h (λ bs i hb h.
-    after-elim (number_at 2 s i) _ h (λ n p hn h.
-    after-elim (bytes_at n s p) _ h (λ bs' j hj h.
+    after_elim (bytes_at 1 s at) _ h (λ bs i hb h.
+    after_elim (number_at 2 s i) _ h (λ n p hn h.
+    after_elim (bytes_at n s p) _ h (λ bs' j hj h.
     got_elim h (λ ea ee.
     let u = bytes_inv s at 1 hb in let u2 = u.2 in
     let v = number_inv s 2 i hn in let v1 = v.1 in
@@ -64,14 +64,14 @@ value_size s at {v} {e} l h =
     optional_elim entry_pattern_at s at h (λ hb _. let w = byte_end s at hb in let w0 = w.0 in let w1 = w.1 in (omega arith, omega arith))
     (λ i a hb ha _.
     let w = byte_end s at hb in let w0 = w.0 in let w1 = w.1 in
-    let st = entry-pattern-stays s i a e (omega arith) ha in let s0 = st.on in let s1 = st.end in
+    let st = entry_pattern_stays s i a e (omega arith) ha in let s0 = st.on in let s1 = st.end in
     (omega arith, omega arith))
 
 attributes_size : (s : List ℕ) (at : ℕ) {v : List _} {e : ℕ} → attributes_at s at ≡ got v e → (at + 2 ≤ e) × (e ≤ length s)
 attributes_size s at {v} {e} h =
     attributes_elim s at h (λ k p hk hm.
     let w = number_inv s 2 at hk in let w0 = w.0 in let w1 = w.1 in
-    let st = many-stays s [] ◌∷◌ _ (attribute-stays s) k p v e (omega arith) hm in let s0 = st.on in let s1 = st.end in
+    let st = many_stays s [] ◌∷◌ _ (attribute_stays s) k p v e (omega arith) hm in let s0 = st.on in let s1 = st.end in
     (omega arith, omega arith))
 
 -- an entry is at least as long as its record

@@ -26,7 +26,7 @@ use Rattle.entries.proofs.Open.{entry_parts, entry_kind, resource_parts, functio
 use Rattle.entries.proofs.Walk.{behind_str}
 use Rattle.records.proofs.First.{or_none}
 use Rattle.entries.proofs.Held.{held_found}
-use Rattle.entries.proofs.Decoded.{Each, many-heads, entry-ends, item-ends}
+use Rattle.entries.proofs.Decoded.{Each, many_heads, entry_ends, item_ends}
 
 -- of two holders the first
 or_held : {s : List ℕ} {o : Option Holder} {x : Found} (p : Option Holder) → HolderAt s o x → (x ≡ found.Nothing → ⊥) → HolderAt s (or_else o p) x
@@ -57,94 +57,94 @@ module _ (s : List ℕ) where
   abbrev pub Holds : Option Holder → Option Location → Type 0
   Holds o p = HolderAt s o (found_of p)
 
-  or-holds : (o o' : Option Holder) (p p' : Option Location) → Holds o p → Holds o' p' → Holds (or_else o o') (or_else p p')
+  or_holds : (o o' : Option Holder) (p p' : Option Location) → Holds o p → Holds o' p' → Holds (or_else o o') (or_else p p')
   unfolding found_of or_else
-  or-holds o o' none p' h k = or_other h refl k
-  or-holds o o' (some (Location.message q)) p' h k = or_held o' h message_there
-  or-holds o o' (some (Location.term q)) p' h k = or_held o' h term_there
-  or-holds o o' (some Location.function) p' h k = or_held o' h function_there
+  or_holds o o' none p' h k = or_other h refl k
+  or_holds o o' (some (Location.message q)) p' h k = or_held o' h message_there
+  or_holds o o' (some (Location.term q)) p' h k = or_held o' h term_there
+  or_holds o o' (some Location.function) p' h k = or_held o' h function_there
 
-  named-holds : (b : Bool) (x : Holder) (l : Location) → Holds (some x) (some l) → Holds (option_of b x) (option_of b l)
+  named_holds : (b : Bool) (x : Holder) (l : Location) → Holds (some x) (some l) → Holds (option_of b x) (option_of b l)
   unfolding option_of found_of
-  named-holds true x l h = h
-  named-holds false x l h = nothing_at refl refl
+  named_holds true x l h = h
+  named_holds false x l h = nothing_at refl refl
 
   -- an entry that is read, and its head
   abbrev EntryRow : Entry → List ℕ × Location → Type 0
   EntryRow e row = (row.0 ≡ e.id) × Holds (some (Holder.entry e)) (some row.1)
 
-  entry-holds : (at : ℕ) (e : Entry) (f : ℕ) → entry_at s at ≡ got e f → Holds (some (Holder.entry e)) (some (kind_as (eqb (get_or s at 0) 1) at))
+  entry_holds : (at : ℕ) (e : Entry) (f : ℕ) → entry_at s at ≡ got e f → Holds (some (Holder.entry e)) (some (kind_as (eqb (get_or s at 0) 1) at))
   unfolding kind_as found_of
-  entry-holds at e f h =
+  entry_holds at e f h =
       entry_kind s at h
       (λ p hb k. let b = (byte_inv s at hb).1 in rw (eq-eqb (get_or s at 0) 1 (sym b)) (is_message_at at e f refl refl k h))
       (λ p hb k. let b = (byte_inv s at hb).1 in rw (ne_eqb (get_or s at 0) 1 (λ z. omega arith)) (term_at at e f refl refl k h))
 
-  entry-says : (at : ℕ) (e : Entry) (f : ℕ) → entry_at s at ≡ got e f → (row : List ℕ × Location) × (i : ℕ) × (entry_head s at ≡ got row i) × EntryRow e row
+  entry_says : (at : ℕ) (e : Entry) (f : ℕ) → entry_at s at ≡ got e f → (row : List ℕ × Location) × (i : ℕ) × (entry_head s at ≡ got row i) × EntryRow e row
   unfolding entry_head
-  entry-says at e f h =
+  entry_says at e f h =
       entry_parts s at h (λ a i r hi ei _ _.
-      ((part s a (i - a), kind_as (eqb (get_or s at 0) 1) at), i, after_is (behind 1 str_at s at) _ (behind_str 1 s at hi), (sym ei, entry-holds at e f h)))
+      ((part s a (i - a), kind_as (eqb (get_or s at 0) 1) at), i, after_is (behind 1 str_at s at) _ (behind_str 1 s at hi), (sym ei, entry_holds at e f h)))
 
   -- the entries of an image: the first of an id, and the last
-  row-holds : (i : List ℕ) (e : Entry) (row : List ℕ × Location) → EntryRow e row → Holds (option_of (same_bytes e.id i) (Holder.entry e)) (option_of (same_bytes row.0 i) row.1)
-  row-holds i e row h = rw h.0 (named-holds (same_bytes e.id i) (Holder.entry e) row.1 h.1)
+  row_holds : (i : List ℕ) (e : Entry) (row : List ℕ × Location) → EntryRow e row → Holds (option_of (same_bytes e.id i) (Holder.entry e)) (option_of (same_bytes row.0 i) row.1)
+  row_holds i e row h = rw h.0 (named_holds (same_bytes e.id i) (Holder.entry e) row.1 h.1)
 
   pub first_holds : (i : List ℕ) (es : List Entry) (rows : List (List ℕ × Location)) → Each EntryRow es rows → Holds (first_entry i es) (first_named i rows)
   unfolding first_entry first_named found_of
   first_holds i [] [] h = nothing_at refl refl
   first_holds i [] (row ∷ rows) h = absurd h
   first_holds i (e ∷ es) [] h = absurd h
-  first_holds i (e ∷ es) (row ∷ rows) h = or-holds _ (first_entry i es) _ (first_named i rows) (row-holds i e row h.0) (first_holds i es rows h.1)
+  first_holds i (e ∷ es) (row ∷ rows) h = or_holds _ (first_entry i es) _ (first_named i rows) (row_holds i e row h.0) (first_holds i es rows h.1)
 
-  last-holds : (i : List ℕ) (es : List Entry) (rows : List (List ℕ × Location)) → Each EntryRow es rows → Holds (last_entry i es) (last_named i rows)
+  last_holds : (i : List ℕ) (es : List Entry) (rows : List (List ℕ × Location)) → Each EntryRow es rows → Holds (last_entry i es) (last_named i rows)
   unfolding last_entry last_named found_of
-  last-holds i [] [] h = nothing_at refl refl
-  last-holds i [] (row ∷ rows) h = absurd h
-  last-holds i (e ∷ es) [] h = absurd h
-  last-holds i (e ∷ es) (row ∷ rows) h = or-holds (last_entry i es) _ (last_named i rows) _ (last-holds i es rows h.1) (row-holds i e row h.0)
+  last_holds i [] [] h = nothing_at refl refl
+  last_holds i [] (row ∷ rows) h = absurd h
+  last_holds i (e ∷ es) [] h = absurd h
+  last_holds i (e ∷ es) (row ∷ rows) h = or_holds (last_entry i es) _ (last_named i rows) _ (last_holds i es rows h.1) (row_holds i e row h.0)
 
-  pub entries-say : (n at : ℕ) (es : List Entry) (f : ℕ) → many [] ◌∷◌ n entry_at s at ≡ got es f → Each EntryRow es (readable n entry_head entry_outline s at)
-  entries-say = many-heads EntryRow entry_at entry_head entry_outline s (entry-ends s) entry-says
+  pub entries_say : (n at : ℕ) (es : List Entry) (f : ℕ) → many [] ◌∷◌ n entry_at s at ≡ got es f → Each EntryRow es (readable n entry_head entry_outline s at)
+  entries_say = many_heads EntryRow entry_at entry_head entry_outline s (entry_ends s) entry_says
 
-  resource-says : (at : ℕ) (es : List Entry) (f : ℕ) → resource_at s at ≡ got es f → Each EntryRow es (entries_in s at)
+  resource_says : (at : ℕ) (es : List Entry) (f : ℕ) → resource_at s at ≡ got es f → Each EntryRow es (entries_in s at)
   unfolding entries_in list_after
-  resource-says at es f h = resource_parts s at h (λ n q k r _ _ _ hk _ hm _. rw hk (entries-say k r es f hm))
+  resource_says at es f h = resource_parts s at h (λ n q k r _ _ _ hk _ hm _. rw hk (entries_say k r es f hm))
 
   -- an item: what it makes of what held the id before
   abbrev ItemRow : Item → Ids → Type 0
   ItemRow x ids = (i : List ℕ) (o : Option Holder) (p : Option Location) → Holds o p → Holds (holder_after x i o) (located_after ids i p)
 
-  item-says : (at : ℕ) (x : Item) (f : ℕ) → item_at s at ≡ got x f → (ids : Ids) × (e : ℕ) × (item_head s at ≡ got ids e) × ItemRow x ids
+  item_says : (at : ℕ) (x : Item) (f : ℕ) → item_at s at ≡ got x f → (ids : Ids) × (e : ℕ) × (item_head s at ≡ got ids e) × ItemRow x ids
   unfolding item_head ids_by holder_after located_after function_in list_after first_named found_of
-  item-says at x f h =
+  item_says at x f h =
       item_cases s at h
-      (λ p es hb hr ex. (Ids.firstWins (entries_in s p), p, after_is (byte_at s at) _ hb, λ i o l k. rw ex (or-holds o _ l _ k (first_holds i es _ (resource-says p es f hr)))))
-      (λ p es hb hr ex. (Ids.lastWins (entries_in s p), p, after_is (byte_at s at) _ hb, λ i o l k. rw ex (or-holds _ o _ l (last-holds i es _ (resource-says p es f hr)) k)))
-      (λ p n hb hr ex. (Ids.firstWins (function_in s p), p, after_is (byte_at s at) _ hb, λ i o l k. rw ex (or-holds o _ l _ k (function-says p n f hr i))))
+      (λ p es hb hr ex. (Ids.first_wins (entries_in s p), p, after_is (byte_at s at) _ hb, λ i o l k. rw ex (or_holds o _ l _ k (first_holds i es _ (resource_says p es f hr)))))
+      (λ p es hb hr ex. (Ids.last_wins (entries_in s p), p, after_is (byte_at s at) _ hb, λ i o l k. rw ex (or_holds _ o _ l (last_holds i es _ (resource_says p es f hr)) k)))
+      (λ p n hb hr ex. (Ids.first_wins (function_in s p), p, after_is (byte_at s at) _ hb, λ i o l k. rw ex (or_holds o _ l _ k (function_says p n f hr i))))
     where
-      function-says : (at : ℕ) (n : List ℕ) (f : ℕ) → function_at s at ≡ got n f → (i : List ℕ) → Holds (option_of (same_bytes n i) Holder.function) (first_named i (function_in s at))
-      function-says at n f h i =
+      function_says : (at : ℕ) (n : List ℕ) (f : ℕ) → function_at s at ≡ got n f → (i : List ℕ) → Holds (option_of (same_bytes n i) Holder.function) (first_named i (function_in s at))
+      function_says at n f h i =
           function_parts s at h (λ m q a _ _ hs en _.
-          rw (behind_str 6 s at hs, ← en, or_none) (named-holds (same_bytes n i) Holder.function Location.function (is_function_at refl refl)))
+          rw (behind_str 6 s at hs, ← en, or_none) (named_holds (same_bytes n i) Holder.function Location.function (is_function_at refl refl)))
 
-  pub from-holds : (xs : List Item) (l : List Ids) → Each ItemRow xs l → (i : List ℕ) (o : Option Holder) (p : Option Location) → Holds o p → Holds (find_from xs i o) (locate_from l i p)
+  pub from_holds : (xs : List Item) (l : List Ids) → Each ItemRow xs l → (i : List ℕ) (o : Option Holder) (p : Option Location) → Holds o p → Holds (find_from xs i o) (locate_from l i p)
   unfolding find_from locate_from
-  from-holds [] [] h i o p k = k
-  from-holds [] (y ∷ l) h i o p k = absurd h
-  from-holds (x ∷ xs) [] h i o p k = absurd h
-  from-holds (x ∷ xs) (y ∷ l) h i o p k = from-holds xs l h.1 i _ _ (h.0 i o p k)
+  from_holds [] [] h i o p k = k
+  from_holds [] (y ∷ l) h i o p k = absurd h
+  from_holds (x ∷ xs) [] h i o p k = absurd h
+  from_holds (x ∷ xs) (y ∷ l) h i o p k = from_holds xs l h.1 i _ _ (h.0 i o p k)
 
   -- what the outline of a store locates
   located : (i : List ℕ) (st : Store) (f : ℕ) → store_of s ≡ got st f → Holds (find_in st.items i) (locate s i)
   unfolding find_in locate items_in list_after found_of
   located i st f h =
       store_parts s h (λ k _ _ hk _ hm _ _.
-      rw hk (from-holds st.items _ (many-heads ItemRow item_at item_head item_outline s (item-ends s) item-says k 9 st.items f hm) i none none (nothing_at refl refl)))
+      rw hk (from_holds st.items _ (many_heads ItemRow item_at item_head item_outline s (item_ends s) item_says k 9 st.items f hm) i none none (nothing_at refl refl)))
 
   -- for callers
-  pub holder-at : (i : List ℕ) {r : Found} → r ≡ found_of (locate s i) → (st : Store) (f : ℕ) → store_of s ≡ got st f → HolderAt s (find_in st.items i) r
-  holder-at i is st f h = rw is (located i st f h)
+  pub holder_at : (i : List ℕ) {r : Found} → r ≡ found_of (locate s i) → (st : Store) (f : ℕ) → store_of s ≡ got st f → HolderAt s (find_in st.items i) r
+  holder_at i is st f h = rw is (located i st f h)
 
   same_some : {o : Option Holder} (p : Option Location) → Holds o p → is_some p ≡ is_some o
   unfolding is_some held_by
@@ -156,8 +156,8 @@ module _ (s : List ℕ) where
       go (is_function_at h w) = rw (h, w)
       go (nothing_at h w) = rw (h, w)
 
-  pub holder-held : (i : List ℕ) {r : Bool} → r ≡ is_some (locate s i) → (st : Store) (f : ℕ) → store_of s ≡ got st f → r ≡ is_some (find_in st.items i)
-  holder-held i is st f h = is ∙ same_some (locate s i) (located i st f h)
+  pub holder_held : (i : List ℕ) {r : Bool} → r ≡ is_some (locate s i) → (st : Store) (f : ℕ) → store_of s ≡ got st f → r ≡ is_some (find_in st.items i)
+  holder_held i is st f h = is ∙ same_some (locate s i) (located i st f h)
 
-  pub first-held : (n at : ℕ) (i : List ℕ) (es : List Entry) (f : ℕ) → many [] ◌∷◌ n entry_at s at ≡ got es f → is_some (first_named i (readable n entry_head entry_outline s at)) ≡ is_some (first_entry i es)
-  first-held n at i es f h = same_some _ (first_holds i es _ (entries-say n at es f h))
+  pub first_held : (n at : ℕ) (i : List ℕ) (es : List Entry) (f : ℕ) → many [] ◌∷◌ n entry_at s at ≡ got es f → is_some (first_named i (readable n entry_head entry_outline s at)) ≡ is_some (first_entry i es)
+  first_held n at i es f h = same_some _ (first_holds i es _ (entries_say n at es f h))

@@ -19,12 +19,12 @@ use Rattle.entries.specs.Outline.{list_after, attribute_head, attribute_outline,
 use Rattle.entries.specs.Relations.Meets.{at_position, PartAt, part_at, no_part}
 use Rattle.entries.proofs.Open.{entry_parts}
 use Rattle.entries.proofs.Walk.{behind_str}
-use Rattle.entries.proofs.Decoded.{Each, many-heads, attribute-ends, value-ends}
+use Rattle.entries.proofs.Decoded.{Each, many_heads, attribute_ends, value_ends}
 
 module _ (s : List ℕ) where
-  value-part : (at : ℕ) (x : Entry) (f : ℕ) → entry_at s at ≡ got x f → PartAt s x.value (at_position (position_of (value_in s at)))
+  value_part : (at : ℕ) (x : Entry) (f : ℕ) → entry_at s at ≡ got x f → PartAt s x.value (at_position (position_of (value_in s at)))
   unfolding value_in after test position_of at_position
-  value-part at x f h =
+  value_part at x f h =
       entry_parts s at h (λ a e i hi _ hv _.
       optional_elim entry_pattern_at s e hv
       (λ hb w. rw (behind_str 1 s at hi, hb) (no_part refl w))
@@ -34,31 +34,31 @@ module _ (s : List ℕ) where
   abbrev AttributeRow : Attribute → List ℕ × ℕ → Type 0
   AttributeRow a row = (row.0 ≡ a.0) × (f : ℕ) × (entry_pattern_at s row.1 ≡ got a.1 f)
 
-  attribute-says : (at : ℕ) (a : Attribute) (f : ℕ) → attribute_at s at ≡ got a f → (row : List ℕ × ℕ) × (i : ℕ) × (attribute_head s at ≡ got row i) × AttributeRow a row
+  attribute_says : (at : ℕ) (a : Attribute) (f : ℕ) → attribute_at s at ≡ got a f → (row : List ℕ × ℕ) × (i : ℕ) × (attribute_head s at ≡ got row i) × AttributeRow a row
   unfolding attribute_head
-  attribute-says at a f h = attribute_elim s at h (λ n p y hn hy w. ((n, p), p, after_is (str_at s at) _ (id_str s at hn), rw w (refl, f, hy)))
+  attribute_says at a f h = attribute_elim s at h (λ n p y hn hy w. ((n, p), p, after_is (str_at s at) _ (id_str s at hn), rw w (refl, f, hy)))
 
-  named-part : (name : List ℕ) (l : List Attribute) (rows : List (List ℕ × ℕ)) → Each AttributeRow l rows → PartAt s (first_named name l) (at_position (first_named name rows))
+  named_part : (name : List ℕ) (l : List Attribute) (rows : List (List ℕ × ℕ)) → Each AttributeRow l rows → PartAt s (first_named name l) (at_position (first_named name rows))
   unfolding first_named at_position or_else option_of
-  named-part name [] [] h = no_part refl refl
-  named-part name [] (row ∷ rows) h = absurd h
-  named-part name (a ∷ l) [] h = absurd h
-  named-part name (a ∷ l) (row ∷ rows) h = rw h.0.0 (go (same_bytes a.0 name) (named-part name l rows h.1))
+  named_part name [] [] h = no_part refl refl
+  named_part name [] (row ∷ rows) h = absurd h
+  named_part name (a ∷ l) [] h = absurd h
+  named_part name (a ∷ l) (row ∷ rows) h = rw h.0.0 (go (same_bytes a.0 name) (named_part name l rows h.1))
     where
       go : (b : Bool) → PartAt s (first_named name l) (at_position (first_named name rows)) → PartAt s (or_else (option_of b a.1) (first_named name l)) (at_position (or_else (option_of b row.1) (first_named name rows)))
       go true k = part_at row.1 a.1 h.0.1 refl refl h.0.2
       go false k = k
 
-  attribute-part : (at : ℕ) (name : List ℕ) (x : Entry) (f : ℕ) → entry_at s at ≡ got x f → PartAt s (first_named name x.attributes) (at_position (first_named name (attributes_in s at)))
+  attribute_part : (at : ℕ) (name : List ℕ) (x : Entry) (f : ℕ) → entry_at s at ≡ got x f → PartAt s (first_named name x.attributes) (at_position (first_named name (attributes_in s at)))
   unfolding attributes_in list_after
-  attribute-part at name x f h =
+  attribute_part at name x f h =
       entry_parts s at h (λ a e i hi _ hv ha.
       attributes_elim s i ha (λ k p hk hm.
-      rw (behind_str 1 s at hi, (value-ends s e x.value i hv).1, hk)
-      (named-part name x.attributes _ (many-heads AttributeRow attribute_at attribute_head attribute_outline s (attribute-ends s) attribute-says k p x.attributes f hm))))
+      rw (behind_str 1 s at hi, (value_ends s e x.value i hv).1, hk)
+      (named_part name x.attributes _ (many_heads AttributeRow attribute_at attribute_head attribute_outline s (attribute_ends s) attribute_says k p x.attributes f hm))))
 
   -- for callers
-  pub part-at-place : (at : ℕ) (a : Option (List ℕ)) {r : Next} → r ≡ at_position (part_in a s at) → (x : Entry) (f : ℕ) → entry_at s at ≡ got x f → PartAt s (part_of a x) r
+  pub part_at_place : (at : ℕ) (a : Option (List ℕ)) {r : Next} → r ≡ at_position (part_in a s at) → (x : Entry) (f : ℕ) → entry_at s at ≡ got x f → PartAt s (part_of a x) r
   unfolding part_in part_of
-  part-at-place at none is x f h = rw is (value-part at x f h)
-  part-at-place at (some n) is x f h = rw is (attribute-part at n x f h)
+  part_at_place at none is x f h = rw is (value_part at x f h)
+  part_at_place at (some n) is x f h = rw is (attribute_part at n x f h)

@@ -10,7 +10,7 @@ use Rattle.records.specs.Bytes.{to_be}
 use Rattle.decimals.specs.Bytes.{same_bytes}
 use Rattle.records.specs.Tree.{Pattern}
 use Rattle.records.specs.Images.{Attribute, Entry, Item, max_image}
-use Rattle.records.specs.Encode.{enc_str, enc_optional, enc_all, enc_counted, enc_whole, encPattern, enc_attribute, enc_entry, enc_resource}
+use Rattle.records.specs.Encode.{enc_str, enc_optional, enc_all, enc_counted, enc_whole, enc_pattern, enc_attribute, enc_entry, enc_resource}
 use Rattle.records.specs.Valid.{All, ValidResource, ValidItem}
 use Rattle.entries.specs.Lookup.{Holder, first_entry, last_entry, holder_after, find_from, find_in, part_of}
 use Rattle.records.specs.Names.{first_named}
@@ -75,34 +75,34 @@ entry_size xs v i e h = subst HolderFits h (from_fits xs v i none tt)
 pub no_some : {A : Type 0} {a : A} → none ≡ some a → ⊥
 no_some h = let z : ◌≡◌ {A = ℕ} 0 1 = cc in omega arith
 
-attribute_size : (a : List ℕ) (l : List Attribute) (p : Pattern) → first_named a l ≡ some p → length (encPattern p) ≤ length (enc_all enc_attribute l)
+attribute_size : (a : List ℕ) (l : List Attribute) (p : Pattern) → first_named a l ≡ some p → length (enc_pattern p) ≤ length (enc_all enc_attribute l)
 unfolding first_named or_else option_of enc_all enc_attribute
 attribute_size a [] p h = absurd (no_some h)
 attribute_size a (x ∷ l) p h = go (same_bytes x.0 a) h (attribute_size a l p)
   where
     go : (c : Bool) → or_else (option_of c x.1) (first_named a l) ≡ some p
-        → (first_named a l ≡ some p → length (encPattern p) ≤ length (enc_all enc_attribute l))
-        → length (encPattern p) ≤ length (enc_all enc_attribute (x ∷ l))
+        → (first_named a l ≡ some p → length (enc_pattern p) ≤ length (enc_all enc_attribute l))
+        → length (enc_pattern p) ≤ length (enc_all enc_attribute (x ∷ l))
     go true q ih =
         let e : x.1 ≡ p = cc in
-        let n = length-append (enc_str x.0 ++ encPattern x.1) (enc_all enc_attribute l) in
-        let o = length-append (enc_str x.0) (encPattern x.1) in
-        subst (λ (y : Pattern). length (encPattern y) ≤ length (enc_all enc_attribute (x ∷ l))) e (omega (arith, n, o))
-    go false q ih = omega (arith, ih q, length-append (enc_str x.0 ++ encPattern x.1) (enc_all enc_attribute l))
+        let n = length-append (enc_str x.0 ++ enc_pattern x.1) (enc_all enc_attribute l) in
+        let o = length-append (enc_str x.0) (enc_pattern x.1) in
+        subst (λ (y : Pattern). length (enc_pattern y) ≤ length (enc_all enc_attribute (x ∷ l))) e (omega (arith, n, o))
+    go false q ih = omega (arith, ih q, length-append (enc_str x.0 ++ enc_pattern x.1) (enc_all enc_attribute l))
 
-value_size : (o : Option Pattern) (p : Pattern) → o ≡ some p → length (encPattern p) ≤ length (enc_optional encPattern o)
+value_size : (o : Option Pattern) (p : Pattern) → o ≡ some p → length (enc_pattern p) ≤ length (enc_optional enc_pattern o)
 unfolding enc_optional
 value_size o p h = rw h (omega arith)
 
 -- a part of an entry is no longer than the entry
-pub part_size : (a : Option (List ℕ)) (e : Entry) (p : Pattern) → part_of a e ≡ some p → length (encPattern p) ≤ length (enc_entry e)
+pub part_size : (a : Option (List ℕ)) (e : Entry) (p : Pattern) → part_of a e ≡ some p → length (enc_pattern p) ≤ length (enc_entry e)
 unfolding part_of enc_entry enc_counted
 part_size none e p h =
-    let v : List ℕ = enc_optional encPattern e.value in
+    let v : List ℕ = enc_optional enc_pattern e.value in
     let l : List ℕ = to_be 2 (length e.attributes) ++ enc_all enc_attribute e.attributes in
     omega (arith, value_size e.value p h, length-append (enc_str e.id) (v ++ l), length-append v l)
 part_size (some a) e p h =
-    let v : List ℕ = enc_optional encPattern e.value in
+    let v : List ℕ = enc_optional enc_pattern e.value in
     let l : List ℕ = enc_all enc_attribute e.attributes in
     let c : List ℕ = to_be 2 (length e.attributes) in
     omega (arith, attribute_size a e.attributes p h, length-append (enc_str e.id) (v ++ (c ++ l)), length-append v (c ++ l), length-append c l)

@@ -16,7 +16,7 @@ use Rattle.records.specs.Relations.Answer.{next_of, num_of}
 use Rattle.records.specs.Bytes.{part, bytes_at, span_at, str_at}
 use Rattle.decimals.specs.Bytes.{same_bytes}
 use Rattle.decimals.proofs.Same.{same_eq}
-use Rattle.records.proofs.Laws.{after_is, after-elim, next-stop, next-end, span-in}
+use Rattle.records.proofs.Laws.{after_is, after_elim, next_stop, next_end, span_in}
 use Rattle.records.proofs.Views.{num_is, num_none, next_is, next_none}
 use Rattle.records.specs.Names.{first_named}
 use Rattle.records.proofs.First.{named_here, named_past}
@@ -29,22 +29,22 @@ use Rattle.entries.proofs.Open.{behind_is}
 
 -- behind a head
 module _ (n : ℕ) (p : Parser ℕ) (s : List ℕ) (at : ℕ) {r : Next} (is : r ≡ next_of (bytes_at n s at)) where
-  pub behind-stop : r ≡ next.Bad → num.Bad ≡ num_of (behind n p s at)
+  pub behind_stop : r ≡ next.Bad → num.Bad ≡ num_of (behind n p s at)
   unfolding behind after num_of
-  behind-stop h = rw (next_none is h)
+  behind_stop h = rw (next_none is h)
 
-  pub behind-step : {i : ℕ} {x : Num} → r ≡ next.At i → x ≡ num_of (p s i) → x ≡ num_of (behind n p s at)
-  behind-step {i} {x} h q = next_is is h (λ bs hb. q ∙ ap num_of (sym (behind_is n p s at hb)))
+  pub behind_step : {i : ℕ} {x : Num} → r ≡ next.At i → x ≡ num_of (p s i) → x ≡ num_of (behind n p s at)
+  behind_step {i} {x} h q = next_is is h (λ bs hb. q ∙ ap num_of (sym (behind_is n p s at hb)))
 
 -- where a Str behind a head stands
 pub behind_in : (n : ℕ) (s : List ℕ) (at : ℕ) {r : Num} {a e : ℕ} → r ≡ num_of (behind n span_at s at) → r ≡ num.At a e → (a ≤ e) × (e ≤ length s)
 unfolding behind
-behind_in n s at is h = after-elim (bytes_at n s at) _ (num_is is h) (λ bs i _ q. span-in s i q)
+behind_in n s at is h = after_elim (bytes_at n s at) _ (num_is is h) (λ bs i _ q. span_in s i q)
 
 -- its bytes
 pub behind_str : (n : ℕ) (s : List ℕ) (at : ℕ) {a e : ℕ} → behind n span_at s at ≡ got a e → behind n str_at s at ≡ got (part s a (e - a)) e
 unfolding behind str_at
-behind_str n s at h = after-elim (bytes_at n s at) _ h (λ bs i hb q. after_is (bytes_at n s at) _ hb ∙ after_is (span_at s i) _ q)
+behind_str n s at h = after_elim (bytes_at n s at) _ h (λ bs i hb q. after_is (bytes_at n s at) _ hb ∙ after_is (span_at s i) _ q)
 
 pub behind_no_str : (n : ℕ) (s : List ℕ) (at : ℕ) → behind n span_at s at ≡ bad → behind n str_at s at ≡ bad
 unfolding behind after str_at
@@ -66,30 +66,30 @@ told {g = g} h e = rw e at h
 
 -- as far as they can be read
 module _ {A B : Type 0} (head : Parser A) (whole : Parser B) (s : List ℕ) where
-  pub list-none : (n at : ℕ) → n ≤ 0 → readable n head whole s at ≡ []
+  pub list_none : (n at : ℕ) → n ≤ 0 → readable n head whole s at ≡ []
   unfolding readable
-  list-none zero at z = refl
-  list-none (suc n) at z = absurd (omega arith)
+  list_none zero at z = refl
+  list_none (suc n) at z = absurd (omega arith)
 
-  pub list-bad : (n at : ℕ) → head s at ≡ bad → readable n head whole s at ≡ []
+  pub list_bad : (n at : ℕ) → head s at ≡ bad → readable n head whole s at ≡ []
   unfolding readable list_after
-  list-bad zero at h = refl
-  list-bad (suc n) at h = rw h
+  list_bad zero at h = refl
+  list_bad (suc n) at h = rw h
 
-  pub list-first : (n at : ℕ) {a : A} {e : ℕ} → 0 < n → head s at ≡ got a e → (l : List A) × (readable n head whole s at ≡ a ∷ l)
+  pub list_first : (n at : ℕ) {a : A} {e : ℕ} → 0 < n → head s at ≡ got a e → (l : List A) × (readable n head whole s at ≡ a ∷ l)
   unfolding readable list_after
-  list-first zero at z h = absurd (omega arith)
-  list-first (suc n) at z h = (list_after (whole s at) (λ b f. readable n head whole s f), rw h)
+  list_first zero at z h = absurd (omega arith)
+  list_first (suc n) at z h = (list_after (whole s at) (λ b f. readable n head whole s f), rw h)
 
-  pub list-stuck : (n at : ℕ) {a : A} {e : ℕ} → 0 < n → head s at ≡ got a e → whole s at ≡ bad → readable n head whole s at ≡ a ∷ []
+  pub list_stuck : (n at : ℕ) {a : A} {e : ℕ} → 0 < n → head s at ≡ got a e → whole s at ≡ bad → readable n head whole s at ≡ a ∷ []
   unfolding readable list_after
-  list-stuck zero at z h w = absurd (omega arith)
-  list-stuck (suc n) at z h w = rw (h, w)
+  list_stuck zero at z h w = absurd (omega arith)
+  list_stuck (suc n) at z h w = rw (h, w)
 
-  pub list-next : (n at : ℕ) {a : A} {e i : ℕ} {b : B} → 0 < n → head s at ≡ got a e → whole s at ≡ got b i → readable n head whole s at ≡ a ∷ readable (n - 1) head whole s i
+  pub list_next : (n at : ℕ) {a : A} {e i : ℕ} {b : B} → 0 < n → head s at ≡ got a e → whole s at ≡ got b i → readable n head whole s at ≡ a ∷ readable (n - 1) head whole s i
   unfolding readable list_after
-  list-next zero at z h w = absurd (omega arith)
-  list-next (suc n) at {a = a} {i = i} z h w =
+  list_next zero at z h w = absurd (omega arith)
+  list_next (suc n) at {a = a} {i = i} z h w =
       let m : n ≡ suc n - 1 = omega arith in
       rw (h, w) (ap (λ (k : ℕ). a ∷ readable k head whole s i) m)
 
@@ -103,14 +103,14 @@ differ_at a b i f = go (same_bytes a b) refl
 
 -- of things with a name, the last
 module _ {A : Type 0} (i : List ℕ) where
-  or-or : (a b c : Option A) → or_else (or_else a b) c ≡ or_else a (or_else b c)
+  or_or : (a b c : Option A) → or_else (or_else a b) c ≡ or_else a (or_else b c)
   unfolding or_else
-  or-or none b c = refl
-  or-or (some x) b c = refl
+  or_or none b c = refl
+  or_or (some x) b c = refl
 
   pub last_more : (x : List ℕ × A) (l : List (List ℕ × A)) (o : Option A) → or_else (last_named i (x ∷ l)) o ≡ or_else (last_named i l) (or_else (option_of (same_bytes x.0 i) x.1) o)
   unfolding last_named
-  last_more x l o = or-or (last_named i l) (option_of (same_bytes x.0 i) x.1) o
+  last_more x l o = or_or (last_named i l) (option_of (same_bytes x.0 i) x.1) o
 
 -- the first of a name, and the last, among those that can be read
 module _ {A B : Type 0} (head : Parser (List ℕ × A)) (whole : Parser B) (s i : List ℕ) where
@@ -119,22 +119,22 @@ module _ {A B : Type 0} (head : Parser (List ℕ × A)) (whole : Parser B) (s i 
 
   pub first_none : (n at : ℕ) → n ≤ 0 → FirstOf n at ≡ none
   unfolding first_named
-  first_none n at z = ap (first_named i) (list-none head whole s n at z)
+  first_none n at z = ap (first_named i) (list_none head whole s n at z)
 
-  pub first-bad : (n at : ℕ) → head s at ≡ bad → FirstOf n at ≡ none
+  pub first_bad : (n at : ℕ) → head s at ≡ bad → FirstOf n at ≡ none
   unfolding first_named
-  first-bad n at h = ap (first_named i) (list-bad head whole s n at h)
+  first_bad n at h = ap (first_named i) (list_bad head whole s n at h)
 
   module _ (n at : ℕ) (z : 0 < n) {x : List ℕ × A} {e : ℕ} (h : head s at ≡ got x e) where
-    pub first-here : same_bytes x.0 i ≡ true → FirstOf n at ≡ some x.1
-    first-here y = let w = list-first head whole s n at z h in ap (first_named i) w.1 ∙ named_here i x w.0 y
+    pub first_here : same_bytes x.0 i ≡ true → FirstOf n at ≡ some x.1
+    first_here y = let w = list_first head whole s n at z h in ap (first_named i) w.1 ∙ named_here i x w.0 y
 
-    pub first-stuck : {r : Next} → same_bytes x.0 i ≡ false → r ≡ next_of (whole s at) → r ≡ next.Bad → FirstOf n at ≡ none
+    pub first_stuck : {r : Next} → same_bytes x.0 i ≡ false → r ≡ next_of (whole s at) → r ≡ next.Bad → FirstOf n at ≡ none
     unfolding first_named
-    first-stuck y is b = ap (first_named i) (list-stuck head whole s n at z h (next_none is b)) ∙ named_past i x [] y
+    first_stuck y is b = ap (first_named i) (list_stuck head whole s n at z h (next_none is b)) ∙ named_past i x [] y
 
     pub first_next : {r : Next} {f : ℕ} → same_bytes x.0 i ≡ false → r ≡ next_of (whole s at) → r ≡ next.At f → FirstOf n at ≡ FirstOf (n - 1) f
-    first_next {f = f} y is k = next_is is k (λ b w. ap (first_named i) (list-next head whole s n at z h w) ∙ named_past i x (readable (n - 1) head whole s f) y)
+    first_next {f = f} y is k = next_is is k (λ b w. ap (first_named i) (list_next head whole s n at z h w) ∙ named_past i x (readable (n - 1) head whole s f) y)
 
   -- with the one found so far
   abbrev pub LastOf : ℕ → ℕ → Option A → Option A
@@ -142,21 +142,21 @@ module _ {A B : Type 0} (head : Parser (List ℕ × A)) (whole : Parser B) (s i 
 
   pub last_none : (n at : ℕ) (o : Option A) → n ≤ 0 → LastOf n at o ≡ o
   unfolding last_named or_else
-  last_none n at o z = ap (λ (l : List (List ℕ × A)). or_else (last_named i l) o) (list-none head whole s n at z)
+  last_none n at o z = ap (λ (l : List (List ℕ × A)). or_else (last_named i l) o) (list_none head whole s n at z)
 
-  pub last-bad : (n at : ℕ) (o : Option A) → head s at ≡ bad → LastOf n at o ≡ o
+  pub last_bad : (n at : ℕ) (o : Option A) → head s at ≡ bad → LastOf n at o ≡ o
   unfolding last_named or_else
-  last-bad n at o h = ap (λ (l : List (List ℕ × A)). or_else (last_named i l) o) (list-bad head whole s n at h)
+  last_bad n at o h = ap (λ (l : List (List ℕ × A)). or_else (last_named i l) o) (list_bad head whole s n at h)
 
   module _ (n at : ℕ) (o : Option A) (z : 0 < n) {x : List ℕ × A} {e : ℕ} (h : head s at ≡ got x e) where
-    pub last-stuck : {r : Next} → r ≡ next_of (whole s at) → r ≡ next.Bad → LastOf n at o ≡ or_else (option_of (same_bytes x.0 i) x.1) o
+    pub last_stuck : {r : Next} → r ≡ next_of (whole s at) → r ≡ next.Bad → LastOf n at o ≡ or_else (option_of (same_bytes x.0 i) x.1) o
     unfolding last_named or_else
-    last-stuck is b = ap (λ (l : List (List ℕ × A)). or_else (last_named i l) o) (list-stuck head whole s n at z h (next_none is b)) ∙ last_more i x [] o
+    last_stuck is b = ap (λ (l : List (List ℕ × A)). or_else (last_named i l) o) (list_stuck head whole s n at z h (next_none is b)) ∙ last_more i x [] o
 
-    pub last-next : {r : Next} {f : ℕ} → r ≡ next_of (whole s at) → r ≡ next.At f → LastOf n at o ≡ LastOf (n - 1) f (or_else (option_of (same_bytes x.0 i) x.1) o)
-    last-next {f = f} is k =
+    pub last_next : {r : Next} {f : ℕ} → r ≡ next_of (whole s at) → r ≡ next.At f → LastOf n at o ≡ LastOf (n - 1) f (or_else (option_of (same_bytes x.0 i) x.1) o)
+    last_next {f = f} is k =
         next_is is k (λ b w.
-        ap (λ (l : List (List ℕ × A)). or_else (last_named i l) o) (list-next head whole s n at z h w) ∙ last_more i x (readable (n - 1) head whole s f) o)
+        ap (λ (l : List (List ℕ × A)). or_else (last_named i l) o) (list_next head whole s n at z h w) ∙ last_more i x (readable (n - 1) head whole s f) o)
 
 -- the heads, from what the code reads
 pub entry_head_law : (s : List ℕ) (at : ℕ) {r : Num} {a e : ℕ} → r ≡ num_of (behind 1 span_at s at) → r ≡ num.At a e → entry_head s at ≡ got (part s a (e - a), kind_as (eqb (get_or s at 0) 1) at) e
@@ -177,12 +177,12 @@ attribute_no_head s at h = rw h
 
 pub attribute_past : (s : List ℕ) (at : ℕ) {t : List ℕ} {e : ℕ} {r : Next} → str_at s at ≡ got t e → r ≡ next_of (sized_at 4 s e) → r ≡ next_of (attribute_outline s at)
 unfolding attribute_outline pattern_outline
-attribute_past s at {e = e} h q = next-end (λ b. tt) (sized_at 4 s e) q ∙ ap next_of (sym (after_is (str_at s at) _ h))
+attribute_past s at {e = e} h q = next_end (λ b. tt) (sized_at 4 s e) q ∙ ap next_of (sym (after_is (str_at s at) _ h))
 
 module _ (s : List ℕ) (at : ℕ) {r : Next} (is : r ≡ next_of (str_at s at)) where
-  pub attribute-stop : r ≡ next.Bad → next.Bad ≡ next_of (attribute_outline s at)
+  pub attribute_stop : r ≡ next.Bad → next.Bad ≡ next_of (attribute_outline s at)
   unfolding attribute_outline
-  attribute-stop h = next-stop (str_at s at) _ is h
+  attribute_stop h = next_stop (str_at s at) _ is h
 
-  pub attribute-step : {p : ℕ} {x : Next} → r ≡ next.At p → x ≡ next_of (sized_at 4 s p) → x ≡ next_of (attribute_outline s at)
-  attribute-step h q = next_is is h (λ t w. attribute_past s at w q)
+  pub attribute_step : {p : ℕ} {x : Next} → r ≡ next.At p → x ≡ next_of (sized_at 4 s p) → x ≡ next_of (attribute_outline s at)
+  attribute_step h q = next_is is h (λ t w. attribute_past s at w q)

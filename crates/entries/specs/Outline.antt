@@ -70,13 +70,13 @@ function_in s at = list_after (behind 6 str_at s at) (λ n e. (n, Location.funct
 
 -- the ids of an item: of equal ones the first wins, or the last
 pub data Ids : Type 0 where
-  firstWins lastWins : List (List ℕ × Location) → Ids
+  first_wins last_wins : List (List ℕ × Location) → Ids
 
 -- "mode byte (1 plain resource, 2 overriding resource, 3 function)": the first test is for 2, the second for 3; any other byte is taken as 1
 unfoldable pub ids_by : Bool → Bool → List ℕ → ℕ → Ids
-ids_by true b s p = Ids.lastWins (entries_in s p)
-ids_by false true s p = Ids.firstWins (function_in s p)
-ids_by false false s p = Ids.firstWins (entries_in s p)
+ids_by true b s p = Ids.last_wins (entries_in s p)
+ids_by false true s p = Ids.first_wins (function_in s p)
+ids_by false false s p = Ids.first_wins (entries_in s p)
 
 -- "Item: mode byte, then a resource image or a function record"
 unfoldable pub item_head : Parser Ids
@@ -92,8 +92,8 @@ items_in s = list_after (number_at 2 s 7) (λ k p. readable k item_head item_out
 
 -- "Plain additions and functions: first wins. Overriding: last wins."
 unfoldable pub located_after : Ids → List ℕ → Option Location → Option Location
-located_after (Ids.firstWins l) i o = or_else o (first_named i l)
-located_after (Ids.lastWins l) i o = or_else (last_named i l) o
+located_after (Ids.first_wins l) i o = or_else o (first_named i l)
+located_after (Ids.last_wins l) i o = or_else (last_named i l) o
 
 -- what an id has after all items, where it had o before them
 unfoldable pub locate_from : List Ids → List ℕ → Option Location → Option Location

@@ -47,8 +47,8 @@ told_of o c h q = subst (λ (x : formatting.Answer). FormatTold x) q h
 
 pub refused_figure : (r : Answer) (c n k : ℕ) (x l w : Bytes) (o : Formatted) → gave r x l w ≡ o → FormatTold o.answer → r ≡ answer.Refused c → k ≡ used_after c n k
 unfolding gave answer_of
-refused_figure r c n k x l w o h t is = as_before c n k (told_of o (formatting.refusedBefore c) t (sym (ap (λ (y : Formatted). y.answer) h) ∙ ap answer_of is))
+refused_figure r c n k x l w o h t is = as_before c n k (told_of o (formatting.refused_before c) t (sym (ap (λ (y : Formatted). y.answer) h) ∙ ap answer_of is))
 
 pub cleared_figure : (r : Answer) (c n k : ℕ) (x l w : Bytes) (o : Formatted) → gave r x l w ≡ o → FormatTold o.answer → r ≡ answer.Cleared c → k ≡ used_after c n k
 unfolding gave answer_of
-cleared_figure r c n k x l w o h t is = as_before c n k (told_of o (formatting.refusedRunning c) t (sym (ap (λ (y : Formatted). y.answer) h) ∙ ap answer_of is))
+cleared_figure r c n k x l w o h t is = as_before c n k (told_of o (formatting.refused_running c) t (sym (ap (λ (y : Formatted). y.answer) h) ∙ ap answer_of is))

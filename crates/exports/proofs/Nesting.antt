@@ -3,7 +3,7 @@ use mathlib.Core.Path.{◌≡◌, refl, ap, subst, ◌∙◌}
 use Prim.Native.Nat.{ℕ}
 use lib.ListN.{take}
 use Rattle.resolution.specs.Effect.{Bytes}
-use Rattle.resolution.specs.Format.{Answer, finished, refusedBefore, refusedRunning, Formatted, format}
+use Rattle.resolution.specs.Format.{Answer, finished, refused_before, refused_running, Formatted, format}
 use Rattle.sheets.specs.Sheet.{format_sheet}
 use Rattle.nesting.specs.Marks.{UnmarkedBytes, PairedBytes, UnmarkedScalars, PairedScalars}
 use Rattle.nesting.specs.Claims.{EveryFormatting, EverySheet}
@@ -18,26 +18,26 @@ module _ (P : Bytes → Type 0) (f : Formatted) (told : FormatTold f.answer) (ev
   by_answer : (k : Lent) (c : Answer) → f.answer ≡ c → FormatTold c → format_number_of c ≡ 0 → P (take (lent_after c k).written f.buffers.text)
   unfolding format_number_of lent_after
   by_answer k (finished t e b u w) q x z = every t e b u w q
-  by_answer k (refusedBefore n) q x z = absurd (x z)
-  by_answer k (refusedRunning n) q x z = absurd (x z)
+  by_answer k (refused_before n) q x z = absurd (x z)
+  by_answer k (refused_running n) q x z = absurd (x z)
 
-  handed-over : (k : Lent) (h : Handed) → handed f k ≡ h → h.number ≡ 0 → P (take h.figures.written h.buffers.text)
+  handed_over : (k : Lent) (h : Handed) → handed f k ≡ h → h.number ≡ 0 → P (take h.figures.written h.buffers.text)
   unfolding handed
-  handed-over k h q z =
+  handed_over k h q z =
       subst (λ (x : Handed). P (take x.figures.written x.buffers.text)) q (by_answer k f.answer refl told (ap (λ (x : Handed). x.number) q ∙ z))
 
 -- so from each claim of the definition to that of the calls
 module _ (Q P : Bytes → Type 0) where
-  format-calls : EveryFormatting Q P → FormatCalls Q P
-  format-calls f s os us image oi ui id a b k h q z = handed-over P (format s id a image b) (format_told s id a image b) (f s os us image oi ui id a b) k h q z
+  format_calls : EveryFormatting Q P → FormatCalls Q P
+  format_calls f s os us image oi ui id a b k h q z = handed_over P (format s id a image b) (format_told s id a image b) (f s os us image oi ui id a b) k h q z
 
-  sheet-calls : EverySheet Q P → SheetCalls Q P
-  sheet-calls f s os us image oi ui b k h q z = handed-over P (format_sheet s image b) (sheet_told s image b) (f s os us image oi ui b) k h q z
+  sheet_calls : EverySheet Q P → SheetCalls Q P
+  sheet_calls f s os us image oi ui b k h q z = handed_over P (format_sheet s image b) (sheet_told s image b) (f s os us image oi ui b) k h q z
 
 pub calls_nest : CallsNest
 calls_nest = record {
-  formats = format-calls UnmarkedBytes PairedBytes marks_nest.formattings;
-  sheets = sheet-calls UnmarkedBytes PairedBytes marks_nest.sheets;
-  formats_scalars = format-calls UnmarkedScalars PairedScalars marks_nest.formattings_scalars;
-  sheets_scalars = sheet-calls UnmarkedScalars PairedScalars marks_nest.sheets_scalars;
+  formats = format_calls UnmarkedBytes PairedBytes marks_nest.formattings;
+  sheets = sheet_calls UnmarkedBytes PairedBytes marks_nest.sheets;
+  formats_scalars = format_calls UnmarkedScalars PairedScalars marks_nest.formattings_scalars;
+  sheets_scalars = sheet_calls UnmarkedScalars PairedScalars marks_nest.sheets_scalars;
 }

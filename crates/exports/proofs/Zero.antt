@@ -14,7 +14,7 @@ use Rattle.order.proofs.Accepted.{refused_with}
 use Rattle.bundle.specs.Additions as additions
 use Rattle.bundle.specs.Additions.{Added, add_function, add_function_to, add_overriding_to, add_plain_to, add_resource, add_resource_overriding, listed, new_bundle, or_refuse, refuse, succeed}
 use Rattle.resolution.specs.Effect as effect
-use Rattle.resolution.specs.Effect.{Bytes, Effect, Trace, begin, expand, free, keep-text, merged, open-text, put, report, unfound}
+use Rattle.resolution.specs.Effect.{Bytes, Effect, Trace, begin, expand, free, keep_text, merged, open_text, put, report, unfound}
 use Rattle.resolution.specs.Exec.{Limits, Machine, Ran, allow, allow_if, and_then, exec, put_at, put_text, put_work, ran, refused, step}
 use Rattle.resolution.specs.Format as formatting
 use Rattle.resolution.specs.Format.{Buffers, Formatted, ended, format, format_arguments, format_entry, format_part, format_store, format_with, run_pattern}
@@ -97,8 +97,8 @@ step_told L (report e) m = allow_told _ _ 7 _ (λ h. omega (arith, h))
 step_told L begin m = tt
 step_told L expand m = tt
 step_told L unfound m = tt
-step_told L open-text m = tt
-step_told L keep-text m = tt
+step_told L open_text m = tt
+step_told L keep_text m = tt
 step_told L (free n) m = tt
 step_told L (merged k) m = allow_told _ _ 17 _ (λ h. omega (arith, h))
 

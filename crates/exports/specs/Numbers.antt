@@ -3,7 +3,7 @@ use Rattle.std.specs.Prelude.{ℕ, zero, suc}
 use Rattle.bundle.specs.Additions as additions
 use Rattle.bundle.specs.Additions.{done, refused}
 use Rattle.resolution.specs.Format as formatting
-use Rattle.resolution.specs.Format.{Buffers, Formatted, finished, refusedBefore, refusedRunning}
+use Rattle.resolution.specs.Format.{Buffers, Formatted, finished, refused_before, refused_running}
 
 -- "A refusal's result is its number"; 0 where the call is done
 unfoldable pub number_of : additions.Answer → ℕ
@@ -18,8 +18,8 @@ count_of (refused n) k = k
 -- "A refusal's result is its number", of a formatting; 0 where it is finished
 unfoldable pub format_number_of : formatting.Answer → ℕ
 format_number_of (finished t e b u w) = 0
-format_number_of (refusedBefore n) = n
-format_number_of (refusedRunning n) = n
+format_number_of (refused_before n) = n
+format_number_of (refused_running n) = n
 
 -- the five lent numbers
 pub record Lent : Type 0 where
@@ -32,8 +32,8 @@ pub record Lent : Type 0 where
 -- "A formatting's carries text length, error count, placeables begun, unfound and a workspace figure"; where it is refused, the numbers are as before
 unfoldable pub lent_after : formatting.Answer → Lent → Lent
 lent_after (finished t e b u w) k = record { written = t; errors = e; begun = b; unfound = u; used = w }
-lent_after (refusedBefore n) k = k
-lent_after (refusedRunning n) k = k
+lent_after (refused_before n) k = k
+lent_after (refused_running n) k = k
 
 -- what a formatting hands to its caller: the number that is answered, the lent numbers and the three buffers
 pub record Handed : Type 0 where

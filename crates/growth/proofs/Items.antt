@@ -13,8 +13,8 @@ use Rattle.records.specs.Encode.{enc_str, enc_whole, enc_function}
 use Rattle.records.specs.Images.{max_store, max_items}
 use Rattle.buffers.specs.Relations.Append.{over}
 use Rattle.records.specs.Relations.Write.{over_fit}
-use Rattle.records.proofs.Writing.{fits-over, length-fit}
-use Rattle.buffers.proofs.Place.{set-over, length_over, then-over, then-set}
+use Rattle.records.proofs.Writing.{fits_over, length_fit}
+use Rattle.buffers.proofs.Place.{set_over, length_over, then_over, then_set}
 use Rattle.texts.proofs.Recording.{length_u16, length_u32, length_str}
 use Rattle.growth.specs.Items.{at_front, with_item, has_room, written_if, file_item}
 
@@ -31,21 +31,21 @@ fits_below limit used n h = go (leb n (limit - used)) refl
 
 -- room for an item
 module _ (size used count n : ℕ) where
-  pub room-no-slice : {r : Bool} → r ≡ leb (used + n) size → not r ≡ true → false ≡ has_room size used count n
+  pub room_no_slice : {r : Bool} → r ≡ leb (used + n) size → not r ≡ true → false ≡ has_room size used count n
   unfolding has_room
-  room-no-slice {r} h k = rw (sym h ∙ not-true r k)
+  room_no_slice {r} h k = rw (sym h ∙ not-true r k)
 
   module _ {r : Bool} (h : r ≡ leb (used + n) size) (k : not r ≡ false) where
-    in-slice : leb (used + n) size ≡ true
-    in-slice = sym h ∙ not-false r k
+    in_slice : leb (used + n) size ≡ true
+    in_slice = sym h ∙ not-false r k
 
-    pub room-no-store : {t : Bool} → t ≡ leb (used + n) 1048576 → not t ≡ true → false ≡ has_room size used count n
+    pub room_no_store : {t : Bool} → t ≡ leb (used + n) 1048576 → not t ≡ true → false ≡ has_room size used count n
     unfolding has_room max_store
-    room-no-store {t} e z = rw (in-slice, sym e ∙ not-true t z)
+    room_no_store {t} e z = rw (in_slice, sym e ∙ not-true t z)
 
-    pub room-items : {t x : Bool} → t ≡ leb (used + n) 1048576 → not t ≡ false → x ≡ ltb count 256 → x ≡ has_room size used count n
+    pub room_items : {t x : Bool} → t ≡ leb (used + n) 1048576 → not t ≡ false → x ≡ ltb count 256 → x ≡ has_room size used count n
     unfolding has_room max_store max_items
-    room-items {t} e z q = rw (in-slice, sym e ∙ not-false t z) q
+    room_items {t} e z q = rw (in_slice, sym e ∙ not-false t z) q
 
   and_left : (a b : Bool) → a && b ≡ true → a ≡ true
   and_left true b h = refl
@@ -55,49 +55,49 @@ module _ (size used count n : ℕ) where
   and_right true b h = h
   and_right false b h = let z : ◌≡◌ {A = ℕ} 0 1 = cc in absurd (omega arith)
 
-  pub room-is : has_room size used count n ≡ true → (used + n ≤ size) × (used + n ≤ 1048576) × (count < 256)
+  pub room_is : has_room size used count n ≡ true → (used + n ≤ size) × (used + n ≤ 1048576) × (count < 256)
   unfolding has_room max_store max_items
-  room-is h =
+  room_is h =
       let r = and_right (leb (used + n) size) _ h in
       (leb-true (used + n) size (and_left (leb (used + n) size) _ h), leb-true (used + n) 1048576 (and_left (leb (used + n) 1048576) _ r), ltb-true count 256 (and_right (leb (used + n) 1048576) _ r))
 
 -- the bytes of an item
 pub resource_written : (d : List ℕ) (at mode : ℕ) (image : List ℕ) {e f : List ℕ} → at + (1 + length image) ≤ length d → e ≡ set d at mode → f ≡ over_fit e (at + 1) image → f ≡ over d at (mode ∷ image)
 resource_written d at mode image {e} {f} h p q =
-    let a : e ≡ over d at (mode ∷ []) = p ∙ set-over d at mode (omega arith) in
+    let a : e ≡ over d at (mode ∷ []) = p ∙ set_over d at mode (omega arith) in
     let l : length e ≡ length d = ap length p ∙ length-set d at mode in
-    q ∙ fits-over e (at + 1) image (omega arith) ∙ then-over d at (mode ∷ []) image a (omega arith) (omega arith)
+    q ∙ fits_over e (at + 1) image (omega arith) ∙ then_over d at (mode ∷ []) image a (omega arith) (omega arith)
 
 -- a function record behind its mode
 module _ (d : List ℕ) (at : ℕ) (id : List ℕ) (h : at + (9 + length id) ≤ length d) where
-  function-is : ((((3 ∷ []) ++ to_be 4 (8 + length id)) ++ (1 ∷ [])) ++ (1 ∷ [])) ++ to_be 2 (length id) ++ id ≡ 3 ∷ enc_function id
+  function_is : ((((3 ∷ []) ++ to_be 4 (8 + length id)) ++ (1 ∷ [])) ++ (1 ∷ [])) ++ to_be 2 (length id) ++ id ≡ 3 ∷ enc_function id
   unfolding enc_function enc_whole enc_str to_be
-  function-is =
+  function_is =
       let e : 8 + length id ≡ 4 + length (1 ∷ 1 ∷ to_be 2 (length id) ++ id) = omega (arith, length-append (to_be 2 (length id)) id) in
       ap (λ (n : ℕ). 3 ∷ to_be 4 n ++ (1 ∷ 1 ∷ to_be 2 (length id) ++ id)) e
 
-  pub function-written : {d1 d2 d3 d4 d5 d6 : List ℕ} → d1 ≡ set d at 3 → d2 ≡ over_fit d1 (at + 1) (to_be 4 (8 + length id)) → d3 ≡ set d2 (at + 5) 1 → d4 ≡ set d3 (at + 6) 1
+  pub function_written : {d1 d2 d3 d4 d5 d6 : List ℕ} → d1 ≡ set d at 3 → d2 ≡ over_fit d1 (at + 1) (to_be 4 (8 + length id)) → d3 ≡ set d2 (at + 5) 1 → d4 ≡ set d3 (at + 6) 1
       → d5 ≡ over_fit d4 (at + 7) (to_be 2 (length id)) → d6 ≡ over_fit d5 (at + 9) id → d6 ≡ over d at (3 ∷ enc_function id)
-  function-written {d1} {d2} {d3} {d4} {d5} {d6} p1 p2 p3 p4 p5 p6 =
+  function_written {d1} {d2} {d3} {d4} {d5} {d6} p1 p2 p3 p4 p5 p6 =
       let l4 = length_u32 (8 + length id) in
       let l2 = length_u16 (length id) in
-      let x1 : d1 ≡ over d at (3 ∷ []) = p1 ∙ set-over d at 3 (omega arith) in
+      let x1 : d1 ≡ over d at (3 ∷ []) = p1 ∙ set_over d at 3 (omega arith) in
       let n1 : length d1 ≡ length d = ap length x1 ∙ length_over d at (3 ∷ []) (omega arith) in
       let a2 : List ℕ = (3 ∷ []) ++ to_be 4 (8 + length id) in
       let m2 : length a2 ≡ 5 = length-append (3 ∷ []) (to_be 4 (8 + length id)) ∙ omega arith in
-      let x2 : d2 ≡ over d at a2 = p2 ∙ fits-over d1 (at + 1) (to_be 4 (8 + length id)) (omega arith) ∙ then-over d at (3 ∷ []) (to_be 4 (8 + length id)) x1 (omega arith) (omega arith) in
+      let x2 : d2 ≡ over d at a2 = p2 ∙ fits_over d1 (at + 1) (to_be 4 (8 + length id)) (omega arith) ∙ then_over d at (3 ∷ []) (to_be 4 (8 + length id)) x1 (omega arith) (omega arith) in
       let a3 : List ℕ = a2 ++ (1 ∷ []) in
       let m3 : length a3 ≡ 6 = length-append a2 (1 ∷ []) ∙ omega arith in
-      let x3 : d3 ≡ over d at a3 = p3 ∙ then-set d at a2 1 x2 (omega arith) (omega arith) in
+      let x3 : d3 ≡ over d at a3 = p3 ∙ then_set d at a2 1 x2 (omega arith) (omega arith) in
       let a4 : List ℕ = a3 ++ (1 ∷ []) in
       let m4 : length a4 ≡ 7 = length-append a3 (1 ∷ []) ∙ omega arith in
-      let x4 : d4 ≡ over d at a4 = p4 ∙ then-set d at a3 1 x3 (omega arith) (omega arith) in
+      let x4 : d4 ≡ over d at a4 = p4 ∙ then_set d at a3 1 x3 (omega arith) (omega arith) in
       let n4 : length d4 ≡ length d = ap length x4 ∙ length_over d at a4 (omega arith) in
       let a5 : List ℕ = a4 ++ to_be 2 (length id) in
       let m5 : length a5 ≡ 9 = length-append a4 (to_be 2 (length id)) ∙ omega arith in
-      let x5 : d5 ≡ over d at a5 = p5 ∙ fits-over d4 (at + 7) (to_be 2 (length id)) (omega arith) ∙ then-over d at a4 (to_be 2 (length id)) x4 (omega arith) (omega arith) in
-      let n5 : length d5 ≡ length d = ap length p5 ∙ length-fit d4 (at + 7) (to_be 2 (length id)) ∙ n4 in
-      p6 ∙ fits-over d5 (at + 9) id (omega arith) ∙ then-over d at a5 id x5 (omega arith) (omega arith) ∙ ap (over d at) function-is
+      let x5 : d5 ≡ over d at a5 = p5 ∙ fits_over d4 (at + 7) (to_be 2 (length id)) (omega arith) ∙ then_over d at a4 (to_be 2 (length id)) x4 (omega arith) (omega arith) in
+      let n5 : length d5 ≡ length d = ap length p5 ∙ length_fit d4 (at + 7) (to_be 2 (length id)) ∙ n4 in
+      p6 ∙ fits_over d5 (at + 9) id (omega arith) ∙ then_over d at a5 id x5 (omega arith) (omega arith) ∙ ap (over d at) function_is
 
 drop_part : (s : List ℕ) (a u : ℕ) → a ≤ u → u ≤ length s → drop a (take u s) ≡ take (u - a) (drop a s)
 drop_part s a u h k =
@@ -126,14 +126,14 @@ module _ (s : List ℕ) (used count : ℕ) (item : List ℕ) (lo : 9 ≤ used) (
       let f = length-take-le used s (omega arith) in
       ap (drop a) whole_is ∙ drop-append-le a (take used s) rest (omega arith) ∙ ap (λ (l : List ℕ). l ++ rest) (drop_part s a used h (omega arith))
 
-  whole-middle : take 3 (drop 4 (over s used item)) ≡ part s 4 3
-  whole-middle =
+  whole_middle : take 3 (drop 4 (over s used item)) ≡ part s 4 3
+  whole_middle =
       let l : length (take (used - 4) (drop 4 s)) ≡ used - 4 = length-take-le (used - 4) (drop 4 s) (omega (arith, length-drop 4 s)) in
       ap (take 3) (whole_drop 4 (omega arith)) ∙ take-append-le 3 (take (used - 4) (drop 4 s)) rest (omega arith) ∙ take-take 3 (used - 4) (drop 4 s) (omega arith)
 
-  item-end : with_item s used count item ≡ (to_be 4 (used + length item) ++ (part s 4 3 ++ (to_be 2 (count + 1) ++ (part s 9 (used - 9) ++ item)))) ++ drop (used + length item) s
+  item_end : with_item s used count item ≡ (to_be 4 (used + length item) ++ (part s 4 3 ++ (to_be 2 (count + 1) ++ (part s 9 (used - 9) ++ item)))) ++ drop (used + length item) s
   unfolding with_item at_front
-  item-end =
+  item_end =
       let R : List ℕ = part s 9 (used - 9) in
       let lA : length (to_be 4 (used + length item)) ≡ 4 = length_u32 (used + length item) in
       let lB : length (to_be 2 (count + 1)) ≡ 2 = length_u16 (count + 1) in
@@ -148,9 +148,9 @@ module _ (s : List ℕ) (used count : ℕ) (item : List ℕ) (lo : 9 ≤ used) (
   regroup : (a m b r i t : List ℕ) → (a ++ m) ++ (b ++ (r ++ (i ++ t))) ≡ (a ++ (m ++ (b ++ (r ++ i)))) ++ t
   regroup a m b r i t = simp append_assoc
 
-  pub counts-written : {a b : List ℕ} → a ≡ over (over s used item) 0 (to_be 4 (used + length item)) → b ≡ over a 7 (to_be 2 (count + 1)) → b ≡ with_item s used count item
+  pub counts_written : {a b : List ℕ} → a ≡ over (over s used item) 0 (to_be 4 (used + length item)) → b ≡ over a 7 (to_be 2 (count + 1)) → b ≡ with_item s used count item
   unfolding rest
-  counts-written {a} {b} p q =
+  counts_written {a} {b} p q =
       let A : List ℕ = to_be 4 (used + length item) in
       let B : List ℕ = to_be 2 (count + 1) in
       let lA : length A ≡ 4 = length_u32 (used + length item) in
@@ -160,43 +160,43 @@ module _ (s : List ℕ) (used count : ℕ) (item : List ℕ) (lo : 9 ≤ used) (
       let e7 : 7 ≡ length A + 3 = omega arith in
       let e9 : 7 + length B ≡ length A + 5 = omega arith in
       let e45 : 4 + 5 ≡ 9 = refl in
-      let t7 : take 7 a ≡ A ++ part s 4 3 = ap (take 7) ea ∙ ap (λ (n : ℕ). take n (A ++ drop 4 X)) e7 ∙ take-append-add A (drop 4 X) 3 ∙ ap (λ (l : List ℕ). A ++ l) whole-middle in
+      let t7 : take 7 a ≡ A ++ part s 4 3 = ap (take 7) ea ∙ ap (λ (n : ℕ). take n (A ++ drop 4 X)) e7 ∙ take-append-add A (drop 4 X) 3 ∙ ap (λ (l : List ℕ). A ++ l) whole_middle in
       let d9 : drop (7 + length B) a ≡ part s 9 (used - 9) ++ rest =
       ap (drop (7 + length B)) ea ∙ ap (λ (n : ℕ). drop n (A ++ drop 4 X)) e9 ∙ drop-append-add A (drop 4 X) 5 ∙ drop-drop 5 4 X ∙ whole_drop 9 (omega arith) in
       let last : (A ++ part s 4 3) ++ (B ++ (part s 9 (used - 9) ++ rest)) ≡ (A ++ (part s 4 3 ++ (B ++ (part s 9 (used - 9) ++ item)))) ++ drop (used + length item) s = regroup A (part s 4 3) B (part s 9 (used - 9)) item (drop (used + length item) s) in
-      q ∙ over_is a 7 B ∙ ap (λ (l : List ℕ). l ++ (B ++ drop (7 + length B) a)) t7 ∙ ap (λ (l : List ℕ). (A ++ part s 4 3) ++ (B ++ l)) d9 ∙ last ∙ sym item-end
+      q ∙ over_is a 7 B ∙ ap (λ (l : List ℕ). l ++ (B ++ drop (7 + length B) a)) t7 ∙ ap (λ (l : List ℕ). (A ++ part s 4 3) ++ (B ++ l)) d9 ∙ last ∙ sym item_end
 
 -- what the code's answer on room says
 module _ (size used count n : ℕ) {r : Bool} where
   pub no_room : {k : ℕ} → count ≡ k → r ≡ has_room size used count n → not r ≡ true → has_room size used k n ≡ false
   no_room e h t = ap (λ (j : ℕ). has_room size used j n) (sym e) ∙ sym h ∙ not-true r t
 
-  pub has-room-is : {k : ℕ} → count ≡ k → r ≡ has_room size used count n → not r ≡ false → has_room size used k n ≡ true
-  has-room-is e h t = ap (λ (j : ℕ). has_room size used j n) (sym e) ∙ sym h ∙ not-false r t
+  pub has_room_is : {k : ℕ} → count ≡ k → r ≡ has_room size used count n → not r ≡ false → has_room size used k n ≡ true
+  has_room_is e h t = ap (λ (j : ℕ). has_room size used j n) (sym e) ∙ sym h ∙ not-false r t
 
 -- an item that is filed, or not
 module _ (s : List ℕ) (used count : ℕ) (item : List ℕ) where
-  pub filed-low : used < 9 → s ≡ file_item s used count item
+  pub filed_low : used < 9 → s ≡ file_item s used count item
   unfolding file_item written_if
-  filed-low h = rw (lt-leb 9 used h)
+  filed_low h = rw (lt-leb 9 used h)
 
   and_false : (a : Bool) → a && false ≡ false
   and_false true = refl
   and_false false = refl
 
-  pub filed-not : {n : ℕ} {r : Bool} → length item ≡ n → r ≡ has_room (length s) used count n → not r ≡ true → s ≡ file_item s used count item
+  pub filed_not : {n : ℕ} {r : Bool} → length item ≡ n → r ≡ has_room (length s) used count n → not r ≡ true → s ≡ file_item s used count item
   unfolding file_item written_if
-  filed-not {n} {r} e h k = rw (e, sym h ∙ not-true r k, and_false (leb 9 used))
+  filed_not {n} {r} e h k = rw (e, sym h ∙ not-true r k, and_false (leb 9 used))
 
-  pub filed-is : {n : ℕ} → 9 ≤ used → length item ≡ n → has_room (length s) used count n ≡ true → file_item s used count item ≡ with_item s used count item
+  pub filed_is : {n : ℕ} → 9 ≤ used → length item ≡ n → has_room (length s) used count n ≡ true → file_item s used count item ≡ with_item s used count item
   unfolding file_item written_if
-  filed-is h e k = rw (le-leb 9 used h, e, k)
+  filed_is h e k = rw (le-leb 9 used h, e, k)
 
 -- an item, and the counts over it
 pub item_put : (s : List ℕ) (used count : ℕ) (item : List ℕ) {k w : ℕ} {a b : List ℕ} → 9 ≤ used → used + length item ≤ length s → count ≡ k → w ≡ used + length item
     → a ≡ over s used item → b ≡ over (over a 0 (to_be 4 w)) 7 (to_be 2 (count + 1)) → b ≡ with_item s used k item
 item_put s used count item {k} {w} {a} {b} lo fits e ew p q =
-    counts-written s used count item lo fits refl (q ∙ ap (λ (t : List ℕ). over (over t 0 (to_be 4 w)) 7 (to_be 2 (count + 1))) p ∙ ap (λ (z : ℕ). over (over (over s used item) 0 (to_be 4 z)) 7 (to_be 2 (count + 1))) ew)
+    counts_written s used count item lo fits refl (q ∙ ap (λ (t : List ℕ). over (over t 0 (to_be 4 w)) 7 (to_be 2 (count + 1))) p ∙ ap (λ (z : ℕ). over (over (over s used item) 0 (to_be 4 z)) 7 (to_be 2 (count + 1))) ew)
     ∙ ap (λ (j : ℕ). with_item s used j item) e
 
 pub function_length : (id : List ℕ) → length (3 ∷ enc_function id) ≡ 9 + length id
@@ -212,13 +212,13 @@ pub counts_over : (d : List ℕ) (used count : ℕ) {a b : List ℕ} → 9 ≤ l
 counts_over d used count {a} {b} h p q =
     let l4 = length_u32 used in
     let l2 = length_u16 count in
-    let x : a ≡ over d 0 (to_be 4 used) = p ∙ fits-over d 0 (to_be 4 used) (omega arith) in
+    let x : a ≡ over d 0 (to_be 4 used) = p ∙ fits_over d 0 (to_be 4 used) (omega arith) in
     let l : length a ≡ length d = ap length x ∙ length_over d 0 (to_be 4 used) (omega arith) in
-    q ∙ fits-over a 7 (to_be 2 count) (omega arith) ∙ ap (λ (t : List ℕ). over t 7 (to_be 2 count)) x
+    q ∙ fits_over a 7 (to_be 2 count) (omega arith) ∙ ap (λ (t : List ℕ). over t 7 (to_be 2 count)) x
 
 -- writing keeps the length
 pub written_length : (d : List ℕ) (p x i : ℕ) (vs : List ℕ) {e : List ℕ} → e ≡ over_fit (set d p x) i vs → length e ≡ length d
-written_length d p x i vs h = ap length h ∙ length-fit (set d p x) i vs ∙ length-set d p x
+written_length d p x i vs h = ap length h ∙ length_fit (set d p x) i vs ∙ length-set d p x
 
 pub resource_length : (d : List ℕ) (at mode : ℕ) (image : List ℕ) {f : List ℕ} → at + (1 + length image) ≤ length d → f ≡ over d at (mode ∷ image) → length f ≡ length d
 resource_length d at mode image h p = ap length p ∙ length_over d at (mode ∷ image) (omega arith)

@@ -11,7 +11,7 @@ use Rattle.records.specs.Bytes.{byte_at}
 use Rattle.records.specs.Tree.{Expression, Inline}
 use Rattle.records.specs.Decode.{expression, inline}
 use Rattle.records.specs.Images.{Store, store_of}
-use Rattle.records.proofs.Views.{both, never, flag_elim, select-elim, term-elim, Body, a_string, a_number, is-function, is-message, is-term, is-variable, is-nested, inline-elim, expression-elim}
+use Rattle.records.proofs.Views.{both, never, flag_elim, select_elim, term_elim, Body, a_string, a_number, is_function, is_message, is_term, is_variable, is_nested, inline_elim, expression_elim}
 use Rattle.records.proofs.Laws.{byte_inv}
 use Rattle.images.proofs.Views.{store_elim}
 use Rattle.resolution.specs.Resolve.{bare, bare_inline}
@@ -30,22 +30,22 @@ byte_out s at h = go (ltb at (length s)) refl h
 
 -- a store: its sixth byte is its locale, its seventh its isolating Flag
 module _ (s : List ℕ) {x : Store} {e : ℕ} (h : store_of s ≡ got x e) where
-  locale-byte : get_or s 5 0 ≡ x.locale
-  locale-byte = store_elim s h (λ _ _ _ _ hb _ _ _ _ _. sym (byte_inv s 5 hb).1)
+  locale_byte_law : get_or s 5 0 ≡ x.locale
+  locale_byte_law = store_elim s h (λ _ _ _ _ hb _ _ _ _ _. sym (byte_inv s 5 hb).1)
 
-  isolating-byte : eqb (get_or s 6 0) 1 ≡ x.isolating
-  isolating-byte =
+  isolating_byte : eqb (get_or s 6 0) 1 ≡ x.isolating
+  isolating_byte =
       store_elim s h (λ _ _ _ _ _ _ hf _ _ _. flag_elim s 6 hf
       (λ hb w. let v : 0 ≡ get_or s 6 0 = (byte_inv s 6 hb).1 in ap (λ (j : ℕ). eqb j 1) (sym v) ∙ sym w)
       (λ hb w. let v : 1 ≡ get_or s 6 0 = (byte_inv s 6 hb).1 in ap (λ (j : ℕ). eqb j 1) (sym v) ∙ sym w))
 
 pub locale_is : (s : List ℕ) {r : ℕ} → r ≡ locale_byte s → (x : Store) (e : ℕ) → store_of s ≡ got x e → r ≡ x.locale
 unfolding locale_byte
-locale_is s is x e h = is ∙ locale-byte s h
+locale_is s is x e h = is ∙ locale_byte_law s h
 
 pub isolating_is : (s : List ℕ) (n : ℕ) {r : Bool} → r ≡ isolated s n → (x : Store) (e : ℕ) → store_of s ≡ got x e → r ≡ (ltb 1 n && x.isolating)
 unfolding isolated
-isolating_is s n is x e h = is ∙ ap (λ (b : Bool). ltb 1 n && b) (isolating-byte s h)
+isolating_is s n is x e h = is ∙ ap (λ (b : Bool). ltb 1 n && b) (isolating_byte s h)
 
 -- a slice too short for the Flag
 pub isolated_short : (s : List ℕ) (n : ℕ) → length s ≤ 6 → false ≡ isolated s n
@@ -58,44 +58,44 @@ isolated_short s n g = rw (get_or-eq_default s 0 g) (go (ltb 1 n))
 
 -- an expression: the byte that stands there is its tag
 module _ (s : List ℕ) (at : ℕ) where
-  pub bare-none : byte_at s at ≡ bad → false ≡ bare_at s at
+  pub bare_none : byte_at s at ≡ bad → false ≡ bare_at s at
   unfolding bare_at bare_tag
-  bare-none g = rw (get_or-eq_default s 0 (byte_out s at g))
+  bare_none g = rw (get_or-eq_default s 0 (byte_out s at g))
 
-  pub bare-tag : {tag p : ℕ} {b : Bool} → byte_at s at ≡ got tag p → b ≡ bare_tag tag → b ≡ bare_at s at
+  pub bare_tag_law : {tag p : ℕ} {b : Bool} → byte_at s at ≡ got tag p → b ≡ bare_tag tag → b ≡ bare_at s at
   unfolding bare_at
-  bare-tag g e = e ∙ ap bare_tag (byte_inv s at g).1
+  bare_tag_law g e = e ∙ ap bare_tag (byte_inv s at g).1
 
 module _ (s : List ℕ) (at d : ℕ) {x : Expression} {f : ℕ} (h : expression d s at ≡ got x f) where
-  tag-bare : (tag p : ℕ) → byte_at s at ≡ got tag p → bare_tag tag ≡ bare x
+  tag_bare : (tag p : ℕ) → byte_at s at ≡ got tag p → bare_tag tag ≡ bare x
   unfolding bare bare_inline bare_tag
-  tag-bare tag p g =
-      expression-elim s at d h
-      (λ p' hb _ hs. select-elim _ _ s p' hs (λ i _ _ _ vs _ _ _ _ w. both g hb (λ et _. rw (w, et))))
-      (λ _ _ i _ _ _ w hi. rw w (inline-elim s at d hi (λ tag' p' hb _ b. both g hb (λ et _. rw et (body i tag' p' b)))))
+  tag_bare tag p g =
+      expression_elim s at d h
+      (λ p' hb _ hs. select_elim _ _ s p' hs (λ i _ _ _ vs _ _ _ _ w. both g hb (λ et _. rw (w, et))))
+      (λ _ _ i _ _ _ w hi. rw w (inline_elim s at d hi (λ tag' p' hb _ b. both g hb (λ et _. rw et (body i tag' p' b)))))
     where
       body : (i : Inline) (t q : ℕ) → Body (expression (d - 1)) (inline (d - 1)) s q t i f → bare_tag t ≡ bare_inline i
       body i t q (a_string _ u _ w) = rw (w, u)
       body i t q (a_number _ u _ w) = rw (w, u)
-      body i t q (is-function _ _ _ u _ _ w) = rw (w, u)
-      body i t q (is-message _ _ _ u _ _ w) = rw (w, u)
-      body i t q (is-term u ht) = term-elim _ s q ht (λ _ _ _ _ _ _ _ _ w. rw (w, u))
-      body i t q (is-variable _ u _ w) = rw (w, u)
-      body i t q (is-nested _ u _ w) = rw (w, u)
+      body i t q (is_function _ _ _ u _ _ w) = rw (w, u)
+      body i t q (is_message _ _ _ u _ _ w) = rw (w, u)
+      body i t q (is_term u ht) = term_elim _ s q ht (λ _ _ _ _ _ _ _ _ w. rw (w, u))
+      body i t q (is_variable _ u _ w) = rw (w, u)
+      body i t q (is_nested _ u _ w) = rw (w, u)
 
-  bare-at : bare_at s at ≡ bare x
+  bare_at_law : bare_at s at ≡ bare x
   unfolding bare_at
-  bare-at =
-      expression-elim s at d h
-      (λ p hb _ _. ap bare_tag (sym (byte_inv s at hb).1) ∙ tag-bare _ p hb)
-      (λ tag p i hb _ _ _ _. ap bare_tag (sym (byte_inv s at hb).1) ∙ tag-bare tag p hb)
+  bare_at_law =
+      expression_elim s at d h
+      (λ p hb _ _. ap bare_tag (sym (byte_inv s at hb).1) ∙ tag_bare _ p hb)
+      (λ tag p i hb _ _ _ _. ap bare_tag (sym (byte_inv s at hb).1) ∙ tag_bare tag p hb)
 
 pub bare_is : (s : List ℕ) (at : ℕ) {r : Bool} → r ≡ bare_at s at → (d : ℕ) (x : Expression) (f : ℕ) → expression d s at ≡ got x f → r ≡ bare x
-bare_is s at is d x f h = is ∙ bare-at s at d h
+bare_is s at is d x f h = is ∙ bare_at_law s at d h
 
 pub marks_are : (s : List ℕ) (iso : Bool) (at : ℕ) {r : Bool} → r ≡ marks_at s iso at → (d : ℕ) (x : Expression) (f : ℕ) → expression d s at ≡ got x f → r ≡ (iso && not (bare x))
 unfolding marks_at
-marks_are s iso at is d x f h = is ∙ ap (λ (b : Bool). iso && not b) (bare-at s at d h)
+marks_are s iso at is d x f h = is ∙ ap (λ (b : Bool). iso && not b) (bare_at_law s at d h)
 
 -- the tags of inline expressions whose values are texts of their own
 pub text_tag_law : (t : ℕ) {C : Type 0} → text_tag t ≡ true → (t ≡ 4 → C) → (t ≡ 5 → C) → (t ≡ 7 → C) → C

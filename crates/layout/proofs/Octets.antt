@@ -28,10 +28,10 @@ octets_to_be (suc n) x = (mod-lt (x / 256 ^ n) (omega arith), octets_to_be n x)
 
 -- an automaton that all but bytes lead to a dead end
 module _ (f : ℕ → ℕ → ℕ) (end : ℕ) (stays : (b : ℕ) → f end b ≡ end) (out : (q b : ℕ) → 256 ≤ b → f q b ≡ end) where
-  run-octets : (q : ℕ) (t : List ℕ) → (run f q t ≡ end → ⊥) → Octets t
+  run_octets : (q : ℕ) (t : List ℕ) → (run f q t ≡ end → ⊥) → Octets t
   unfolding run
-  run-octets q [] n = tt
-  run-octets q (b ∷ t) n = go (ltb b 256) refl (run-octets (f q b) t n)
+  run_octets q [] n = tt
+  run_octets q (b ∷ t) n = go (ltb b 256) refl (run_octets (f q b) t n)
     where
       go : (i : Bool) → ltb b 256 ≡ i → Octets t → Octets (b ∷ t)
       go true e o = (ltb-true b 256 e, o)
@@ -95,14 +95,14 @@ and_right false b h = absurd (false≢true h)
 
 pub id_octets : (t : List ℕ) → is_id t ≡ true → Octets t
 unfolding is_id
-id_octets t h = run-octets id_step 2 id_stays id_out 0 t (λ e.
+id_octets t h = run_octets id_step 2 id_stays id_out 0 t (λ e.
     let r : run id_step 0 t ≡ 1 = eqb-true _ 1 (and_left _ _ h) in
     let z : ◌≡◌ {A = ℕ} 2 1 = sym e ∙ r in
     omega arith)
 
 pub utf8_octets : (t : List ℕ) → is_utf8 t ≡ true → Octets t
 unfolding is_utf8
-utf8_octets t h = run-octets utf8_step 8 utf8_stays utf8_out 0 t (λ e.
+utf8_octets t h = run_octets utf8_step 8 utf8_stays utf8_out 0 t (λ e.
     let z : ◌≡◌ {A = ℕ} 8 0 = sym e ∙ eqb-true _ 0 h in
     omega arith)
 
@@ -116,6 +116,6 @@ string_octets t h = utf8_octets t (and_right (eqb (run escape_step 0 t) 0) (is_u
 
 pub number_octets : (t : List ℕ) → is_number t ≡ true → Octets t
 unfolding is_number
-number_octets t h = run-octets number_step 5 stuck number_out 0 t (λ e.
+number_octets t h = run_octets number_step 5 stuck number_out 0 t (λ e.
     let r : (eqb (run number_step 0 t) 2 || eqb (run number_step 0 t) 4) ≡ true = and_left _ _ h in
     false≢true (subst (λ (j : ℕ). (eqb j 2 || eqb j 4) ≡ true) e r))

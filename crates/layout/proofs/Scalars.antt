@@ -117,9 +117,9 @@ module _ (n : ℕ) (rest : (u : List ℕ) → length u ≤ n → run utf8_step 0
       let z : length v ≡ suc (length u) = ap length p in
       coded_2 a b h k lo hi p refl (rest u (omega arith) s))
 
-  three-bytes : {q lo hi : ℕ} → 0 < q → Later q lo hi 1 → 0xE0 ≤ a → a < 0xF0 → 0x80 ≤ lo → hi ≤ 0xBF → (a ≡ 0xE0 → 0xA0 ≤ lo) → (a ≡ 0xED → hi ≤ 0x9F)
+  three_bytes : {q lo hi : ℕ} → 0 < q → Later q lo hi 1 → 0xE0 ≤ a → a < 0xF0 → 0x80 ≤ lo → hi ≤ 0xBF → (a ≡ 0xE0 → 0xA0 ≤ lo) → (a ≡ 0xED → hi ≤ 0x9F)
       → run utf8_step q v ≡ 0 → Coded (a ∷ v)
-  three-bytes i j h k x y f g r = more i j v r (λ b w p lo hi r. more (omega arith) table.one w r (λ d u p' lo' hi' s.
+  three_bytes i j h k x y f g r = more i j v r (λ b w p lo hi r. more (omega arith) table.one w r (λ d u p' lo' hi' s.
       let z : length v ≡ suc (length w) = ap length p in
       let z' : length w ≡ suc (length u) = ap length p' in
       coded_3 a b d h k (omega arith) (omega arith) lo' hi' (λ e. let w = f e in omega arith) (λ e. let w = g e in omega arith) p' p refl (rest u (omega arith) s)))
@@ -138,9 +138,9 @@ module _ (n : ℕ) (rest : (u : List ℕ) → length u ≤ n → run utf8_step 0
       below a 0x80 (λ h. coded_more a (low (omega arith)) (rest v l (goes (first_1 a h))) (sym (ap (λ (k : List ℕ). k ++ v) (encode_1 a h)))) (λ h.
       below a 0xC2 (λ k. no_more v (goes (first_between a h k))) (λ h.
       below a 0xE0 (λ k. two_bytes h k (goes (first_2 a h k))) (λ h.
-      is a 0xE0 (λ e. three-bytes (omega arith) table.after_E0 h (omega arith) (omega arith) (omega arith) (λ i. omega arith) (λ i. absurd (omega arith)) (goes (ap utf8_first e ∙ table.E0))) (λ n₁.
-      is a 0xED (λ e. three-bytes (omega arith) table.after_ED h (omega arith) (omega arith) (omega arith) (λ i. absurd (n₁ i)) (λ i. omega arith) (goes (ap utf8_first e ∙ table.ED))) (λ n₂.
-      below a 0xF0 (λ k. three-bytes (omega arith) table.two h k (omega arith) (omega arith) (λ i. absurd (n₁ i)) (λ i. absurd (n₂ i)) (goes (first_3 a (omega arith) k n₂))) (λ h.
+      is a 0xE0 (λ e. three_bytes (omega arith) table.after_E0 h (omega arith) (omega arith) (omega arith) (λ i. omega arith) (λ i. absurd (omega arith)) (goes (ap utf8_first e ∙ table.E0))) (λ n₁.
+      is a 0xED (λ e. three_bytes (omega arith) table.after_ED h (omega arith) (omega arith) (omega arith) (λ i. absurd (n₁ i)) (λ i. omega arith) (goes (ap utf8_first e ∙ table.ED))) (λ n₂.
+      below a 0xF0 (λ k. three_bytes (omega arith) table.two h k (omega arith) (omega arith) (λ i. absurd (n₁ i)) (λ i. absurd (n₂ i)) (goes (first_3 a (omega arith) k n₂))) (λ h.
       is a 0xF0 (λ e. four_bytes (omega arith) table.after_F0 h (omega arith) (omega arith) (omega arith) (λ i. omega arith) (λ i. absurd (omega arith)) (goes (ap utf8_first e ∙ table.F0))) (λ n₃.
       below a 0xF4 (λ k. four_bytes (omega arith) table.three h (omega arith) (omega arith) (omega arith) (λ i. absurd (n₃ i)) (λ i. absurd (omega arith)) (goes (first_4 a (omega arith) k))) (λ h'.
       is a 0xF4 (λ e. four_bytes (omega arith) table.after_F4 h (omega arith) (omega arith) (omega arith) (λ i. absurd (n₃ i)) (λ i. omega arith) (goes (ap utf8_first e ∙ table.F4))) (λ n₄.
@@ -191,34 +191,34 @@ module _ (c d : ℕ) (u v : List ℕ) (h : enc_scalar c ++ u ≡ enc_scalar d ++
       let k : a ∷ (x ++ u) ≡ b ∷ (y ++ v) = sym (ap (λ (l : List ℕ). l ++ u) p) ∙ h ∙ ap (λ (l : List ℕ). l ++ v) q in
       ((cc), (cc))
 
-  same-forms : Form c → Form d → (c ≡ d) × (u ≡ v)
-  same-forms (form_1 a p) (form_1 b q) = firsts p q
-  same-forms (form_1 a p) (form_2 x y e l q) = let k = (firsts p q).0 in absurd (omega arith)
-  same-forms (form_1 a p) (form_3 x y z e l q) = let k = (firsts p q).0 in absurd (omega arith)
-  same-forms (form_1 a p) (form_4 w x y z e q) = let k = (firsts p q).0 in absurd (omega arith)
-  same-forms (form_2 x y e l p) (form_1 b q) = let k = (firsts p q).0 in absurd (omega arith)
-  same-forms (form_2 x y e l p) (form_2 x' y' e' l' q) =
+  same_forms : Form c → Form d → (c ≡ d) × (u ≡ v)
+  same_forms (form_1 a p) (form_1 b q) = firsts p q
+  same_forms (form_1 a p) (form_2 x y e l q) = let k = (firsts p q).0 in absurd (omega arith)
+  same_forms (form_1 a p) (form_3 x y z e l q) = let k = (firsts p q).0 in absurd (omega arith)
+  same_forms (form_1 a p) (form_4 w x y z e q) = let k = (firsts p q).0 in absurd (omega arith)
+  same_forms (form_2 x y e l p) (form_1 b q) = let k = (firsts p q).0 in absurd (omega arith)
+  same_forms (form_2 x y e l p) (form_2 x' y' e' l' q) =
       let k = firsts p q in
       let i : 0xC0 + x ≡ 0xC0 + x' = k.0 in
       let m : (0x80 + y) ∷ u ≡ (0x80 + y') ∷ v = k.1 in
       let j : 0x80 + y ≡ 0x80 + y' = cc in
       (omega arith, (cc))
-  same-forms (form_2 x y e l p) (form_3 x' y' z' e' l' q) = let k = (firsts p q).0 in absurd (omega arith)
-  same-forms (form_2 x y e l p) (form_4 w' x' y' z' e' q) = let k = (firsts p q).0 in absurd (omega arith)
-  same-forms (form_3 x y z e l p) (form_1 b q) = let k = (firsts p q).0 in absurd (omega arith)
-  same-forms (form_3 x y z e l p) (form_2 x' y' e' l' q) = let k = (firsts p q).0 in absurd (omega arith)
-  same-forms (form_3 x y z e l p) (form_3 x' y' z' e' l' q) =
+  same_forms (form_2 x y e l p) (form_3 x' y' z' e' l' q) = let k = (firsts p q).0 in absurd (omega arith)
+  same_forms (form_2 x y e l p) (form_4 w' x' y' z' e' q) = let k = (firsts p q).0 in absurd (omega arith)
+  same_forms (form_3 x y z e l p) (form_1 b q) = let k = (firsts p q).0 in absurd (omega arith)
+  same_forms (form_3 x y z e l p) (form_2 x' y' e' l' q) = let k = (firsts p q).0 in absurd (omega arith)
+  same_forms (form_3 x y z e l p) (form_3 x' y' z' e' l' q) =
       let k = firsts p q in
       let i : 0xE0 + x ≡ 0xE0 + x' = k.0 in
       let m : (0x80 + y) ∷ (0x80 + z) ∷ u ≡ (0x80 + y') ∷ (0x80 + z') ∷ v = k.1 in
       let j : 0x80 + y ≡ 0x80 + y' = cc in
       let o : 0x80 + z ≡ 0x80 + z' = cc in
       (omega arith, (cc))
-  same-forms (form_3 x y z e l p) (form_4 w' x' y' z' e' q) = let k = (firsts p q).0 in absurd (omega arith)
-  same-forms (form_4 w x y z e p) (form_1 b q) = let k = (firsts p q).0 in absurd (omega arith)
-  same-forms (form_4 w x y z e p) (form_2 x' y' e' l' q) = let k = (firsts p q).0 in absurd (omega arith)
-  same-forms (form_4 w x y z e p) (form_3 x' y' z' e' l' q) = let k = (firsts p q).0 in absurd (omega arith)
-  same-forms (form_4 w x y z e p) (form_4 w' x' y' z' e' q) =
+  same_forms (form_3 x y z e l p) (form_4 w' x' y' z' e' q) = let k = (firsts p q).0 in absurd (omega arith)
+  same_forms (form_4 w x y z e p) (form_1 b q) = let k = (firsts p q).0 in absurd (omega arith)
+  same_forms (form_4 w x y z e p) (form_2 x' y' e' l' q) = let k = (firsts p q).0 in absurd (omega arith)
+  same_forms (form_4 w x y z e p) (form_3 x' y' z' e' l' q) = let k = (firsts p q).0 in absurd (omega arith)
+  same_forms (form_4 w x y z e p) (form_4 w' x' y' z' e' q) =
       let k = firsts p q in
       let i : 0xF0 + w ≡ 0xF0 + w' = k.0 in
       let m : (0x80 + x) ∷ (0x80 + y) ∷ (0x80 + z) ∷ u ≡ (0x80 + x') ∷ (0x80 + y') ∷ (0x80 + z') ∷ v = k.1 in
@@ -246,7 +246,7 @@ scalars_injective [] [] h = refl
 scalars_injective [] (d ∷ ds) h = absurd (encoded_more d _ (sym h))
 scalars_injective (c ∷ cs) [] h = absurd (encoded_more c _ h)
 scalars_injective (c ∷ cs) (d ∷ ds) h =
-    let k = same-forms c d _ _ h (form c) (form d) in
+    let k = same_forms c d _ _ h (form c) (form d) in
     let i : cs ≡ ds = scalars_injective cs ds k.1 in
     let j : c ≡ d = k.0 in
     cc

@@ -34,16 +34,16 @@ append_nil (x ∷ a) = ap (λ (w : List ℕ). x ∷ w) (append_nil a)
 
 module _ {s : List ℕ} {at e : ℕ} {bs : List ℕ} where
   -- how many they are
-  pub stands-length : Stands s at e bs → at + length bs ≡ e
-  stands-length h =
+  pub stands_length : Stands s at e bs → at + length bs ≡ e
+  stands_length h =
       let o = h.on in
       let w = h.within in
       let l : length bs ≡ e - at = ap length (sym h.bytes) ∙ length_part s at (e - at) (omega arith) in
       omega arith
 
   -- what is there from at on
-  pub stands-drop : Stands s at e bs → drop at s ≡ bs ++ drop e s
-  stands-drop h =
+  pub stands_drop : Stands s at e bs → drop at s ≡ bs ++ drop e s
+  stands_drop h =
       let o = h.on in
       let m : at + (e - at) ≡ e = omega arith in
       sym (take-append-drop (e - at) (drop at s)) ∙ ap (λ (l : List ℕ). l ++ drop (e - at) (drop at s)) h.bytes
@@ -62,7 +62,7 @@ stands_none s at l =
     record { on = omega arith; within = l; bytes = ap (λ (j : ℕ). part s at j) m }
 
 pub none_ends : {s : List ℕ} {at e : ℕ} → Stands s at e [] → at ≡ e
-none_ends h = let l = stands-length h in omega arith
+none_ends h = let l = stands_length h in omega arith
 
 -- one after the other
 pub join : {s x y : List ℕ} {a b c : ℕ} → Stands s a b x → Stands s b c y → Stands s a c (x ++ y)
@@ -70,8 +70,8 @@ join {s} {x} {y} {a} {b} {c} h k =
     let o = h.on in
     let p = k.on in
     let w = k.within in
-    let d : drop a s ≡ (x ++ y) ++ drop c s = stands-drop h ∙ ap (λ (l : List ℕ). x ++ l) (stands-drop k) ∙ sym (append_assoc x y (drop c s)) in
-    let m : a + length (x ++ y) ≡ c = rw length-append (omega (arith, stands-length h, stands-length k)) in
+    let d : drop a s ≡ (x ++ y) ++ drop c s = stands_drop h ∙ ap (λ (l : List ℕ). x ++ l) (stands_drop k) ∙ sym (append_assoc x y (drop c s)) in
+    let m : a + length (x ++ y) ≡ c = rw length-append (omega (arith, stands_length h, stands_length k)) in
     subst (λ (j : ℕ). Stands s a j (x ++ y)) m (stands_of (x ++ y) _ (omega arith) d)
 
 -- and back: where the first ends, the second starts
@@ -79,10 +79,10 @@ pub split : {s : List ℕ} (x : List ℕ) {y : List ℕ} {a c : ℕ} {Z : Type 0
 split {s} x {y} {a} {c} h k =
     let o = h.on in
     let w = h.within in
-    let d : drop a s ≡ x ++ (y ++ drop c s) = stands-drop h ∙ append_assoc x y (drop c s) in
+    let d : drop a s ≡ x ++ (y ++ drop c s) = stands_drop h ∙ append_assoc x y (drop c s) in
     let f : Stands s a (a + length x) x = stands_of x _ (omega arith) d in
     let g : drop (a + length x) s ≡ y ++ drop c s = sym (drop-drop (length x) a s) ∙ ap (drop (length x)) d ∙ drop-append_seam x (y ++ drop c s) in
-    let m : a + length x + length y ≡ c = omega (arith, stands-length h, length-append x y) in
+    let m : a + length x + length y ≡ c = omega (arith, stands_length h, length-append x y) in
     k (a + length x) f (subst (λ (j : ℕ). Stands s (a + length x) j y) m (stands_of y _ f.within g))
 
 -- at the front of a list, and inside one
@@ -101,8 +101,8 @@ stands_byte s at l = stands_of (get_or s at 0 ∷ []) _ (omega arith) (drop-cons
 pub byte_is : {s : List ℕ} {at e x : ℕ} {y : List ℕ} → Stands s at e (x ∷ y) → get_or s at 0 ≡ x
 byte_is {s} {at} {e} {x} {y} h =
     let w = h.within in
-    let l : at < length s = omega (arith, stands-length h) in
-    let d : get_or s at 0 ∷ drop (suc at) s ≡ x ∷ (y ++ drop e s) = sym (drop-cons s at 0 l) ∙ stands-drop h in
+    let l : at < length s = omega (arith, stands_length h) in
+    let d : get_or s at 0 ∷ drop (suc at) s ≡ x ∷ (y ++ drop e s) = sym (drop-cons s at 0 l) ∙ stands_drop h in
     cc
 
 pub bytes_are : {s : List ℕ} {at e : ℕ} {x y : List ℕ} → x ≡ y → Stands s at e x → Stands s at e y

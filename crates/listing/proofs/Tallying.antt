@@ -16,15 +16,15 @@ use Rattle.records.specs.Encode.{enc_all}
 use Rattle.records.specs.Errors.{Error, overriding, enc_error}
 use Rattle.records.specs.Decode.{many}
 use Rattle.records.specs.Images.{Entry, max_image, entry_at, resource_of}
-use Rattle.records.proofs.Views.{both, never, many-cons, many-nil}
-use Rattle.texts.proofs.Recording.{overriding-length}
+use Rattle.records.proofs.Views.{both, never, many_cons, many_nil}
+use Rattle.texts.proofs.Recording.{overriding_length}
 use Rattle.listing.specs.declared.Tally.{Tally}
 use Rattle.entries.specs.Outline.{behind, entry_outline}
 use Rattle.entries.specs.Repeats.{repeat_if}
 use Rattle.entries.specs.Relations.Marked.{marked}
 use Rattle.listing.specs.Relations.Tallies.{counted, Tallied, Tallies}
 use Rattle.entries.proofs.Open.{whole_resource}
-use Rattle.entries.proofs.Decoded.{first-unread, first-endless, turn_ends}
+use Rattle.entries.proofs.Decoded.{first_unread, first_endless, turn_ends}
 use Rattle.entries.proofs.Lengths.{id_length, entry_size}
 
 -- there is no mark past the end
@@ -44,7 +44,7 @@ enc_repeat false x l = refl
 
 pub one_size : (b : Bool) (x : Entry) → length (enc_all enc_error (repeat_if b x [])) ≡ counted b (6 + length x.id)
 unfolding repeat_if enc_all
-one_size true x = ap length (append-nil (enc_error (overriding x.kind x.id))) ∙ sym (overriding-length x.id x.kind)
+one_size true x = ap length (append-nil (enc_error (overriding x.kind x.id))) ∙ sym (overriding_length x.id x.kind)
 one_size false x = refl
 
 repeat_size : (b : Bool) (x : Entry) (l : List Error) → length (enc_all enc_error (repeat_if b x l)) ≡ counted b (6 + length x.id) + length (enc_all enc_error l)
@@ -56,12 +56,12 @@ counted_most false n = omega arith
 
 pub marked_size : (s marks : List ℕ) (n k at : ℕ) {es : List Entry} {f : ℕ} → many [] ◌∷◌ n entry_at s at ≡ got es f → at + length (enc_all enc_error (marked marks k es)) ≤ f
 unfolding marked enc_all
-marked_size s marks zero k at {es} {f} h = many-nil [] ◌∷◌ entry_at s zero at (omega arith) h (λ el ef. rw el (none-size f at ef))
+marked_size s marks zero k at {es} {f} h = many_nil [] ◌∷◌ entry_at s zero at (omega arith) h (λ el ef. rw el (none-size f at ef))
   where
     none-size : (f at : ℕ) → f ≡ at → at + length (enc_all enc_error []) ≤ f
     none-size f at ef = omega arith
 marked_size s marks (suc n) k at {es} {f} h =
-    many-cons [] ◌∷◌ entry_at s (suc n) at (omega arith) h (λ x e es' hx hl el.
+    many_cons [] ◌∷◌ entry_at s (suc n) at (omega arith) h (λ x e es' hx hl el.
     let m : suc n - 1 ≡ n = omega arith in
     let ih = marked_size s marks n (k + 1) e (subst (λ (j : ℕ). many [] ◌∷◌ j entry_at s e ≡ got es' f) m hl) in
     let z = entry_size s at hx in let z0 = z.0 in
@@ -74,20 +74,20 @@ module _ (image marks : List ℕ) where
   pub record TallyFrom (n k at : ℕ) (t r : Tally) : Type 0 where
     pub says : (es : List Entry) (f : ℕ) → many [] ◌∷◌ n entry_at image at ≡ got es f → (r.count ≡ t.count + length (marked marks k es)) × (r.size ≡ t.size + length (enc_all enc_error (marked marks k es)))
 
-  pub tally-none : {n k at : ℕ} {t : Tally} → n ≤ 0 → TallyFrom n k at t t
+  pub tally_none : {n k at : ℕ} {t : Tally} → n ≤ 0 → TallyFrom n k at t t
   unfolding marked enc_all
-  tally-none {n} {k} {at} {t} z = record { says = λ es f q. many-nil [] ◌∷◌ entry_at image n at z q (λ el _. rw el (omega arith, omega arith)) }
+  tally_none {n} {k} {at} {t} z = record { says = λ es f q. many_nil [] ◌∷◌ entry_at image n at z q (λ el _. rw el (omega arith, omega arith)) }
 
-  pub tally-bad : {n k at : ℕ} {t r : Tally} → 0 < n → behind 1 span_at image at ≡ bad → TallyFrom n k at t r
-  tally-bad {n} {k} {at} z h = record { says = λ es f q. first-unread image n at z q h }
+  pub tally_bad : {n k at : ℕ} {t r : Tally} → 0 < n → behind 1 span_at image at ≡ bad → TallyFrom n k at t r
+  tally_bad {n} {k} {at} z h = record { says = λ es f q. first_unread image n at z q h }
 
-  pub tally-stuck : {n k at : ℕ} {t r : Tally} {o : Next} → 0 < n → o ≡ next_of (entry_outline image at) → o ≡ next.Bad → TallyFrom n k at t r
-  tally-stuck {n} {k} {at} z is b = record { says = λ es f q. first-endless image n at z q is b }
+  pub tally_stuck : {n k at : ℕ} {t r : Tally} {o : Next} → 0 < n → o ≡ next_of (entry_outline image at) → o ≡ next.Bad → TallyFrom n k at t r
+  tally_stuck {n} {k} {at} z is b = record { says = λ es f q. first_endless image n at z q is b }
 
-  pub tally-next : (count : ℕ) {k at a e i m : ℕ} {t t' r : Tally} {o : Next} → k < count → behind 1 span_at image at ≡ got a e → m ≡ get_or marks k 0 → Tallied t m (e - a) t'
+  pub tally_next : (count : ℕ) {k at a e i m : ℕ} {t t' r : Tally} {o : Next} → k < count → behind 1 span_at image at ≡ got a e → m ≡ get_or marks k 0 → Tallied t m (e - a) t'
       → o ≡ next_of (entry_outline image at) → o ≡ next.At i → TallyFrom (count - (k + 1)) (k + 1) i t' r → TallyFrom (count - k) k at t r
   unfolding marked
-  tally-next count {k} {at} {a} {e} {i} {m} {t} {t'} {r} lt h em y₀ is w rest = record {
+  tally_next count {k} {at} {a} {e} {i} {m} {t} {t'} {r} lt h em y₀ is w rest = record {
     says = λ es f q.
         let y : Tallied t (get_or marks k 0) (e - a) t' = subst (λ (j : ℕ). Tallied t j (e - a) t') em y₀ in
         turn_ends image count k at lt q is w (λ x es' hx hl el.
@@ -100,11 +100,11 @@ module _ (image marks : List ℕ) where
         rw el (omega arith, omega arith));
   }
 
-  pub tally-no-count : {r : Tally} → number_at 2 image 5 ≡ bad → (es : List Entry) (f : ℕ) → resource_of image ≡ got es f → Tallies (marked marks 0 es) r
-  tally-no-count h es f hr = whole_resource image hr (λ k hk _ _ _ _. never h hk)
+  pub tally_no_count : {r : Tally} → number_at 2 image 5 ≡ bad → (es : List Entry) (f : ℕ) → resource_of image ≡ got es f → Tallies (marked marks 0 es) r
+  tally_no_count h es f hr = whole_resource image hr (λ k hk _ _ _ _. never h hk)
 
-  pub tally-start : {count start : ℕ} {r : Tally} → number_at 2 image 5 ≡ got count start → TallyFrom (count - 0) 0 start (record { count = 0; size = 0 }) r → (es : List Entry) (f : ℕ) → resource_of image ≡ got es f → Tallies (marked marks 0 es) r
-  tally-start {count} {start} {r} h w es f hr =
+  pub tally_start : {count start : ℕ} {r : Tally} → number_at 2 image 5 ≡ got count start → TallyFrom (count - 0) 0 start (record { count = 0; size = 0 }) r → (es : List Entry) (f : ℕ) → resource_of image ≡ got es f → Tallies (marked marks 0 es) r
+  tally_start {count} {start} {r} h w es f hr =
       whole_resource image hr (λ k hk hm _ _ _.
       both h hk (λ ek es'.
       let ec : count - 0 ≡ k = omega arith in

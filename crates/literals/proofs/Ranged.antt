@@ -28,17 +28,17 @@ unfolding or_zero
 zero_none f e = ap or_zero e
 
 module _ (q b c : ℕ) (r : Read) (h : Placed q c r) where
-  sign-step : eqb b 45 ≡ true → digit b ≡ false → Placed (number_step q b) (choose (digit b) 1 0 + c) (read_step r b)
+  sign_step : eqb b 45 ≡ true → digit b ≡ false → Placed (number_step q b) (choose (digit b) 1 0 + c) (read_step r b)
   unfolding number_step read_step read_sign
-  sign-step e d = rw (e, d, read_step) (go (eqb q 0) refl)
+  sign_step e d = rw (e, d, read_step) (go (eqb q 0) refl)
     where
       go : (t : Bool) → eqb q 0 ≡ t → Placed (choose t 1 5) (0 + c) (read_sign r)
       go true z = let y = eqb-true q 0 z in record { before = λ _. h.before (omega arith); after = λ a _. absurd (omega arith) }
       go false z = record { before = λ a. absurd (omega arith); after = λ _ a. absurd (omega arith) }
 
-  dot-step : eqb b 45 ≡ false → eqb b 46 ≡ true → digit b ≡ false → Placed (number_step q b) (choose (digit b) 1 0 + c) (read_step r b)
+  dot_step : eqb b 45 ≡ false → eqb b 46 ≡ true → digit b ≡ false → Placed (number_step q b) (choose (digit b) 1 0 + c) (read_step r b)
   unfolding number_step read_step read_dot or_zero
-  dot-step e f d = rw (e, f, d, read_step) (go (eqb q 2) refl)
+  dot_step e f d = rw (e, f, d, read_step) (go (eqb q 2) refl)
     where
       go : (t : Bool) → eqb q 2 ≡ t → Placed (choose t 3 5) (0 + c) (read_dot r)
       go true z = let y = eqb-true q 2 z in let p = h.after (omega arith) (omega arith) in record { before = λ a. absurd (omega arith); after = λ _ _. omega arith }
@@ -65,14 +65,14 @@ module _ (q b c : ℕ) (r : Read) (h : Placed q c r) where
   unfolding number_step
   other_step e f d = rw (e, f, d) (record { before = λ a. absurd (omega arith); after = λ _ a. absurd (omega arith) })
 
-  place-step : Placed (number_step q b) (choose (digit b) 1 0 + c) (read_step r b)
-  place-step = go (eqb b 45) refl (eqb b 46) refl (digit b) refl
+  place_step : Placed (number_step q b) (choose (digit b) 1 0 + c) (read_step r b)
+  place_step = go (eqb b 45) refl (eqb b 46) refl (digit b) refl
     where
       go : (x : Bool) → eqb b 45 ≡ x → (y : Bool) → eqb b 46 ≡ y → (z : Bool) → digit b ≡ z → Placed (number_step q b) (choose (digit b) 1 0 + c) (read_step r b)
       go true e y f true d = let a = digit_bounds b d in let n = eqb-true b 45 e in absurd (omega arith)
-      go true e y f false d = sign-step e d
+      go true e y f false d = sign_step e d
       go false e true f true d = let a = digit_bounds b d in let n = eqb-true b 46 f in absurd (omega arith)
-      go false e true f false d = dot-step e f d
+      go false e true f false d = dot_step e f d
       go false e false f true d = digit_step e f d
       go false e false f false d = other_step e f d
 
@@ -81,7 +81,7 @@ unfolding run digit_count read_from
 place_all [] q c r h = let e : c ≡ 0 + c = omega arith in subst (λ (n : ℕ). Placed q n r) e h
 place_all (b ∷ l) q c r h =
     let e : digit_count l + (choose (digit b) 1 0 + c) ≡ choose (digit b) 1 0 + digit_count l + c = omega arith in
-    subst (λ (n : ℕ). Placed (run number_step (number_step q b) l) n (read_from l (read_step r b))) e (place_all l (number_step q b) (choose (digit b) 1 0 + c) (read_step r b) (place-step q b c r h))
+    subst (λ (n : ℕ). Placed (run number_step (number_step q b) l) n (read_from l (read_step r b))) e (place_all l (number_step q b) (choose (digit b) 1 0 + c) (read_step r b) (place_step q b c r h))
 
 ends : (n : ℕ) → (eqb n 2 || eqb n 4) ≡ true → (2 ≤ n) × (n < 5)
 ends n h = go (eqb n 2) refl (eqb n 4) refl h

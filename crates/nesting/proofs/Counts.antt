@@ -58,12 +58,12 @@ ascii_lead (b ∷ t) h = λ l. let k = h.0 in absurd (omega arith)
 
 -- a mark is a byte and continuation bytes
 module _ (x : ℕ) (m : Bytes) (inside : All Continuation m) where
-  begins-seam : (m : Bytes) → All Continuation m → (a b : Bytes) → Lead b → begins m (a ++ b) ≡ begins m a
+  begins_seam : (m : Bytes) → All Continuation m → (a b : Bytes) → Lead b → begins m (a ++ b) ≡ begins m a
   unfolding begins
-  begins-seam [] i a b h = refl
-  begins-seam (y ∷ m) i [] [] h = refl
-  begins-seam (y ∷ m) i [] (b ∷ t) h = rw (ne_eqb y b (λ e. let p = i.0 in let k : 0xC0 ≤ b = h (omega arith) in omega arith))
-  begins-seam (y ∷ m) i (d ∷ a) b h = ap (λ (z : Bool). eqb y d && z) (begins-seam m i.1 a b h)
+  begins_seam [] i a b h = refl
+  begins_seam (y ∷ m) i [] [] h = refl
+  begins_seam (y ∷ m) i [] (b ∷ t) h = rw (ne_eqb y b (λ e. let p = i.0 in let k : 0xC0 ≤ b = h (omega arith) in omega arith))
+  begins_seam (y ∷ m) i (d ∷ a) b h = ap (λ (z : Bool). eqb y d && z) (begins_seam m i.1 a b h)
 
   -- marks of a joining are those of its parts
   pub count_append : (a b : Bytes) → Lead b → count_in (x ∷ m) (a ++ b) ≡ count_in (x ∷ m) a + count_in (x ∷ m) b
@@ -71,7 +71,7 @@ module _ (x : ℕ) (m : Bytes) (inside : All Continuation m) where
   count_append [] b h = omega arith
   count_append (d ∷ a) b h =
       let k = count_append a b h in
-      rw (begins-seam m inside a b h) (omega arith)
+      rw (begins_seam m inside a b h) (omega arith)
 
 fsi_inside : All Continuation (0x81 ∷ 0xa8 ∷ [])
 fsi_inside = ((omega arith, omega arith), ((omega arith, omega arith), tt))

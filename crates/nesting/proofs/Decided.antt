@@ -15,7 +15,7 @@ use Rattle.records.specs.Valid.{All, IfAny}
 use Rattle.layout.specs.Exact.{Octets}
 use Rattle.resolution.specs.Effect.{Bytes}
 use Rattle.resolution.specs.Resolve.{fsi, pdi}
-use Rattle.theorems.specs.Leaves.{Leaf, leavesOf, InEntry, InItem, InLeaves}
+use Rattle.theorems.specs.Leaves.{Leaf, leaves_of, InEntry, InItem, InLeaves}
 use Rattle.requests.specs.Image.{Request, sheet_of}
 use Rattle.nesting.specs.Marks.{count_in, UnmarkedBytes}
 use Rattle.nesting.specs.Claims.{InLeaf, InBundle, InArgument, InArguments, InSheet}
@@ -78,11 +78,11 @@ abbrev Free : Pattern → Type 0
 Free p = InLeaves (InLeaf UnmarkedBytes) p
 
 unfoldable pub pattern_unmarked : Pattern → Bool
-pattern_unmarked p = every leaf_unmarked (leavesOf p)
+pattern_unmarked p = every leaf_unmarked (leaves_of p)
 
 free_true : (p : Pattern) → pattern_unmarked p ≡ true → Free p
 unfolding pattern_unmarked
-free_true p h = every_true leaf_unmarked (InLeaf UnmarkedBytes) leaf_true (leavesOf p) h
+free_true p h = every_true leaf_unmarked (InLeaf UnmarkedBytes) leaf_true (leaves_of p) h
 
 unfoldable pub value_unmarked : Option Pattern → Bool
 value_unmarked none = true

@@ -14,7 +14,7 @@ use Rattle.resolution.specs.Format.{Buffers, value_of, values_of}
 use Rattle.theorems.specs.Finished.{Finished, Sound, out_of}
 use Rattle.theorems.proofs.Every.{all_both}
 use Rattle.theorems.proofs.WalkLeaves.{Fine, FineNamed}
-use Rattle.theorems.proofs.Formattings.{sound, text-taken}
+use Rattle.theorems.proofs.Formattings.{sound, text_taken}
 use Rattle.theorems.proofs.Resolves.{Keeps, values_fine, resolves}
 use Rattle.theorems.proofs.ReadBack.{text_utf8, string_utf8}
 use Rattle.nesting.specs.Marks.{UnmarkedBytes, PairedBytes}
@@ -48,8 +48,8 @@ module _ (s : Bytes) (os : Octets s) (us : InBundle UnmarkedBytes s) (image : By
   read : (f : Finished s id a image b) → (e : ℕ) × (arguments_of image ≡ got f.reached.arguments e)
   read f = let w = accepted_read image f.reached.arguments f.reached.given in (w.0, w.1)
 
-  parts-balanced : (f : Finished s id a image b) → Balanced (out_of f).text
-  parts-balanced f =
+  parts_balanced : (f : Finished s id a image b) → Balanced (out_of f).text
+  parts_balanced f =
       (resolves Balanced (InLeaf UnmarkedBytes) balanced_keeps f.reached.store (store_sound s os f.reached.stored).0 (us f.reached.store f.reached.store_end f.reached.stored)
       f.reached.arguments (values_balanced f.reached.arguments (arguments_sound oi (read f).1).0 (ui f.reached.arguments (read f).0 (read f).1))
       id a f.reached.entry f.reached.part f.reached.found f.reached.has).text
@@ -57,4 +57,4 @@ module _ (s : Bytes) (os : Octets s) (us : InBundle UnmarkedBytes s) (image : By
 pub formattings_nest : EveryFormatting UnmarkedBytes PairedBytes
 formattings_nest s os us image oi ui id a b t e k u w h =
     let r : Sound s id a image b t e k u w = sound s id a image b t e k u w h in
-    subst PairedBytes (sym (text-taken s id a image b t e k u w r)) (balanced_paired _ (parts-balanced s os us image oi ui id a b r.parts))
+    subst PairedBytes (sym (text_taken s id a image b t e k u w r)) (balanced_paired _ (parts_balanced s os us image oi ui id a b r.parts))

@@ -4,8 +4,8 @@ use Rattle.records.specs.Valid.{ValidArgument, ValidNamedArgument, ValidArgument
 use Rattle.layout.specs.Exact.{Octets}
 use Rattle.layout.proofs.Theorems.{store_sound, arguments_sound}
 use Rattle.resolution.specs.Effect.{Bytes}
-use Rattle.theorems.specs.Leaves.{Leaf, leavesOf, InLeaves}
-use Rattle.theorems.proofs.Every.{all_map, all_both, items_map, items-both}
+use Rattle.theorems.specs.Leaves.{Leaf, leaves_of, InLeaves}
+use Rattle.theorems.proofs.Every.{all_map, all_both, items_map, items_both}
 use Rattle.theorems.proofs.Valid.{ValidLeaf, store_leaves}
 use Rattle.theorems.proofs.ReadBack.{text_utf8, string_utf8}
 use Rattle.requests.specs.Image.{Request}
@@ -30,7 +30,7 @@ argument_bytes (i, Argument.nothing) h = tt
 
 pub bundle_bytes : (s : Bytes) → InBundle UnmarkedScalars s → InBundle UnmarkedBytes s
 bundle_bytes s h v end q =
-    items_map (InLeaves (InLeaf UnmarkedScalars)) (InLeaves (InLeaf UnmarkedBytes)) (λ p k. all_map (InLeaf UnmarkedScalars) (InLeaf UnmarkedBytes) leaf_bytes (leavesOf p) k) v.items (h v end q)
+    items_map (InLeaves (InLeaf UnmarkedScalars)) (InLeaves (InLeaf UnmarkedBytes)) (λ p k. all_map (InLeaf UnmarkedScalars) (InLeaf UnmarkedBytes) leaf_bytes (leaves_of p) k) v.items (h v end q)
 
 pub arguments_bytes : (image : Bytes) → InArguments UnmarkedScalars image → InArguments UnmarkedBytes image
 arguments_bytes image h l end q = all_map (InArgument UnmarkedScalars) (InArgument UnmarkedBytes) argument_bytes l (h l end q)
@@ -58,8 +58,8 @@ argument_scalars (i, Argument.nothing) v h = tt
 
 bundle_scalars : (s : Bytes) → Octets s → InBundle UnmarkedBytes s → InBundle UnmarkedScalars s
 bundle_scalars s os h v end q =
-    items-both (InLeaves ValidLeaf) (InLeaves (InLeaf UnmarkedBytes)) (InLeaves (InLeaf UnmarkedScalars))
-    (λ p x y. all_both ValidLeaf (InLeaf UnmarkedBytes) (InLeaf UnmarkedScalars) leaf_scalars (leavesOf p) x y) v.items (store_leaves v (store_sound s os q).0) (h v end q)
+    items_both (InLeaves ValidLeaf) (InLeaves (InLeaf UnmarkedBytes)) (InLeaves (InLeaf UnmarkedScalars))
+    (λ p x y. all_both ValidLeaf (InLeaf UnmarkedBytes) (InLeaf UnmarkedScalars) leaf_scalars (leaves_of p) x y) v.items (store_leaves v (store_sound s os q).0) (h v end q)
 
 arguments_scalars : (image : Bytes) → Octets image → InArguments UnmarkedBytes image → InArguments UnmarkedScalars image
 unfolding ValidArgumentsImage

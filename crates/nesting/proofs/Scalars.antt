@@ -76,9 +76,9 @@ module _ (k : ℕ) (h : k < 64) where
   most : (c : ℕ) → Scalar c → c < 0x110000
   most c s = scalar_either c s (λ a. omega arith) (λ a b. b)
 
-  one-scalar : (c : ℕ) → Scalar c → count_in (bytes k) (enc_scalar c) ≡ once (eqb (0x2040 + k) c)
+  one_scalar : (c : ℕ) → Scalar c → count_in (bytes k) (enc_scalar c) ≡ once (eqb (0x2040 + k) c)
   unfolding enc_scalar
-  one-scalar c s = go (ltb c 0x80) (ltb c 0x800) (ltb c 0x10000) refl refl refl
+  one_scalar c s = go (ltb c 0x80) (ltb c 0x800) (ltb c 0x10000) refl refl refl
     where
       go : (x y z : Bool) → ltb c 0x80 ≡ x → ltb c 0x800 ≡ y → ltb c 0x10000 ≡ z → count_in (bytes k) (enc_scalar c) ≡ once (eqb (0x2040 + k) c)
       go true y z ex ey ez =
@@ -98,21 +98,21 @@ module _ (k : ℕ) (h : k < 64) where
   front_bytes : (c : ℕ) → Scalar c → (t : Bytes) → Lead t → count_in (bytes k) (enc_scalar c ++ t) ≡ once (eqb (0x2040 + k) c) + count_in (bytes k) t
   front_bytes c s t l =
       count_append 0xe2 (0x81 ∷ (0x80 + k) ∷ []) ((omega arith, omega arith), ((omega arith, omega arith), tt)) (enc_scalar c) t l
-      ∙ ap (λ (n : ℕ). n + count_in (bytes k) t) (one-scalar c s)
+      ∙ ap (λ (n : ℕ). n + count_in (bytes k) t) (one_scalar c s)
 
-  front-scalar : (c : ℕ) (cs : List ℕ) → count_in (scalar k) (c ∷ cs) ≡ once (eqb (0x2040 + k) c) + count_in (scalar k) cs
+  front_scalar : (c : ℕ) (cs : List ℕ) → count_in (scalar k) (c ∷ cs) ≡ once (eqb (0x2040 + k) c) + count_in (scalar k) cs
   unfolding count_in begins
-  front-scalar c cs = ap (λ (x : Bool). once x + count_in (scalar k) cs) (true_right (eqb (0x2040 + k) c))
+  front_scalar c cs = ap (λ (x : Bool). once x + count_in (scalar k) cs) (true_right (eqb (0x2040 + k) c))
 
   -- a scalar that is cut short is no mark
   cut_none : (n c : ℕ) → Scalar c → n < length (enc_scalar c) → count_in (bytes k) (take n (enc_scalar c)) ≡ 0
   cut_none n c s l =
       is c (0x2040 + k)
       (λ e.
-      let three-long : length (enc_scalar c) ≡ 3 = ap (λ (d : ℕ). length (enc_scalar d)) e ∙ ap length (encode_3 2 1 k (omega arith) (omega arith) h (omega arith)) in
+      let three_long : length (enc_scalar c) ≡ 3 = ap (λ (d : ℕ). length (enc_scalar d)) e ∙ ap length (encode_3 2 1 k (omega arith) (omega arith) h (omega arith)) in
       let short : length (take n (enc_scalar c)) ≡ n = length-take-le n (enc_scalar c) (omega arith) in
       count_short (bytes k) (take n (enc_scalar c)) (omega arith))
-      (λ f. let most-of = count_take (bytes k) n (enc_scalar c) in let all = one-scalar c s in let none = apart c f in omega arith)
+      (λ f. let most-of = count_take (bytes k) n (enc_scalar c) in let all = one_scalar c s in let none = apart c f in omega arith)
 
 -- The marks of a prefix by bytes are those of a prefix by scalars: of the scalars that stand wholly in it.
 record Within (n : ℕ) (cs : List ℕ) : Type 0 where
@@ -132,7 +132,7 @@ within n (c ∷ cs) s = go (λ j. within j cs s.1) (leb (length (enc_scalar c)) 
       whole = suc w.whole;
       counts = λ k h.
           ap (count_in (bytes k)) (take-append-add (enc_scalar c) (enc_scalars cs) j) ∙ front_bytes k h c s.0 (take j (enc_scalars cs)) (lead j)
-          ∙ ap (λ (m : ℕ). once (eqb (0x2040 + k) c) + m) (w.counts k h) ∙ sym (front-scalar k h c (take w.whole cs));
+          ∙ ap (λ (m : ℕ). once (eqb (0x2040 + k) c) + m) (w.counts k h) ∙ sym (front_scalar k h c (take w.whole cs));
     }
 
     go : ((j : ℕ) → Within j cs) → (x : Bool) → leb (length (enc_scalar c)) n ≡ x → Within n (c ∷ cs)
@@ -149,7 +149,7 @@ count_scalars : (k : ℕ) → k < 64 → (cs : List ℕ) → All Scalar cs → c
 unfolding enc_scalars enc_all count_in
 count_scalars k h [] s = refl
 count_scalars k h (c ∷ cs) s =
-    front_bytes k h c s.0 (enc_scalars cs) (scalars_lead cs s.1) ∙ ap (λ (m : ℕ). once (eqb (0x2040 + k) c) + m) (count_scalars k h cs s.1) ∙ sym (front-scalar k h c cs)
+    front_bytes k h c s.0 (enc_scalars cs) (scalars_lead cs s.1) ∙ ap (λ (m : ℕ). once (eqb (0x2040 + k) c) + m) (count_scalars k h cs s.1) ∙ sym (front_scalar k h c cs)
 
 -- and those of a prefix by scalars are those of a prefix by bytes
 prefix_bytes : (n : ℕ) (cs : List ℕ) → take (length (enc_scalars (take n cs))) (enc_scalars cs) ≡ enc_scalars (take n cs)
@@ -181,14 +181,14 @@ module _ (cs : List ℕ) (s : All Scalar cs) where
   counted : Counted (enc_scalars cs) cs
   counted = (opening _ ∙ count_scalars 0x28 (omega arith) cs s, closing _ ∙ count_scalars 0x29 (omega arith) cs s)
 
-  bytes-unmarked : Unmarked (0x2068 ∷ []) (0x2069 ∷ []) cs → UnmarkedBytes (enc_scalars cs)
-  bytes-unmarked u = record { no_opening = counted.0 ∙ u.no_opening; no_closing = counted.1 ∙ u.no_closing }
+  bytes_unmarked : Unmarked (0x2068 ∷ []) (0x2069 ∷ []) cs → UnmarkedBytes (enc_scalars cs)
+  bytes_unmarked u = record { no_opening = counted.0 ∙ u.no_opening; no_closing = counted.1 ∙ u.no_closing }
 
-  scalars-unmarked : UnmarkedBytes (enc_scalars cs) → Unmarked (0x2068 ∷ []) (0x2069 ∷ []) cs
-  scalars-unmarked u = record { no_opening = sym counted.0 ∙ u.no_opening; no_closing = sym counted.1 ∙ u.no_closing }
+  scalars_unmarked : UnmarkedBytes (enc_scalars cs) → Unmarked (0x2068 ∷ []) (0x2069 ∷ []) cs
+  scalars_unmarked u = record { no_opening = sym counted.0 ∙ u.no_opening; no_closing = sym counted.1 ∙ u.no_closing }
 
-  bytes-paired : Paired (0x2068 ∷ []) (0x2069 ∷ []) cs → PairedBytes (enc_scalars cs)
-  bytes-paired p = record {
+  bytes_paired : Paired (0x2068 ∷ []) (0x2069 ∷ []) cs → PairedBytes (enc_scalars cs)
+  bytes_paired p = record {
     prefix = λ n.
         let w : Within n cs = within n cs s in
         let o = opening (take n (enc_scalars cs)) ∙ w.counts 0x28 (omega arith) in
@@ -213,16 +213,16 @@ scalars_paired cs s p = record {
 
 -- The same of a text by its bytes and by its scalars.
 pub unmarked_bytes : (t : Bytes) → UnmarkedScalars t → UnmarkedBytes t
-unmarked_bytes t u = subst UnmarkedBytes (sym u.are.are) (bytes-unmarked u.are.scalars u.are.valid (u.hold u.are))
+unmarked_bytes t u = subst UnmarkedBytes (sym u.are.are) (bytes_unmarked u.are.scalars u.are.valid (u.hold u.are))
 
 pub unmarked_exactly : (t : Bytes) → is_utf8 t ≡ true → UnmarkedBytes t ↔ UnmarkedScalars t
 unmarked_exactly t h = (
-  λ u. record { are = (utf8_exactly t).0 h; hold = λ k. scalars-unmarked k.scalars k.valid (subst UnmarkedBytes k.are u) },
+  λ u. record { are = (utf8_exactly t).0 h; hold = λ k. scalars_unmarked k.scalars k.valid (subst UnmarkedBytes k.are u) },
   unmarked_bytes t,
 )
 
 pub paired_exactly : (t : Bytes) → is_utf8 t ≡ true → PairedBytes t ↔ PairedScalars t
 paired_exactly t h = (
   λ p. record { are = (utf8_exactly t).0 h; hold = λ k. scalars_paired k.scalars k.valid (subst PairedBytes k.are p) },
-  λ p. subst PairedBytes (sym p.are.are) (bytes-paired p.are.scalars p.are.valid (p.hold p.are)),
+  λ p. subst PairedBytes (sym p.are.are) (bytes_paired p.are.scalars p.are.valid (p.hold p.are)),
 )

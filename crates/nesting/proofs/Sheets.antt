@@ -7,7 +7,7 @@ use Rattle.theorems.proofs.Every.{all_both}
 use Rattle.requests.specs.Image.{Request}
 use Rattle.requests.proofs.Exact.{RequestOk, requests_ok}
 use Rattle.sheet_theorems.proofs.Parts.{Finishes, finishes}
-use Rattle.sheet_theorems.proofs.Fine.{FineRequest, sheet-keeps, sheet-text-taken}
+use Rattle.sheet_theorems.proofs.Fine.{FineRequest, sheet_keeps, sheet_text_taken}
 use Rattle.nesting.specs.Marks.{UnmarkedBytes, PairedBytes}
 use Rattle.nesting.specs.Claims.{InLeaf, InArguments, EverySheet}
 use Rattle.nesting.proofs.Balanced.{Balanced, balanced_paired}
@@ -23,5 +23,5 @@ sheets_nest s os us image oi ui b t e k u w h =
     let f : Finishes s image b = finishes s image b t e k u w h in
     let given : All (FineRequest Balanced) f.requests =
     all_both RequestOk (λ (r : Request). InArguments UnmarkedBytes r.image) (FineRequest Balanced) request_balanced f.requests (requests_ok image f.requests oi f.read) (ui f.requests f.requests_end f.read) in
-    let balanced : Balanced f.machine.written = (sheet-keeps Balanced (InLeaf UnmarkedBytes) balanced_keeps s os image b f (us f.store f.store_end f.stored) given).text in
-    subst PairedBytes (sym (sheet-text-taken s image b t e k u w f h)) (balanced_paired _ balanced)
+    let balanced : Balanced f.machine.written = (sheet_keeps Balanced (InLeaf UnmarkedBytes) balanced_keeps s os image b f (us f.store f.store_end f.stored) given).text in
+    subst PairedBytes (sym (sheet_text_taken s image b t e k u w f h)) (balanced_paired _ balanced)

@@ -12,7 +12,7 @@ use Rattle.resolution.specs.Resolve.{fsi, pdi}
 use Rattle.resolution.specs.Format.{finished, Buffers, format}
 use Rattle.resolution.specs.Case.{⟨, ⟩, a_message, put, var, quoted}
 use Rattle.resolution.specs.CutShort.{cut_in_isolates}
-use Rattle.theorems.specs.Leaves.{literal_leaves, named_leaves, leavesOf}
+use Rattle.theorems.specs.Leaves.{literal_leaves, named_leaves, leaves_of}
 use Rattle.requests.specs.Encode.{enc_sheet}
 use Rattle.sheets.specs.Sheet.{format_sheet}
 use Rattle.sheets.specs.Cases.{opened, asks, without, lengths}
@@ -21,7 +21,7 @@ use Rattle.nesting.specs.Claims.{InBundle, InArguments, InSheet}
 
 -- what counting rests on, what stands in a pattern, and all that a formatting and a sheet rest on, open
 unfoldable pub counted : Unit {0}
-unfolding opened fsi pdi begins once count_in literal_leaves named_leaves leavesOf
+unfolding opened fsi pdi begins once count_in literal_leaves named_leaves leaves_of
 counted = tt
 
 -- what is counted, and what is not paired

@@ -60,47 +60,47 @@ set_flags currency grouping o = record { kind = o.kind; style = o.style; currenc
 
 -- what the code sets at each place is the definition's merge
 module _ (s : List ℕ) (o : CodeOptions.Options) where
-  set-kind : set_words (kind_of s) o.style o.currency_display o ≡ shown_options (merge_at 0 s (told_options o))
+  set_kind : set_words (kind_of s) o.style o.currency_display o ≡ shown_options (merge_at 0 s (told_options o))
   unfolding merge_at with_kind
-  set-kind = simp (count_back, text_back)
+  set_kind = simp (count_back, text_back)
 
-  set-style : set_words o.kind (style_of s) o.currency_display o ≡ shown_options (merge_at 1 s (told_options o))
+  set_style : set_words o.kind (style_of s) o.currency_display o ≡ shown_options (merge_at 1 s (told_options o))
   unfolding merge_at with_style
-  set-style = simp (count_back, text_back)
+  set_style = simp (count_back, text_back)
 
-  set-currency : set_flags true o.use_grouping o ≡ shown_options (merge_at 2 s (told_options o))
+  set_currency : set_flags true o.use_grouping o ≡ shown_options (merge_at 2 s (told_options o))
   unfolding merge_at with_currency shown_text
-  set-currency = simp count_back
+  set_currency = simp count_back
 
-  set-display : set_words o.kind o.style (display_of s) o ≡ shown_options (merge_at 3 s (told_options o))
+  set_display : set_words o.kind o.style (display_of s) o ≡ shown_options (merge_at 3 s (told_options o))
   unfolding merge_at with_currency_display
-  set-display = simp (count_back, text_back)
+  set_display = simp (count_back, text_back)
 
-  set-grouping : set_flags o.currency (not (same_bytes s false_word)) o ≡ shown_options (merge_at 4 s (told_options o))
+  set_grouping : set_flags o.currency (not (same_bytes s false_word)) o ≡ shown_options (merge_at 4 s (told_options o))
   unfolding merge_at with_use_grouping
-  set-grouping = simp (count_back, text_back)
+  set_grouping = simp (count_back, text_back)
 
 module _ (name s : List ℕ) (o : CodeOptions.Options) {at : ℕ} (p : at ≡ place_from name [] text_names) where
   at_place : (n : ℕ) → at ≡ n → shown_options (merge_at n s (told_options o)) ≡ shown_options (merge_text name s (told_options o))
   at_place n e = ap (λ (k : ℕ). shown_options (merge_at k s (told_options o))) (sym e ∙ p) ∙ ap (λ (x : Options). shown_options x) (sym (text_place name s (told_options o)))
 
-  pub merge-kind : at ≡ 0 → {k : Kind} → k ≡ kind_of s → {r : CodeOptions.Options} → r ≡ set_words k o.style o.currency_display o → r ≡ shown_options (merge_text name s (told_options o))
-  merge-kind e q w = w ∙ ap (λ (k : Kind). set_words k o.style o.currency_display o) q ∙ set-kind s o ∙ at_place 0 e
+  pub merge_kind : at ≡ 0 → {k : Kind} → k ≡ kind_of s → {r : CodeOptions.Options} → r ≡ set_words k o.style o.currency_display o → r ≡ shown_options (merge_text name s (told_options o))
+  merge_kind e q w = w ∙ ap (λ (k : Kind). set_words k o.style o.currency_display o) q ∙ set_kind s o ∙ at_place 0 e
 
-  pub merge-style : at ≡ 1 → {k : Style} → k ≡ style_of s → {r : CodeOptions.Options} → r ≡ set_words o.kind k o.currency_display o → r ≡ shown_options (merge_text name s (told_options o))
-  merge-style e q w = w ∙ ap (λ (k : Style). set_words o.kind k o.currency_display o) q ∙ set-style s o ∙ at_place 1 e
+  pub merge_style : at ≡ 1 → {k : Style} → k ≡ style_of s → {r : CodeOptions.Options} → r ≡ set_words o.kind k o.currency_display o → r ≡ shown_options (merge_text name s (told_options o))
+  merge_style e q w = w ∙ ap (λ (k : Style). set_words o.kind k o.currency_display o) q ∙ set_style s o ∙ at_place 1 e
 
-  pub merge-currency : at ≡ 2 → set_flags true o.use_grouping o ≡ shown_options (merge_text name s (told_options o))
-  merge-currency e = set-currency s o ∙ at_place 2 e
+  pub merge_currency : at ≡ 2 → set_flags true o.use_grouping o ≡ shown_options (merge_text name s (told_options o))
+  merge_currency e = set_currency s o ∙ at_place 2 e
 
-  pub merge-display : at ≡ 3 → {k : Display} → k ≡ display_of s → {r : CodeOptions.Options} → r ≡ set_words o.kind o.style k o → r ≡ shown_options (merge_text name s (told_options o))
-  merge-display e q w = w ∙ ap (λ (k : Display). set_words o.kind o.style k o) q ∙ set-display s o ∙ at_place 3 e
+  pub merge_display : at ≡ 3 → {k : Display} → k ≡ display_of s → {r : CodeOptions.Options} → r ≡ set_words o.kind o.style k o → r ≡ shown_options (merge_text name s (told_options o))
+  merge_display e q w = w ∙ ap (λ (k : Display). set_words o.kind o.style k o) q ∙ set_display s o ∙ at_place 3 e
 
-  pub merge-grouping : at ≡ 4 → {b : Bool} → b ≡ same_bytes s false_word → set_flags o.currency (not b) o ≡ shown_options (merge_text name s (told_options o))
-  merge-grouping e q = ap (λ (b : Bool). set_flags o.currency (not b) o) q ∙ set-grouping s o ∙ at_place 4 e
+  pub merge_grouping : at ≡ 4 → {b : Bool} → b ≡ same_bytes s false_word → set_flags o.currency (not b) o ≡ shown_options (merge_text name s (told_options o))
+  merge_grouping e q = ap (λ (b : Bool). set_flags o.currency (not b) o) q ∙ set_grouping s o ∙ at_place 4 e
 
-  pub merge-other : (at ≡ 0 → ⊥) → (at ≡ 1 → ⊥) → (at ≡ 2 → ⊥) → (at ≡ 3 → ⊥) → (at ≡ 4 → ⊥) → o ≡ shown_options (merge_text name s (told_options o))
-  merge-other f g h i j = sym (options_back o) ∙ ap (λ (x : Options). shown_options x) (sym (past at s (told_options o) f g h i j)) ∙ at_place at refl
+  pub merge_other : (at ≡ 0 → ⊥) → (at ≡ 1 → ⊥) → (at ≡ 2 → ⊥) → (at ≡ 3 → ⊥) → (at ≡ 4 → ⊥) → o ≡ shown_options (merge_text name s (told_options o))
+  merge_other f g h i j = sym (options_back o) ∙ ap (λ (x : Options). shown_options x) (sym (past at s (told_options o) f g h i j)) ∙ at_place at refl
 
 -- only the name of the fraction's minimum names the second place
 pub named_fraction : (name : List ℕ) → eqb (count_named name) 1 ≡ same_bytes name minimum_fraction_digits_name

@@ -37,18 +37,18 @@ longer l from i a h =
 
 -- a turn of the loop, where n words are past and the present one stands from `from`
 module _ (word l : List ℕ) (n from i : ℕ) {x : ℕ} (a : from ≤ i) (h : i < length l) (inv : n + place_from word (take (i - from) (drop from l)) (drop i l) ≡ x) where
-  pub turn-other : (get_or l i 0 ≡ 44 → ⊥) → n + place_from word (take (i + 1 - from) (drop from l)) (drop (i + 1) l) ≡ x
-  turn-other f =
+  pub turn_other : (get_or l i 0 ≡ 44 → ⊥) → n + place_from word (take (i + 1 - from) (drop from l)) (drop (i + 1) l) ≡ x
+  turn_other f =
       sym (ap (λ (k : ℕ). n + k) (place_other word (take (i - from) (drop from l)) l i h f ∙ ap (λ (w : List ℕ). place_from word w (drop (i + 1) l)) (longer l from i a h))) ∙ inv
 
-  pub turn-comma : get_or l i 0 ≡ 44 → same_bytes word (take (i - from) (drop from l)) ≡ false → n + 1 + place_from word (take (i + 1 - (i + 1)) (drop (i + 1) l)) (drop (i + 1) l) ≡ x
-  turn-comma e d =
+  pub turn_comma : get_or l i 0 ≡ 44 → same_bytes word (take (i - from) (drop from l)) ≡ false → n + 1 + place_from word (take (i + 1 - (i + 1)) (drop (i + 1) l)) (drop (i + 1) l) ≡ x
+  turn_comma e d =
       let z : i + 1 - (i + 1) ≡ 0 = omega arith in
       let s : place_from word (take (i - from) (drop from l)) (drop i l) ≡ suc (place_from word [] (drop (i + 1) l)) = place_comma word (take (i - from) (drop from l)) l i h e ∙ ap (λ (t : Bool). choose t 0 (suc (place_from word [] (drop (i + 1) l)))) d in
       ap (λ (k : ℕ). n + 1 + place_from word (take k (drop (i + 1) l)) (drop (i + 1) l)) z ∙ omega (arith, s, inv)
 
-  pub turn-found : get_or l i 0 ≡ 44 → same_bytes word (take (i - from) (drop from l)) ≡ true → n ≡ x
-  turn-found e d =
+  pub turn_found : get_or l i 0 ≡ 44 → same_bytes word (take (i - from) (drop from l)) ≡ true → n ≡ x
+  turn_found e d =
       let s : place_from word (take (i - from) (drop from l)) (drop i l) ≡ 0 = place_comma word (take (i - from) (drop from l)) l i h e ∙ ap (λ (t : Bool). choose t 0 (suc (place_from word [] (drop (i + 1) l)))) d in
       omega (arith, s, inv)
 

@@ -21,23 +21,23 @@ module _ (a b : List ℕ) (i : ℕ) where
   unfolding before
   before_more h k = rw (drop-cons a i 0 h, drop-cons b i 0 k, add-one)
 
-  before-shorter : length a ≤ i → i < length b → before (drop i a) (drop i b) ≡ true
+  before_shorter : length a ≤ i → i < length b → before (drop i a) (drop i b) ≡ true
   unfolding before
-  before-shorter h k = rw (drop_of_length-le a h, drop-cons b i 0 k)
+  before_shorter h k = rw (drop_of_length-le a h, drop-cons b i 0 k)
 
-  before-ended : length b ≤ i → before (drop i a) (drop i b) ≡ false
+  before_ended : length b ≤ i → before (drop i a) (drop i b) ≡ false
   unfolding before
-  before-ended k = rw (drop_of_length-le b k)
+  before_ended k = rw (drop_of_length-le b k)
 
   module _ (h : i < length a) (k : i < length b) where
-    before-less : get_or a i 0 < get_or b i 0 → before (drop i a) (drop i b) ≡ true
-    before-less l = before_more h k ∙ rw (lt-ltb (get_or a i 0) (get_or b i 0) l)
+    before_less : get_or a i 0 < get_or b i 0 → before (drop i a) (drop i b) ≡ true
+    before_less l = before_more h k ∙ rw (lt-ltb (get_or a i 0) (get_or b i 0) l)
 
-    before-greater : get_or b i 0 < get_or a i 0 → before (drop i a) (drop i b) ≡ false
-    before-greater l = before_more h k ∙ rw (le-ltb (get_or a i 0) (get_or b i 0) (omega arith), ne_eqb (get_or a i 0) (get_or b i 0) (λ e. omega arith))
+    before_greater : get_or b i 0 < get_or a i 0 → before (drop i a) (drop i b) ≡ false
+    before_greater l = before_more h k ∙ rw (le-ltb (get_or a i 0) (get_or b i 0) (omega arith), ne_eqb (get_or a i 0) (get_or b i 0) (λ e. omega arith))
 
-    before-equal : get_or a i 0 ≡ get_or b i 0 → before (drop i a) (drop i b) ≡ before (drop (i + 1) a) (drop (i + 1) b)
-    before-equal e = before_more h k ∙ rw (le-ltb (get_or a i 0) (get_or b i 0) (omega arith), eq-eqb (get_or a i 0) (get_or b i 0) e)
+    before_equal : get_or a i 0 ≡ get_or b i 0 → before (drop i a) (drop i b) ≡ before (drop (i + 1) a) (drop (i + 1) b)
+    before_equal e = before_more h k ∙ rw (le-ltb (get_or a i 0) (get_or b i 0) (omega arith), eq-eqb (get_or a i 0) (get_or b i 0) e)
 
 -- the order is that of what is left
 pub record Left (a b : List ℕ) (i : ℕ) : Type 0 where
@@ -54,48 +54,48 @@ unfolding order_of
 order_by a b t u h k = rw (h, k)
 
 module _ {a b : List ℕ} {i : ℕ} (inv : Left a b i) where
-  pub left-longer : i < length a → length b ≤ i → order.Greater ≡ order_of a b
+  pub left_longer : i < length a → length b ≤ i → order.Greater ≡ order_of a b
   unfolding order_if
-  left-longer h k = order_by a b false true (sym inv.forth ∙ before-ended a b i k) (sym inv.back ∙ before-shorter b a i k h)
+  left_longer h k = order_by a b false true (sym inv.forth ∙ before_ended a b i k) (sym inv.back ∙ before_shorter b a i k h)
 
-  pub left-shorter : length a ≤ i → i < length b → order.Less ≡ order_of a b
+  pub left_shorter : length a ≤ i → i < length b → order.Less ≡ order_of a b
   unfolding order_if
-  left-shorter h k = order_by a b true _ (sym inv.forth ∙ before-shorter a b i h k) refl
+  left_shorter h k = order_by a b true _ (sym inv.forth ∙ before_shorter a b i h k) refl
 
-  pub left-ends : length a ≤ i → length b ≤ i → order.Same ≡ order_of a b
+  pub left_ends : length a ≤ i → length b ≤ i → order.Same ≡ order_of a b
   unfolding order_if
-  left-ends h k = order_by a b false false (sym inv.forth ∙ before-ended a b i k) (sym inv.back ∙ before-ended b a i h)
+  left_ends h k = order_by a b false false (sym inv.forth ∙ before_ended a b i k) (sym inv.back ∙ before_ended b a i h)
 
   module _ (h : i < length a) (k : i < length b) where
     pub left_less : get_or a i 0 < get_or b i 0 → order.Less ≡ order_of a b
     unfolding order_if
-    left_less l = order_by a b true _ (sym inv.forth ∙ before-less a b i h k l) refl
+    left_less l = order_by a b true _ (sym inv.forth ∙ before_less a b i h k l) refl
 
-    pub left-greater : get_or b i 0 < get_or a i 0 → order.Greater ≡ order_of a b
+    pub left_greater : get_or b i 0 < get_or a i 0 → order.Greater ≡ order_of a b
     unfolding order_if
-    left-greater l = order_by a b false true (sym inv.forth ∙ before-greater a b i h k l) (sym inv.back ∙ before-less b a i k h l)
+    left_greater l = order_by a b false true (sym inv.forth ∙ before_greater a b i h k l) (sym inv.back ∙ before_less b a i k h l)
 
-    pub left-turn : get_or b i 0 ≤ get_or a i 0 → get_or a i 0 ≤ get_or b i 0 → Left a b (i + 1)
-    left-turn l m = record {
+    pub left_turn : get_or b i 0 ≤ get_or a i 0 → get_or a i 0 ≤ get_or b i 0 → Left a b (i + 1)
+    left_turn l m = record {
       first = omega arith;
       second = omega arith;
-      forth = sym (before-equal a b i h k (omega arith)) ∙ inv.forth;
-      back = sym (before-equal b a i k h (omega arith)) ∙ inv.back;
+      forth = sym (before_equal a b i h k (omega arith)) ∙ inv.forth;
+      back = sym (before_equal b a i k h (omega arith)) ∙ inv.back;
     }
 
 -- the answer less, and the others
 module _ (a b : List ℕ) where
-  less-before : order.Less ≡ order_of a b → before a b ≡ true
+  less_before : order.Less ≡ order_of a b → before a b ≡ true
   unfolding order_of order_if
-  less-before h = go (before a b) (before b a) h
+  less_before h = go (before a b) (before b a) h
     where
       go : (t u : Bool) → order.Less ≡ order_if t u → t ≡ true
       go true u e = refl
       go false true e = cc
       go false false e = cc
 
-  pub order-less : {o : Order} → o ≡ order_of a b → o ≡ order.Less → true ≡ before a b
-  order-less e h = sym (less-before (sym h ∙ e))
+  pub order_less : {o : Order} → o ≡ order_of a b → o ≡ order.Less → true ≡ before a b
+  order_less e h = sym (less_before (sym h ∙ e))
 
   pub order_not : {o : Order} → o ≡ order_of a b → (o ≡ order.Less → ⊥) → false ≡ before a b
   unfolding order_of order_if

@@ -43,10 +43,10 @@ sorted (a ∷ l) = placed (least_named a) (sorted l)
 module _ (a : List ℕ × Argument) (P : List (List ℕ × Argument) → List (List ℕ × Argument) → Type 0)
     (now : (l : List (List ℕ × Argument)) → P l (a ∷ l))
     (later : (b : List ℕ × Argument) (l k : List (List ℕ × Argument)) → P l k → P (b ∷ l) (b ∷ k)) where
-  placed-any : (l : List (List ℕ × Argument)) → P l (placed a l)
+  placed_any : (l : List (List ℕ × Argument)) → P l (placed a l)
   unfolding placed choice
-  placed-any [] = now []
-  placed-any (b ∷ l) = go (before a.0 b.0) (placed-any l)
+  placed_any [] = now []
+  placed_any (b ∷ l) = go (before a.0 b.0) (placed_any l)
     where
       go : (t : Bool) → P l (placed a l) → P (b ∷ l) (choice t (a ∷ b ∷ l) (b ∷ placed a l))
       go true h = now (b ∷ l)
@@ -54,20 +54,20 @@ module _ (a : List ℕ × Argument) (P : List (List ℕ × Argument) → List (L
 
 module _ (a : List ℕ × Argument) where
   -- the placed one is among them
-  placed-in : (l : List (List ℕ × Argument)) → In a (placed a l)
-  placed-in = placed-any a (λ l k. In a k) (λ l. here) (λ b l k h. there h)
+  placed_in : (l : List (List ℕ × Argument)) → In a (placed a l)
+  placed_in = placed_any a (λ l k. In a k) (λ l. here) (λ b l k h. there h)
 
   -- and so are the others
-  placed-keeps : (c : List ℕ × Argument) (l : List (List ℕ × Argument)) → In c l → In c (placed a l)
-  placed-keeps c = placed-any a (λ l k. In c l → In c k) (λ l i. there i) (λ b l k h i. go b l k h (in_cases i))
+  placed_keeps : (c : List ℕ × Argument) (l : List (List ℕ × Argument)) → In c l → In c (placed a l)
+  placed_keeps c = placed_any a (λ l k. In c l → In c k) (λ l i. there i) (λ b l k h i. go b l k h (in_cases i))
     where
       go : (b : List ℕ × Argument) (l k : List (List ℕ × Argument)) → (In c l → In c k) → (c ≡ b) ⊎ In c l → In c (b ∷ k)
       go b l k h (inl e) = rw e here
       go b l k h (inr i) = there (h i)
 
   -- and nothing else
-  placed-only : (c : List ℕ × Argument) (l : List (List ℕ × Argument)) → In c (placed a l) → (c ≡ a) ⊎ In c l
-  placed-only c = placed-any a (λ l k. In c k → (c ≡ a) ⊎ In c l) (λ l i. in_cases i) (λ b l k h i. go b l k h (in_cases i))
+  placed_only : (c : List ℕ × Argument) (l : List (List ℕ × Argument)) → In c (placed a l) → (c ≡ a) ⊎ In c l
+  placed_only c = placed_any a (λ l k. In c k → (c ≡ a) ⊎ In c l) (λ l i. in_cases i) (λ b l k h i. go b l k h (in_cases i))
     where
       kept : (b : List ℕ × Argument) (l : List (List ℕ × Argument)) → (c ≡ a) ⊎ In c l → (c ≡ a) ⊎ In c (b ∷ l)
       kept b l (inl e) = inl e
@@ -78,21 +78,21 @@ module _ (a : List ℕ × Argument) where
       go b l k h (inr i) = kept b l (h i)
 
   -- all are valid
-  placed-valid : ValidNamedArgument a → (l : List (List ℕ × Argument)) → All ValidNamedArgument l → All ValidNamedArgument (placed a l)
-  placed-valid v = placed-any a (λ l k. All ValidNamedArgument l → All ValidNamedArgument k) (λ l h. (v, h)) (λ b l k h g. (g.0, h g.1))
+  placed_valid : ValidNamedArgument a → (l : List (List ℕ × Argument)) → All ValidNamedArgument l → All ValidNamedArgument (placed a l)
+  placed_valid v = placed_any a (λ l k. All ValidNamedArgument l → All ValidNamedArgument k) (λ l h. (v, h)) (λ b l k h g. (g.0, h g.1))
 
   -- all are least
-  placed-least : is_least a.1 ≡ true → (l : List (List ℕ × Argument)) → all_least l ≡ true → all_least (placed a l) ≡ true
+  placed_least : is_least a.1 ≡ true → (l : List (List ℕ × Argument)) → all_least l ≡ true → all_least (placed a l) ≡ true
   unfolding all_least
-  placed-least v =
-      placed-any a (λ l k. all_least l ≡ true → all_least k ≡ true) (λ l h. rw (v, h))
+  placed_least v =
+      placed_any a (λ l k. all_least l ≡ true → all_least k ≡ true) (λ l h. rw (v, h))
       (λ b l k h g. let q = and_true (is_least b.1) (all_least l) g in rw (q.0, h q.1))
 
   -- their bytes are as many as before and those of the placed one
-  placed-bytes : (l : List (List ℕ × Argument)) → length (enc_all enc_named_argument (placed a l)) ≡ length (enc_named_argument a) + length (enc_all enc_named_argument l)
+  placed_bytes : (l : List (List ℕ × Argument)) → length (enc_all enc_named_argument (placed a l)) ≡ length (enc_named_argument a) + length (enc_all enc_named_argument l)
   unfolding enc_all
-  placed-bytes =
-      placed-any a (λ l k. length (enc_all enc_named_argument k) ≡ length (enc_named_argument a) + length (enc_all enc_named_argument l))
+  placed_bytes =
+      placed_any a (λ l k. length (enc_all enc_named_argument k) ≡ length (enc_named_argument a) + length (enc_all enc_named_argument l))
       (λ l. length-append (enc_named_argument a) (enc_all enc_named_argument l))
       (λ b l k h.
       let p = length-append (enc_named_argument b) (enc_all enc_named_argument k) in
@@ -141,14 +141,14 @@ placed_ascending a (b ∷ l) d h =
 -- each value is there in its least form
 pub sorted_has : (n : List ℕ) (v : Argument) {l : List (List ℕ × Argument)} → In (n, v) l → In (n, least_of v) (sorted l)
 unfolding sorted least_named
-sorted_has n v (here {l = l}) = placed-in (n, least_of v) (sorted l)
-sorted_has n v (there {b = b} {l = l} i) = placed-keeps (least_named b) (n, least_of v) (sorted l) (sorted_has n v i)
+sorted_has n v (here {l = l}) = placed_in (n, least_of v) (sorted l)
+sorted_has n v (there {b = b} {l = l} i) = placed_keeps (least_named b) (n, least_of v) (sorted l) (sorted_has n v i)
 
 -- and nothing else is
 pub sorted_only : (n : List ℕ) (w : Argument) (l : List (List ℕ × Argument)) → In (n, w) (sorted l) → (v : Argument) × In (n, v) l × (w ≡ least_of v)
 unfolding sorted least_named
 sorted_only n w [] i = absurd (in_none i)
-sorted_only n w (a ∷ l) i = go (placed-only (least_named a) (n, w) (sorted l) i) (sorted_only n w l)
+sorted_only n w (a ∷ l) i = go (placed_only (least_named a) (n, w) (sorted l) i) (sorted_only n w l)
   where
     later : (v : Argument) × In (n, v) l × (w ≡ least_of v) → (v : Argument) × In (n, v) (a ∷ l) × (w ≡ least_of v)
     later r = (r.0, there r.1, r.2)
@@ -174,7 +174,7 @@ pub sorted_bytes : (l : List (List ℕ × Argument)) → length (enc_all enc_nam
 unfolding sorted enc_all
 sorted_bytes [] = refl
 sorted_bytes (a ∷ l) =
-    let p = placed-bytes (least_named a) (sorted l) in
+    let p = placed_bytes (least_named a) (sorted l) in
     let q = length-append (enc_named_argument a) (enc_all enc_named_argument l) in
     omega (arith, p, q, named_bytes a, sorted_bytes l)
 
@@ -182,7 +182,7 @@ sorted_bytes (a ∷ l) =
 pub sorted_valid : (l : List (List ℕ × Argument)) → All ValidNamedArgument l → All ValidNamedArgument (sorted l)
 unfolding sorted least_named ValidNamedArgument
 sorted_valid [] h = tt
-sorted_valid (a ∷ l) h = placed-valid (least_named a) (h.0.0, least_valid a.1 h.0.1) (sorted l) (sorted_valid l h.1)
+sorted_valid (a ∷ l) h = placed_valid (least_named a) (h.0.0, least_valid a.1 h.0.1) (sorted l) (sorted_valid l h.1)
 
 -- their names ascend where none stands twice
 sorted_ascending : (l : List (List ℕ × Argument)) → Once l → ascending (sorted l) ≡ true
@@ -195,7 +195,7 @@ sorted_ascending (a ∷ l) h =
 sorted_least : (l : List (List ℕ × Argument)) → all_least (sorted l) ≡ true
 unfolding sorted least_named all_least
 sorted_least [] = refl
-sorted_least (a ∷ l) = placed-least (least_named a) (least_least a.1) (sorted l) (sorted_least l)
+sorted_least (a ∷ l) = placed_least (least_named a) (least_least a.1) (sorted l) (sorted_least l)
 
 -- they are in order
 pub sorted_in_order : (l : List (List ℕ × Argument)) → Once l → in_order (sorted l) ≡ true

@@ -4,7 +4,7 @@
 ghost use Rattle.std.specs.Prelude.{◌≡◌};
 ghost use Rattle.records.specs.Relations.Answer.{next_of};
 ghost use Rattle.records.specs.Tree.{no_variant, or};
-ghost use Rattle.records.specs.Decode.{many, elementAt, elementsAt, patternAt, variant_at, inlinesAt, arguments_at, termAt, selectAt, inlineBody, expression, inline};
+ghost use Rattle.records.specs.Decode.{many, element_at, elements_at, pattern_at, variant_at, inlines_at, arguments_at, term_reference_at, select_at, inline_body, expression, inline};
 
 use records::{
     Next, Num, Rule, check_flag, check_id, check_key, check_named_arguments, check_optional_id,
@@ -18,7 +18,7 @@ use records::{
 // pairwise (check_named_arguments).
 #[cycle(check_arguments_check_body_check_element_check_elements_check_expression_check_inline_check_inlines_check_pattern_check_select_check_term_check_variant_check_variants)]
 pub fn check_pattern(s: &[u8], at: usize, depth: usize) -> Next
-    ensures { result ≡ next_of (patternAt (expression depth) s.now at) }
+    ensures { result ≡ next_of (pattern_at (expression depth) s.now at) }
 {
     let Num::At(n, p) = read_u32(s, at) else {
         return Next::Bad;
@@ -42,7 +42,7 @@ pub fn check_pattern(s: &[u8], at: usize, depth: usize) -> Next
 // `count` elements of a pattern.
 #[cycle(check_arguments_check_body_check_element_check_elements_check_expression_check_inline_check_inlines_check_pattern_check_select_check_term_check_variant_check_variants)]
 fn check_elements(s: &[u8], from: usize, count: usize, depth: usize) -> Next
-    ensures { result ≡ next_of (elementsAt (expression depth) count s.now from) }
+    ensures { result ≡ next_of (elements_at (expression depth) count s.now from) }
 {
     let mut at = from;
     let mut left = count;
@@ -58,7 +58,7 @@ fn check_elements(s: &[u8], from: usize, count: usize, depth: usize) -> Next
 
 #[cycle(check_arguments_check_body_check_element_check_elements_check_expression_check_inline_check_inlines_check_pattern_check_select_check_term_check_variant_check_variants)]
 fn check_element(s: &[u8], at: usize, depth: usize) -> Next
-    ensures { result ≡ next_of (elementAt (expression depth) s.now at) }
+    ensures { result ≡ next_of (element_at (expression depth) s.now at) }
 {
     let Num::At(tag, e) = read_byte(s, at) else {
         return Next::Bad;
@@ -105,7 +105,7 @@ pub(crate) fn check_inline(s: &[u8], at: usize, depth: usize) -> Next
 // What follows the tag of an inline expression. `depth` is what is left below it.
 #[cycle(check_arguments_check_body_check_element_check_elements_check_expression_check_inline_check_inlines_check_pattern_check_select_check_term_check_variant_check_variants)]
 fn check_body(s: &[u8], at: usize, tag: usize, depth: usize) -> Next
-    ensures { result ≡ next_of (inlineBody (expression depth) (inline depth) tag s.now at) }
+    ensures { result ≡ next_of (inline_body (expression depth) (inline depth) tag s.now at) }
 {
     if tag == 1 {
         return check_ruled(s, at, Rule::String);
@@ -140,7 +140,7 @@ fn check_body(s: &[u8], at: usize, tag: usize, depth: usize) -> Next
 // What follows the tag of a term reference.
 #[cycle(check_arguments_check_body_check_element_check_elements_check_expression_check_inline_check_inlines_check_pattern_check_select_check_term_check_variant_check_variants)]
 fn check_term(s: &[u8], at: usize, depth: usize) -> Next
-    ensures { result ≡ next_of (termAt (inline depth) s.now at) }
+    ensures { result ≡ next_of (term_reference_at (inline depth) s.now at) }
 {
     let Next::At(p) = check_id(s, at) else {
         return Next::Bad;
@@ -180,7 +180,7 @@ fn check_arguments(s: &[u8], at: usize, depth: usize) -> Next
 // `count` inline expressions.
 #[cycle(check_arguments_check_body_check_element_check_elements_check_expression_check_inline_check_inlines_check_pattern_check_select_check_term_check_variant_check_variants)]
 fn check_inlines(s: &[u8], from: usize, count: usize, depth: usize) -> Next
-    ensures { result ≡ next_of (inlinesAt (inline depth) count s.now from) }
+    ensures { result ≡ next_of (inlines_at (inline depth) count s.now from) }
 {
     let mut at = from;
     let mut left = count;
@@ -197,7 +197,7 @@ fn check_inlines(s: &[u8], from: usize, count: usize, depth: usize) -> Next
 // What follows the tag of a select expression.
 #[cycle(check_arguments_check_body_check_element_check_elements_check_expression_check_inline_check_inlines_check_pattern_check_select_check_term_check_variant_check_variants)]
 fn check_select(s: &[u8], at: usize, depth: usize) -> Next
-    ensures { result ≡ next_of (selectAt (expression depth) (inline depth) s.now at) }
+    ensures { result ≡ next_of (select_at (expression depth) (inline depth) s.now at) }
 {
     let Next::At(p) = check_inline(s, at, depth) else {
         return Next::Bad;

@@ -30,17 +30,17 @@ larger : (s m : ℕ) → (s ≡ 0 → ⊥) → max s m ≡ 0 → ⊥
 larger s m h e = h (omega arith)
 
 module _ (n : Number) {p s : ℕ} (e : shortest n.digits n.scale ≡ (p, s)) {o : CodeSeen.Seen} where
-  pub shows-whole : s ≡ 0 → o.i ≡ p / 10 ^ s → o.no_digits ≡ eqb (or_zero n.options.minimum_fraction_digits) 0 → o.no_fraction ≡ true → Shows (operands n) o
+  pub shows_whole : s ≡ 0 → o.i ≡ p / 10 ^ s → o.no_digits ≡ eqb (or_zero n.options.minimum_fraction_digits) 0 → o.no_fraction ≡ true → Shows (operands n) o
   unfolding operands operands_of
-  shows-whole z i v t =
+  shows_whole z i v t =
       let m : ℕ = or_zero n.options.minimum_fraction_digits in
       let w : max s m ≡ m = omega (arith, z) in
       let x : p % 10 ^ s ≡ 0 = rw z (mod-one p) in
       rw (e, operands) (record { i = i; v = v ∙ sym (ap (λ (k : ℕ). eqb k 0) w); t = t ∙ sym (eq-eqb (p % 10 ^ s) 0 x) })
 
-  pub shows-part : (s ≡ 0 → ⊥) → o.i ≡ p / 10 ^ s → o.no_digits ≡ false → o.no_fraction ≡ false → Shows (operands n) o
+  pub shows_part : (s ≡ 0 → ⊥) → o.i ≡ p / 10 ^ s → o.no_digits ≡ false → o.no_fraction ≡ false → Shows (operands n) o
   unfolding operands operands_of
-  shows-part z i v t =
+  shows_part z i v t =
       let m : ℕ = or_zero n.options.minimum_fraction_digits in
       let f : 0 < s → p % 10 ≡ 0 → ⊥ = rw e at (shortest_trim n.digits n.scale) in
       let g : p % 10 ^ s ≡ 0 → ⊥ = λ x. f (omega (arith, z)) (ends_zero p s z x) in

@@ -10,17 +10,17 @@ use Rattle.categories.proofs.Entries.{read_inside}
 use Rattle.decimals.specs.declared.types.Kind.{Kind}
 use Rattle.plural.specs.Plural.{whole_operands, rule_of}
 use Rattle.plural.specs.Table.{line, rule_set, digit_of, in_digits, table, joined, printed}
-use Rattle.plural.proofs.Table.{digits-line, digits_length, digits-at, digits_long, eight}
+use Rattle.plural.proofs.Table.{digits_line, digits_length, digits_at, digits_long, eight}
 
 -- a line with its line feed, and what stands behind it
 module _ (l rest : List ℕ) (w : ℕ) (n : length l ≡ w) where
-  line-here : (k : ℕ) → k ≤ w → get_or (l ++ (10 ∷ rest)) k 0 ≡ get_or (l ++ (10 ∷ [])) k 0
-  line-here k h =
+  line_here : (k : ℕ) → k ≤ w → get_or (l ++ (10 ∷ rest)) k 0 ≡ get_or (l ++ (10 ∷ [])) k 0
+  line_here k h =
       let long : length (l ++ (10 ∷ [])) ≡ suc w = length-append l (10 ∷ []) ∙ omega (arith, n) in
       ap (λ (x : List ℕ). get_or x k 0) (sym (append_assoc l (10 ∷ []) rest)) ∙ get_or-append (l ++ (10 ∷ [])) rest 0 k (omega (arith, long))
 
-  line-past : (j : ℕ) → get_or (l ++ (10 ∷ rest)) (suc w + j) 0 ≡ get_or rest j 0
-  line-past j =
+  line_past : (j : ℕ) → get_or (l ++ (10 ∷ rest)) (suc w + j) 0 ≡ get_or rest j 0
+  line_past j =
       let at : suc w + j ≡ length l + suc j = omega (arith, n) in
       ap (λ (k : ℕ). get_or (l ++ (10 ∷ rest)) k 0) at ∙ get_or-append-add l (10 ∷ rest) (suc j) 0
 
@@ -35,10 +35,10 @@ next_line r w k = let e : suc r * suc w ≡ r * suc w + suc w = suc-mul r (suc w
 joined_at : (w : ℕ) (ls : List (List ℕ)) → ((r : ℕ) → r < length ls → length (get_or ls r []) ≡ w) → (r k : ℕ) → r < length ls → k ≤ w → get_or (joined ls) (r * suc w + k) 0 ≡ get_or (get_or ls r [] ++ (10 ∷ [])) k 0
 unfolding joined
 joined_at w [] n r k h b = absurd (not-suc-le-zero h)
-joined_at w (l ∷ ls) n zero k h b = ap (λ (j : ℕ). get_or (l ++ (10 ∷ joined ls)) j 0) (first_line w k) ∙ line-here l (joined ls) w (n 0 h) k b
+joined_at w (l ∷ ls) n zero k h b = ap (λ (j : ℕ). get_or (l ++ (10 ∷ joined ls)) j 0) (first_line w k) ∙ line_here l (joined ls) w (n 0 h) k b
 joined_at w (l ∷ ls) n (suc r) k h b =
     ap (λ (j : ℕ). get_or (l ++ (10 ∷ joined ls)) j 0) (next_line r w k)
-    ∙ line-past l (joined ls) w (n 0 (omega arith)) (r * suc w + k)
+    ∙ line_past l (joined ls) w (n 0 (omega arith)) (r * suc w + k)
     ∙ joined_at w ls (λ (j : ℕ) (m : j < length ls). n (suc j) (omega arith)) r k (le_of_suc-le-suc h) b
 
 printed_line : (r k : ℕ) → r < 8 → k ≤ 200 → get_or printed (r * 201 + k) 0 ≡ get_or (get_or (in_digits table) r [] ++ (10 ∷ [])) k 0
@@ -62,6 +62,6 @@ printed_end r h =
 pub line_digit : (k : Kind) (locale n : ℕ) {r : ℕ} → r ≡ rule_set k locale → locale < 4 → n < 200 → get_or (get_or (in_digits table) r []) n 0 ≡ digit_of (rule_of k locale (whole_operands n))
 line_digit k locale n e h b =
     ap (λ (j : ℕ). get_or (get_or (in_digits table) j []) n 0) e
-    ∙ ap (λ (l : List ℕ). get_or l n 0) (digits-line k locale h)
+    ∙ ap (λ (l : List ℕ). get_or l n 0) (digits_line k locale h)
     ∙ read_inside (map digit_of (line k locale)) n 0 53 (omega (arith, digits_length k locale))
-    ∙ digits-at k locale n b
+    ∙ digits_at k locale n b

@@ -80,17 +80,17 @@ kind_bound Ordinal = omega arith
 
 -- a line in digits, its length and what stands at a place of it
 module _ (k : Kind) (locale : ℕ) where
-  pub digits-line : locale < 4 → get_or (in_digits table) (rule_set k locale) [] ≡ map digit_of (line k locale)
+  pub digits_line : locale < 4 → get_or (in_digits table) (rule_set k locale) [] ≡ map digit_of (line k locale)
   unfolding in_digits table rule_set
-  digits-line h = get_or-map (λ (x : List ℕ). map digit_of x) table (locale * 2 + kind_number k) [] ∙ ap (λ (x : List ℕ). map digit_of x) (lines_at k 0 4 locale h ∙ ap (line k) (zero-add locale))
+  digits_line h = get_or-map (λ (x : List ℕ). map digit_of x) table (locale * 2 + kind_number k) [] ∙ ap (λ (x : List ℕ). map digit_of x) (lines_at k 0 4 locale h ∙ ap (line k) (zero-add locale))
 
   pub digits_length : length (map digit_of (line k locale)) ≡ 200
   unfolding line
   digits_length = length-map (line k locale) digit_of ∙ categories_length k locale 0 200
 
-  pub digits-at : (n : ℕ) → n < 200 → get_or (map digit_of (line k locale)) n 53 ≡ digit_of (rule_of k locale (whole_operands n))
+  pub digits_at : (n : ℕ) → n < 200 → get_or (map digit_of (line k locale)) n 53 ≡ digit_of (rule_of k locale (whole_operands n))
   unfolding line digit_of
-  digits-at n h = get_or-map digit_of (line k locale) n 5 ∙ ap digit_of (categories_at k locale 0 200 n 5 h ∙ ap (λ (j : ℕ). rule_of k locale (whole_operands j)) (zero-add n))
+  digits_at n h = get_or-map digit_of (line k locale) n 5 ∙ ap digit_of (categories_at k locale 0 200 n 5 h ∙ ap (λ (j : ℕ). rule_of k locale (whole_operands j)) (zero-add n))
 
 -- the table has eight lines, all of 200
 pub eight : length (in_digits table) ≡ 8
@@ -124,8 +124,8 @@ whole k locale n = go (ltb locale 4) refl
     go : (t : Bool) → ltb locale 4 ≡ t → held_digit (rule_set k locale) n ≡ digit_of (rule_of k locale (whole_operands n))
     go true e =
         ap (λ (t : List (List ℕ)). get_or (get_or t (rule_set k locale) []) (entry_of n) 53) fact
-        ∙ ap (λ (l : List ℕ). get_or l (entry_of n) 53) (digits-line k locale (ltb-true locale 4 e))
-        ∙ digits-at k locale (entry_of n) (entry_bound n)
+        ∙ ap (λ (l : List ℕ). get_or l (entry_of n) 53) (digits_line k locale (ltb-true locale 4 e))
+        ∙ digits_at k locale (entry_of n) (entry_bound n)
         ∙ ap digit_of (same_entry k locale n)
     go false e =
         let h : 4 ≤ locale = ltb-false locale 4 e in

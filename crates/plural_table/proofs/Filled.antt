@@ -22,5 +22,5 @@ module _ {p l : List ℕ} {n at : ℕ} (f : Filled p n l at) where
       go k m true t = let i : k ≡ at = eqb-true k at t in rw i (get_or-set_same l at b 0 (omega (arith, f.long)) ∙ e)
       go k m false t = let i : (k ≡ at → ⊥) = eqb-false k at t in get_or-set_other l at k b 0 i ∙ f.same k (omega arith)
 
-  pub filled-all : length p ≡ n → n ≤ at → l ≡ p
-  filled-all s h = ext_get_or 0 l p (f.long ∙ sym s) (λ (k : ℕ) (m : k < length l). f.same k (omega (arith, f.long)))
+  pub filled_all : length p ≡ n → n ≤ at → l ≡ p
+  filled_all s h = ext_get_or 0 l p (f.long ∙ sym s) (λ (k : ℕ) (m : k < length l). f.same k (omega (arith, f.long)))

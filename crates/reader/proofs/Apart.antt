@@ -182,12 +182,12 @@ module _ (R : RattleType) (ty : Ty) (f : List ℕ → ℕ → R.Denot) where
   module _ {M : Type 1} {𝓤 : Ura M} (𝓛 : Logic 𝓤) (typed : (r : R.Denot) (u : Val) → Is R r (u ∷ []) → Holds (has_ty ty u) × WT u) (k : Name) where
     open 𝓛 use {H}
 
-    apart-walks : (C : Calls 𝓤 H) (Λ : Loops 𝓤 H) → FmC 𝓤 H 𝓛.laws C → Triple 𝓤 (C k) (Callee 𝓛) → Walks 𝓛 caller stayed (WpFn 𝓤 H C Λ (apart k)) (answered 𝓤)
-    apart-walks C Λ fm known = walked 𝓛 caller stayed (answered 𝓤) (WpFn 𝓤 H C Λ (apart k)) (λ κs. (LL.vals (T.the_type (named_lft 1 0 tt κs)) (T'.the_laws (named_lft 1 0 tt κs)), tt)) (λ κs. (LL.tells (T.the_type (named_lft 1 0 tt κs)) (T'.the_laws (named_lft 1 0 tt κs)), tt))
+    apart_walks : (C : Calls 𝓤 H) (Λ : Loops 𝓤 H) → FmC 𝓤 H 𝓛.laws C → Triple 𝓤 (C k) (Callee 𝓛) → Walks 𝓛 caller stayed (WpFn 𝓤 H C Λ (apart k)) (answered 𝓤)
+    apart_walks C Λ fm known = walked 𝓛 caller stayed (answered 𝓤) (WpFn 𝓤 H C Λ (apart k)) (λ κs. (LL.vals (T.the_type (named_lft 1 0 tt κs)) (T'.the_laws (named_lft 1 0 tt κs)), tt)) (λ κs. (LL.tells (T.the_type (named_lft 1 0 tt κs)) (T'.the_laws (named_lft 1 0 tt κs)), tt))
         (λ κs qs bounds a g are. via 𝓤 _ (fst∗ 𝓤 _ (emp 𝓤)) (walk 𝓛 κs.0 qs.0 a.0 C Λ fm k known typed ((LL.lawful (T.the_type (named_lft 1 0 tt κs)) (T'.the_laws (named_lft 1 0 tt κs)) 𝓛).typed a.0 _ are.0).0))
 
-    pub apart-meets : (𝓣 : Tables 𝓤 H) → Triple 𝓤 (𝓣.C k) (Callee 𝓛) → Meets 𝓛 caller.signature (WpFn 𝓤 H 𝓣.C 𝓣.Λ (apart k)) (closing 𝓛 caller (answered 𝓤))
-    apart-meets 𝓣 known = walk_Meets 𝓛 caller stayed (Goes-none 𝓛 1 B yes (λ κs x g. refl), tt) (answered 𝓤) (WpFn 𝓤 H 𝓣.C 𝓣.Λ (apart k)) (WpFn-mono 𝓤 H 𝓛.laws 𝓣 (apart k)) (apart-walks 𝓣.C 𝓣.Λ (fm_of 𝓤 H 𝓛.laws 𝓣) known)
+    pub apart_meets : (𝓣 : Tables 𝓤 H) → Triple 𝓤 (𝓣.C k) (Callee 𝓛) → Meets 𝓛 caller.signature (WpFn 𝓤 H 𝓣.C 𝓣.Λ (apart k)) (closing 𝓛 caller (answered 𝓤))
+    apart_meets 𝓣 known = walk_Meets 𝓛 caller stayed (Goes-none 𝓛 1 B yes (λ κs x g. refl), tt) (answered 𝓤) (WpFn 𝓤 H 𝓣.C 𝓣.Λ (apart k)) (WpFn-mono 𝓤 H 𝓛.laws 𝓣 (apart k)) (apart_walks 𝓣.C 𝓣.Λ (fm_of 𝓤 H 𝓛.laws 𝓣) known)
 
 -- ---- the same where the callee answers a number and the position past it, as the functions of `records` that read do
 module _ (p : Parser ℕ) where
@@ -200,6 +200,6 @@ module _ (p : Parser ℕ) where
     abbrev pub Reads : Contract 𝓤
     Reads = Callee N.the_row N'.mir num_at 𝓛
 
-    pub reads-meets : (k : Name) (𝓣 : Tables 𝓤 H) → Triple 𝓤 (𝓣.C k) Reads
+    pub reads_meets : (k : Name) (𝓣 : Tables 𝓤 H) → Triple 𝓤 (𝓣.C k) Reads
         → Meets 𝓛 (caller N.the_row N'.mir num_at).signature (WpFn 𝓤 H 𝓣.C 𝓣.Λ (apart N.the_row N'.mir num_at k)) (closing 𝓛 (caller N.the_row N'.mir num_at) (answered N.the_row N'.mir num_at 𝓤))
-    reads-meets k 𝓣 known = apart-meets N.the_row N'.mir num_at 𝓛 (λ r u is. ((EL.lawful N.the_type N'.the_laws 𝓛 tt).typed r _ is).0) k 𝓣 known
+    reads_meets k 𝓣 known = apart_meets N.the_row N'.mir num_at 𝓛 (λ r u is. ((EL.lawful N.the_type N'.the_laws 𝓛 tt).typed r _ is).0) k 𝓣 known

@@ -20,15 +20,15 @@ module _ (a b c : Parser ℕ) (s : List ℕ) (at : ℕ) {r : Row} (row : r ≡ r
   pub second_is : {n p : ℕ} → r.first ≡ At n p → r.second ≡ num_of (b s p)
   second_is e = ap (λ (x : Row). x.second) row ∙ ap (λ (m : Num). num_of (b s (end_of m at))) (sym first_is ∙ e)
 
-  pub third-is : {n p k q : ℕ} → r.first ≡ At n p → r.second ≡ At k q → r.third ≡ num_of (c s q)
-  third-is e f = ap (λ (x : Row). x.third) row ∙ ap (λ (m : Num). num_of (c s (end_of m (end_of (num_of (a s at)) at)))) (sym (ap (λ (x : Row). x.second) row) ∙ f)
+  pub third_is : {n p k q : ℕ} → r.first ≡ At n p → r.second ≡ At k q → r.third ≡ num_of (c s q)
+  third_is e f = ap (λ (x : Row). x.third) row ∙ ap (λ (m : Num). num_of (c s (end_of m (end_of (num_of (a s at)) at)))) (sym (ap (λ (x : Row). x.second) row) ∙ f)
 
 module _ (s : List ℕ) (at : ℕ) {r : Sized} (sized : r ≡ sized_at s at) where
   pub size_is : r.size ≡ num_of (number_at 4 s at)
   size_is = ap (λ (x : Sized). x.size) sized
 
-  pub size-ends : {n p : ℕ} → r.size ≡ At n p → r.at ≡ p
-  size-ends e = ap (λ (x : Sized). x.at) sized ∙ ap (λ (m : Num). end_of m at) (sym size_is ∙ e)
+  pub size_ends : {n p : ℕ} → r.size ≡ At n p → r.at ≡ p
+  size_ends e = ap (λ (x : Sized). x.at) sized ∙ ap (λ (m : Num). end_of m at) (sym size_is ∙ e)
 
-  pub size-leaves : {n p : ℕ} → r.size ≡ At n p → r.left ≡ length s - p
-  size-leaves e = ap (λ (x : Sized). x.left) sized ∙ ap (λ (m : Num). length s - end_of m at) (sym size_is ∙ e)
+  pub size_leaves : {n p : ℕ} → r.size ≡ At n p → r.left ≡ length s - p
+  size_leaves e = ap (λ (x : Sized). x.left) sized ∙ ap (λ (m : Num). length s - end_of m at) (sym size_is ∙ e)

@@ -222,80 +222,80 @@ module _ {M : Type 1} {𝓤 : Ura M} (𝓛 : Logic 𝓤) (mem : Memory → SProp
   abbrev to_read : (p : Parser ℕ) → Reader → Val → (Reading 𝓛 p).Ghost
   to_read p r u = (((κ, tt), (q, tt), tt, (r, tt), (u ∷ [], tt)), tt)
 
-  goes-read : (p : Parser ℕ) (r : Reader) (u : Val) → ent 𝓤 (⋆ 𝓛 (‵ (Own r u) ∷ (‵ (flft κ q) ⊛ ‵ ftrue) ∷ [])) ((Reading 𝓛 p).pre (to_read p r u))
-  goes-read p r u = qed 𝓛 (‵ (Own r u) ∷ (‵ (flft κ q) ⊛ ‵ ftrue) ∷ []) ∵ nothing ! $ move ! (1 ∷ 0 ∷ []) $ fjoin ! $ move ! (1 ∷ 0 ∷ []) $ join ! $ frame ! $ done !
+  goes_read : (p : Parser ℕ) (r : Reader) (u : Val) → ent 𝓤 (⋆ 𝓛 (‵ (Own r u) ∷ (‵ (flft κ q) ⊛ ‵ ftrue) ∷ [])) ((Reading 𝓛 p).pre (to_read p r u))
+  goes_read p r u = qed 𝓛 (‵ (Own r u) ∷ (‵ (flft κ q) ⊛ ‵ ftrue) ∷ []) ∵ nothing ! $ move ! (1 ∷ 0 ∷ []) $ fjoin ! $ move ! (1 ∷ 0 ∷ []) $ join ! $ frame ! $ done !
 
   abbrev Read : Parser ℕ → Reader → Num → Type 0
   Read p r m = m ≡ num_of (p r.image.now r.at)
 
-  read-said : (p : Parser ℕ) (r : Reader) (m : Num) → ent 𝓤 (ensured 𝓛 (caller N.the_row N'.mir (num_at p)) (answered N.the_row N'.mir (num_at p) 𝓤) (κ, tt) (r, tt) tt m) (fact 𝓤 (Read p r m))
-  read-said p r m = ex_e 𝓤 _ (λ ws. snd∗ 𝓤 (sem 𝓛 (lasts (caller N.the_row N'.mir (num_at p)) (κ, tt) (r, tt) ws)) (fact 𝓤 (Read p r m)))
+  read_said : (p : Parser ℕ) (r : Reader) (m : Num) → ent 𝓤 (ensured 𝓛 (caller N.the_row N'.mir (num_at p)) (answered N.the_row N'.mir (num_at p) 𝓤) (κ, tt) (r, tt) tt m) (fact 𝓤 (Read p r m))
+  read_said p r m = ex_e 𝓤 _ (λ ws. snd∗ 𝓤 (sem 𝓛 (lasts (caller N.the_row N'.mir (num_at p)) (κ, tt) (r, tt) ws)) (fact 𝓤 (Read p r m)))
 
   -- r is moved past m
-  abbrev to-past : Reader → Val → Num → Val → (Past 𝓛 mem run).Ghost
-  to-past r u m w = (((κ, tt), (q, tt), tt, (r, (m, tt)), (u ∷ [], (w ∷ [], tt))), tt)
+  abbrev to_past : Reader → Val → Num → Val → (Past 𝓛 mem run).Ghost
+  to_past r u m w = (((κ, tt), (q, tt), tt, (r, (m, tt)), (u ∷ [], (w ∷ [], tt))), tt)
 
-  goes-past : (r : Reader) (u : Val) (m : Num) (w : Val) → ent 𝓤 (⋆ 𝓛 (‵ (OwnNum m w) ∷ (‵ (flft κ q) ⊛ ‵ ftrue) ∷ ‵ (Own r u) ∷ [])) ((Past 𝓛 mem run).pre (to-past r u m w))
-  goes-past r u m w = qed 𝓛 (‵ (OwnNum m w) ∷ (‵ (flft κ q) ⊛ ‵ ftrue) ∷ ‵ (Own r u) ∷ []) ∵ nothing ! $ move ! (1 ∷ 0 ∷ []) $ fjoin ! $ move ! (2 ∷ 0 ∷ []) $ fjoin ! $ move ! (1 ∷ 0 ∷ []) $ join ! $ frame ! $ done !
+  goes_past : (r : Reader) (u : Val) (m : Num) (w : Val) → ent 𝓤 (⋆ 𝓛 (‵ (OwnNum m w) ∷ (‵ (flft κ q) ⊛ ‵ ftrue) ∷ ‵ (Own r u) ∷ [])) ((Past 𝓛 mem run).pre (to_past r u m w))
+  goes_past r u m w = qed 𝓛 (‵ (OwnNum m w) ∷ (‵ (flft κ q) ⊛ ‵ ftrue) ∷ ‵ (Own r u) ∷ []) ∵ nothing ! $ move ! (1 ∷ 0 ∷ []) $ fjoin ! $ move ! (2 ∷ 0 ∷ []) $ fjoin ! $ move ! (1 ∷ 0 ∷ []) $ join ! $ frame ! $ done !
 
   abbrev Moved : Reader → Num → Reader → Type 0
   Moved r m t = (t.image ≡ r.image) × (t.at ≡ end_of m r.at)
 
-  past-said : (r : Reader) (m : Num) (t : Reader) → ent 𝓤 (ensured 𝓛 past.ended (past.clauses 𝓛 mem run) (κ, tt) (r, (m, tt)) tt t) (fact 𝓤 (Moved r m t))
-  past-said r m t = ex_e 𝓤 _ (λ ws. snd∗ 𝓤 (sem 𝓛 (lasts past.ended (κ, tt) (r, (m, tt)) ws)) (fact 𝓤 (Moved r m t)))
+  past_said : (r : Reader) (m : Num) (t : Reader) → ent 𝓤 (ensured 𝓛 past.ended (past.clauses 𝓛 mem run) (κ, tt) (r, (m, tt)) tt t) (fact 𝓤 (Moved r m t))
+  past_said r m t = ex_e 𝓤 _ (λ ws. snd∗ 𝓤 (sem 𝓛 (lasts past.ended (κ, tt) (r, (m, tt)) ws)) (fact 𝓤 (Moved r m t)))
 
   -- the row is made
   abbrev to_row : Num → Val → Num → Val → Num → Val → (RowOf 𝓛 mem run).Ghost
   to_row m₁ w₁ m₂ w₂ m₃ w₃ = ((tt, tt, tt, (m₁, (m₂, (m₃, tt))), (w₁ ∷ [], (w₂ ∷ [], (w₃ ∷ [], tt)))), tt)
 
-  goes-row : (m₁ : Num) (w₁ : Val) (m₂ : Num) (w₂ : Val) (m₃ : Num) (w₃ : Val) → IsNum m₁ w₁ → IsNum m₂ w₂ → IsNum m₃ w₃ → ent 𝓤 (emp 𝓤) ((RowOf 𝓛 mem run).pre (to_row m₁ w₁ m₂ w₂ m₃ w₃))
-  goes-row m₁ w₁ m₂ w₂ m₃ w₃ is₁ is₂ is₃ =
+  goes_row : (m₁ : Num) (w₁ : Val) (m₂ : Num) (w₂ : Val) (m₃ : Num) (w₃ : Val) → IsNum m₁ w₁ → IsNum m₂ w₂ → IsNum m₃ w₃ → ent 𝓤 (emp 𝓤) ((RowOf 𝓛 mem run).pre (to_row m₁ w₁ m₂ w₂ m₃ w₃))
+  goes_row m₁ w₁ m₂ w₂ m₃ w₃ is₁ is₂ is₃ =
       qed 𝓛 [] ∵ nothing ! $ owned ! N.the_row (Is N.the_row) (EL.makes N.the_type N'.the_plain 𝓛) m₃ (w₃ ∷ []) is₃ $ fjoin ! $ owned ! N.the_row (Is N.the_row) (EL.makes N.the_type N'.the_plain 𝓛) m₂ (w₂ ∷ []) is₂ $ fjoin ! $
       owned ! N.the_row (Is N.the_row) (EL.makes N.the_type N'.the_plain 𝓛) m₁ (w₁ ∷ []) is₁ $ fjoin ! $ nothing ! $ join ! $ frame ! $ done !
 
-  row-said : (m₁ m₂ m₃ : Num) (z : Row) → ent 𝓤 (ensured 𝓛 row_of.ended (row_of.clauses 𝓛 mem run) tt (m₁, (m₂, (m₃, tt))) tt z) (fact 𝓤 (z ≡ row_of m₁ m₂ m₃))
-  row-said m₁ m₂ m₃ z = ex_e 𝓤 _ (λ ws. snd∗ 𝓤 (sem 𝓛 (lasts row_of.ended tt (m₁, (m₂, (m₃, tt))) ws)) (fact 𝓤 (z ≡ row_of m₁ m₂ m₃)))
+  row_said : (m₁ m₂ m₃ : Num) (z : Row) → ent 𝓤 (ensured 𝓛 row_of.ended (row_of.clauses 𝓛 mem run) tt (m₁, (m₂, (m₃, tt))) tt z) (fact 𝓤 (z ≡ row_of m₁ m₂ m₃))
+  row_said m₁ m₂ m₃ z = ex_e 𝓤 _ (λ ws. snd∗ 𝓤 (sem 𝓛 (lasts row_of.ended tt (m₁, (m₂, (m₃, tt))) ws)) (fact 𝓤 (z ≡ row_of m₁ m₂ m₃)))
 
   -- where r stands, and how many bytes are left
-  abbrev to-position : Reader → Val → (Position 𝓛 mem run).Ghost
-  to-position r u = (((κ, tt), (q, tt), tt, (r, tt), (u ∷ [], tt)), tt)
+  abbrev to_position : Reader → Val → (Position 𝓛 mem run).Ghost
+  to_position r u = (((κ, tt), (q, tt), tt, (r, tt), (u ∷ [], tt)), tt)
 
-  goes-position : (r : Reader) (u : Val) → ent 𝓤 (⋆ 𝓛 (‵ (Own r u) ∷ (‵ (flft κ q) ⊛ ‵ ftrue) ∷ [])) ((Position 𝓛 mem run).pre (to-position r u))
-  goes-position r u = qed 𝓛 (‵ (Own r u) ∷ (‵ (flft κ q) ⊛ ‵ ftrue) ∷ []) ∵ nothing ! $ move ! (1 ∷ 0 ∷ []) $ fjoin ! $ move ! (1 ∷ 0 ∷ []) $ join ! $ frame ! $ done !
+  goes_position : (r : Reader) (u : Val) → ent 𝓤 (⋆ 𝓛 (‵ (Own r u) ∷ (‵ (flft κ q) ⊛ ‵ ftrue) ∷ [])) ((Position 𝓛 mem run).pre (to_position r u))
+  goes_position r u = qed 𝓛 (‵ (Own r u) ∷ (‵ (flft κ q) ⊛ ‵ ftrue) ∷ []) ∵ nothing ! $ move ! (1 ∷ 0 ∷ []) $ fjoin ! $ move ! (1 ∷ 0 ∷ []) $ join ! $ frame ! $ done !
 
-  position-said : (r : Reader) (n : ℕ) → ent 𝓤 (ensured 𝓛 position.ended (position.clauses 𝓛 mem run) (κ, tt) (r, tt) tt n) (fact 𝓤 (n ≡ r.at))
-  position-said r n = ex_e 𝓤 _ (λ ws. snd∗ 𝓤 (sem 𝓛 (lasts position.ended (κ, tt) (r, tt) ws)) (fact 𝓤 (n ≡ r.at)))
+  position_said : (r : Reader) (n : ℕ) → ent 𝓤 (ensured 𝓛 position.ended (position.clauses 𝓛 mem run) (κ, tt) (r, tt) tt n) (fact 𝓤 (n ≡ r.at))
+  position_said r n = ex_e 𝓤 _ (λ ws. snd∗ 𝓤 (sem 𝓛 (lasts position.ended (κ, tt) (r, tt) ws)) (fact 𝓤 (n ≡ r.at)))
 
-  abbrev to-left : Reader → Val → (Left 𝓛 mem run).Ghost
-  to-left r u = (((κ, tt), (q, tt), tt, (r, tt), (u ∷ [], tt)), tt)
+  abbrev to_left : Reader → Val → (Left 𝓛 mem run).Ghost
+  to_left r u = (((κ, tt), (q, tt), tt, (r, tt), (u ∷ [], tt)), tt)
 
-  goes_left : (r : Reader) (u : Val) → ent 𝓤 (⋆ 𝓛 (‵ (Own r u) ∷ (‵ (flft κ q) ⊛ ‵ ftrue) ∷ [])) ((Left 𝓛 mem run).pre (to-left r u))
+  goes_left : (r : Reader) (u : Val) → ent 𝓤 (⋆ 𝓛 (‵ (Own r u) ∷ (‵ (flft κ q) ⊛ ‵ ftrue) ∷ [])) ((Left 𝓛 mem run).pre (to_left r u))
   goes_left r u = qed 𝓛 (‵ (Own r u) ∷ (‵ (flft κ q) ⊛ ‵ ftrue) ∷ []) ∵ nothing ! $ move ! (1 ∷ 0 ∷ []) $ fjoin ! $ move ! (1 ∷ 0 ∷ []) $ join ! $ frame ! $ done !
 
   abbrev HasLeft : Reader → ℕ → Type 0
   HasLeft r n = n ≡ length r.image.now - r.at
 
-  left-said : (r : Reader) (n : ℕ) → ent 𝓤 (ensured 𝓛 left.ended (left.clauses 𝓛 mem run) (κ, tt) (r, tt) tt n) (fact 𝓤 (HasLeft r n))
-  left-said r n = ex_e 𝓤 _ (λ ws. snd∗ 𝓤 (sem 𝓛 (lasts left.ended (κ, tt) (r, tt) ws)) (fact 𝓤 (HasLeft r n)))
+  left_said : (r : Reader) (n : ℕ) → ent 𝓤 (ensured 𝓛 left.ended (left.clauses 𝓛 mem run) (κ, tt) (r, tt) tt n) (fact 𝓤 (HasLeft r n))
+  left_said r n = ex_e 𝓤 _ (λ ws. snd∗ 𝓤 (sem 𝓛 (lasts left.ended (κ, tt) (r, tt) ws)) (fact 𝓤 (HasLeft r n)))
 
   -- the size is put together with them
-  abbrev to-sized : Num → Val → ℕ → Val → ℕ → Val → (SizedOf 𝓛 mem run).Ghost
-  to-sized m w n x l y = ((tt, tt, tt, (m, (n, (l, tt))), (w ∷ [], (x ∷ [], (y ∷ [], tt)))), tt)
+  abbrev to_sized : Num → Val → ℕ → Val → ℕ → Val → (SizedOf 𝓛 mem run).Ghost
+  to_sized m w n x l y = ((tt, tt, tt, (m, (n, (l, tt))), (w ∷ [], (x ∷ [], (y ∷ [], tt)))), tt)
 
-  goes-sized : (m : Num) (w : Val) (n : ℕ) (x : Val) (l : ℕ) (y : Val) → IsNum m w → Is usize n (x ∷ []) → Is usize l (y ∷ []) → ent 𝓤 (emp 𝓤) ((SizedOf 𝓛 mem run).pre (to-sized m w n x l y))
-  goes-sized m w n x l y is₁ is₂ is₃ =
+  goes_sized : (m : Num) (w : Val) (n : ℕ) (x : Val) (l : ℕ) (y : Val) → IsNum m w → Is usize n (x ∷ []) → Is usize l (y ∷ []) → ent 𝓤 (emp 𝓤) ((SizedOf 𝓛 mem run).pre (to_sized m w n x l y))
+  goes_sized m w n x l y is₁ is₂ is₃ =
       qed 𝓛 [] ∵ nothing ! $ owned ! usize (Is usize) (uint_Makes 𝓛 w64) l (y ∷ []) is₃ $ fjoin ! $ owned ! usize (Is usize) (uint_Makes 𝓛 w64) n (x ∷ []) is₂ $ fjoin ! $
       owned ! N.the_row (Is N.the_row) (EL.makes N.the_type N'.the_plain 𝓛) m (w ∷ []) is₁ $ fjoin ! $ nothing ! $ join ! $ frame ! $ done !
 
-  sized-said : (m : Num) (n l : ℕ) (z : Sized) → ent 𝓤 (ensured 𝓛 SizedOf.ended (SizedOf.clauses 𝓛 mem run) tt (m, (n, (l, tt))) tt z) (fact 𝓤 (z ≡ sized_of m n l))
-  sized-said m n l z = ex_e 𝓤 _ (λ ws. snd∗ 𝓤 (sem 𝓛 (lasts SizedOf.ended tt (m, (n, (l, tt))) ws)) (fact 𝓤 (z ≡ sized_of m n l)))
+  sized_said : (m : Num) (n l : ℕ) (z : Sized) → ent 𝓤 (ensured 𝓛 SizedOf.ended (SizedOf.clauses 𝓛 mem run) tt (m, (n, (l, tt))) tt z) (fact 𝓤 (z ≡ sized_of m n l))
+  sized_said m n l z = ex_e 𝓤 _ (λ ws. snd∗ 𝓤 (sem 𝓛 (lasts SizedOf.ended tt (m, (n, (l, tt))) ws)) (fact 𝓤 (z ≡ sized_of m n l)))
 
   -- that a machine value is of its local's type
-  reader-typed : (r : Reader) (u : Val) → Is (B (κ, tt)) r (u ∷ []) → Typed (T'.mir erased ∷ []) (u ∷ [])
-  reader-typed r u is = (LL.lawful (T.the_type αᵉ) (T'.the_laws αᵉ) 𝓛).typed r (u ∷ []) is
+  reader_typed : (r : Reader) (u : Val) → Is (B (κ, tt)) r (u ∷ []) → Typed (T'.mir erased ∷ []) (u ∷ [])
+  reader_typed r u is = (LL.lawful (T.the_type αᵉ) (T'.the_laws αᵉ) 𝓛).typed r (u ∷ []) is
 
-  num-typed : (m : Num) (u : Val) → IsNum m u → Typed (N'.mir ∷ []) (u ∷ [])
-  num-typed m u is = (EL.lawful N.the_type N'.the_laws 𝓛 tt).typed m (u ∷ []) is
+  num_typed : (m : Num) (u : Val) → IsNum m u → Typed (N'.mir ∷ []) (u ∷ [])
+  num_typed m u is = (EL.lawful N.the_type N'.the_laws 𝓛 tt).typed m (u ∷ []) is
 
   -- ---- the walks
   module _ (s : Bor (List ℕ)) (n : ℕ) (n-fits : n < 2 ^ 64) where
@@ -310,21 +310,21 @@ module _ {M : Type 1} {𝓤 : Ura M} (𝓛 : Logic 𝓤) (mem : Memory → SProp
     OwnSlice = (ShrSlice (named 0) κ u8).own_val s (v ∷ [])
 
     -- the call of `new`: what it is passed, what it asks, and what is known of its result
-    abbrev to-new : (New 𝓛 mem run).Ghost
-    to-new = (((κ, tt), (q, tt), tt, (s, (n, tt)), at), tt)
+    abbrev to_new : (New 𝓛 mem run).Ghost
+    to_new = (((κ, tt), (q, tt), tt, (s, (n, tt)), at), tt)
 
-    goes-new : ent 𝓤 (on_entry 𝓛 rowing.signature (κ, tt) (q, tt) (s, (n, tt)) at) (sep 𝓤 ((New 𝓛 mem run).pre to-new) (sem 𝓛 OwnSlice))
-    goes-new =
+    goes_new : ent 𝓤 (on_entry 𝓛 rowing.signature (κ, tt) (q, tt) (s, (n, tt)) at) (sep 𝓤 ((New 𝓛 mem run).pre to_new) (sem 𝓛 OwnSlice))
+    goes_new =
         qed 𝓛 ((‵ (flft κ q) ⊛ ‵ ftrue) ∷ ‵ (owns (ShrSlice (named 0) κ u8 ∷ usize ∷ []) (s, (n, tt)) at) ∷ []) ∵
         move ! (1 ∷ []) $ fsplit ! $ use1 𝓛 (‵ OwnSlice ⊛ ‵ OwnSlice) ((shr_slice_copy 𝓛 (named 0) κ u8).twice s (v ∷ [])) $ split ! $
         move ! (0 ∷ 2 ∷ []) $ fjoin ! $ move ! (2 ∷ 0 ∷ []) $
-        use2 𝓛 (raw ((New 𝓛 mem run).pre to-new)) (qed 𝓛 ((‵ (flft κ q) ⊛ ‵ ftrue) ∷ ‵ (owns (ShrSlice (named 0) κ u8 ∷ usize ∷ []) (s, (n, tt)) at) ∷ []) ∵ join ! $ frame ! $ done !) $ frame ! $ done !
+        use2 𝓛 (raw ((New 𝓛 mem run).pre to_new)) (qed 𝓛 ((‵ (flft κ q) ⊛ ‵ ftrue) ∷ ‵ (owns (ShrSlice (named 0) κ u8 ∷ usize ∷ []) (s, (n, tt)) at) ∷ []) ∵ join ! $ frame ! $ done !) $ frame ! $ done !
 
     abbrev Made : Reader → Type 0
     Made r = (r.image ≡ s) × (r.at ≡ n)
 
-    new-said : (r : Reader) → ent 𝓤 (ensured 𝓛 new.ended (new.clauses 𝓛 mem run) (κ, tt) (s, (n, tt)) tt r) (fact 𝓤 (Made r))
-    new-said r = ex_e 𝓤 _ (λ ws. snd∗ 𝓤 (sem 𝓛 (lasts new.ended (κ, tt) (s, (n, tt)) ws)) (fact 𝓤 (Made r)))
+    new_said : (r : Reader) → ent 𝓤 (ensured 𝓛 new.ended (new.clauses 𝓛 mem run) (κ, tt) (s, (n, tt)) tt r) (fact 𝓤 (Made r))
+    new_said r = ex_e 𝓤 _ (λ ws. snd∗ 𝓤 (sem 𝓛 (lasts new.ended (κ, tt) (s, (n, tt)) ws)) (fact 𝓤 (Made r)))
 
     -- reads in a row
     module _ (a b c : Parser ℕ) where
@@ -332,8 +332,8 @@ module _ {M : Type 1} {𝓤 : Ura M} (𝓛 : Logic 𝓤) (mem : Memory → SProp
       Post = (walk_of 𝓛 rowing stayed (rowed a b c 𝓤)).post (((κ, tt), (q, tt), tt, (s, (n, tt)), at), tt)
 
       -- what the callees say, together
-      all-is : {r₁ r₂ r₃ : Reader} {m₁ m₂ m₃ : Num} {z : Row} → Made r₁ → Read a r₁ m₁ → Moved r₁ m₁ r₂ → Read b r₂ m₂ → Moved r₂ m₂ r₃ → Read c r₃ m₃ → z ≡ row_of m₁ m₂ m₃ → z ≡ row_at a b c s.now n
-      all-is e₁ f₁ e₂ f₂ e₃ f₃ g =
+      all_is : {r₁ r₂ r₃ : Reader} {m₁ m₂ m₃ : Num} {z : Row} → Made r₁ → Read a r₁ m₁ → Moved r₁ m₁ r₂ → Read b r₂ m₂ → Moved r₂ m₂ r₃ → Read c r₃ m₃ → z ≡ row_of m₁ m₂ m₃ → z ≡ row_at a b c s.now n
+      all_is e₁ f₁ e₂ f₂ e₃ f₃ g =
           let one = read_is a e₁.0 e₁.1 f₁ in
           let second_at = past_is e₂.1 one e₁.1 in
           let two = read_is b (e₂.0 ∙ e₁.0) second_at f₂ in
@@ -352,56 +352,56 @@ module _ {M : Type 1} {𝓤 : Ura M} (𝓛 : Logic 𝓤) (mem : Memory → SProp
             qed 𝓛 (raw (on_entry 𝓛 rowing.signature (κ, tt) (q, tt) (s, (n, tt)) at) ∷ []) ∵ enter ! C Λ (in_row i j k) (v ∷ vint w64 n ∷ []) _ $
             alloc1 ! (λ l₀. alloc1 ! (λ l₁. alloc1 ! (λ l₂. alloc1 ! (λ l₃. alloc1 ! (λ l₄. alloc1 ! (λ l₅. alloc1 ! (λ l₆. alloc1 ! (λ l₇. alloc1 ! (λ l₈. alloc1 ! (λ l₉. alloc1 ! (λ l₁₀. alloc1 ! (λ l₁₁. alloc1 ! (λ l₁₂. alloc1 ! (λ l₁₃. alloc0 ! $ params1 ! $
             pass1 ! (init ! 24 refl ((shr_slice_Lawful 𝓛 (named 0) κ u8).typed s (v ∷ []) p).0) $ pass1 ! (init ! 22 refl (tt, record { fits = n-fits })) $ pass0 ! $
-            move ! (28 ∷ []) $ use1 𝓛 (raw ((New 𝓛 mem run).pre to-new) ⊛ ‵ OwnSlice) goes-new $ split ! $
+            move ! (28 ∷ []) $ use1 𝓛 (raw ((New 𝓛 mem run).pre to_new) ⊛ ‵ OwnSlice) goes_new $ split ! $
             -- [what `new` asks; what s owns; _13; …; _12; …; to _0; …]. Local i stands 2 · (13 - i) after what is in front
-            calls_at ! fm (New 𝓛 mem run) known-new to-new (and_then ! (load ! (from ! (stop !)) (look ! 26 refl)) (and_then ! (load ! (from ! (stop !)) (look ! 24 refl)) (no_more !))) (λ u₁.
+            calls_at ! fm (New 𝓛 mem run) known-new to_new (and_then ! (load ! (from ! (stop !)) (look ! 26 refl)) (and_then ! (load ! (from ! (stop !)) (look ! 24 refl)) (no_more !))) (λ u₁.
             use1 𝓛 (later (some (λ (r₁ : Reader). ((‵ (flft κ q) ⊛ ‵ ftrue) ⊛ ‵ (Own r₁ u₁)) ⊛ raw (ensured 𝓛 new.ended (new.clauses 𝓛 mem run) (κ, tt) (s, (n, tt)) tt r₁)))) (id⊢ 𝓤 _) $ await ! tt $ pick ! (λ r₁.
-            split ! $ move ! (1 ∷ []) $ use1 𝓛 (raw (fact 𝓤 (Made r₁))) (new-said r₁) $ heard ! (Made r₁) (λ e₁. split ! $ move ! (1 ∷ []) $
+            split ! $ move ! (1 ∷ []) $ use1 𝓛 (raw (fact 𝓤 (Made r₁))) (new_said r₁) $ heard ! (Made r₁) (λ e₁. split ! $ move ! (1 ∷ []) $
             -- [what the reader owns; the token; what s owns; _13; …]
-            peeks ! (B (κ, tt)) (Is (B (κ, tt))) (shows 𝓛 (B (κ, tt))) r₁ (u₁ ∷ []) (λ is₁. land ! (from ! (stop !)) (init ! 23 refl (reader-typed r₁ u₁ is₁).0) $
+            peeks ! (B (κ, tt)) (Is (B (κ, tt))) (shows 𝓛 (B (κ, tt))) r₁ (u₁ ∷ []) (λ is₁. land ! (from ! (stop !)) (init ! 23 refl (reader_typed r₁ u₁ is₁).0) $
             -- the first is read
-            use1 𝓛 (‵ (Own r₁ u₁) ⊛ ‵ (Own r₁ u₁)) (twice r₁ u₁) $ split ! $ assigns ! (of_opd ! (load ! (from ! (stop !)) (look ! 24 refl))) (from ! (stop !)) (init ! 12 refl (reader-typed r₁ u₁ is₁).0) $
-            move ! (0 ∷ 2 ∷ []) $ use2 𝓛 (raw ((Reading 𝓛 a).pre (to_read a r₁ u₁))) (goes-read a r₁ u₁) $
+            use1 𝓛 (‵ (Own r₁ u₁) ⊛ ‵ (Own r₁ u₁)) (twice r₁ u₁) $ split ! $ assigns ! (of_opd ! (load ! (from ! (stop !)) (look ! 24 refl))) (from ! (stop !)) (init ! 12 refl (reader_typed r₁ u₁ is₁).0) $
+            move ! (0 ∷ 2 ∷ []) $ use2 𝓛 (raw ((Reading 𝓛 a).pre (to_read a r₁ u₁))) (goes_read a r₁ u₁) $
             calls_at ! fm (Reading 𝓛 a) known-i (to_read a r₁ u₁) (and_then ! (load ! (from ! (stop !)) (look ! 11 refl)) (no_more !)) (λ u₂.
             use1 𝓛 (later (some (λ (m₁ : Num). ((‵ (flft κ q) ⊛ ‵ ftrue) ⊛ ‵ (OwnNum m₁ u₂)) ⊛ raw (ensured 𝓛 (caller N.the_row N'.mir (num_at a)) (answered N.the_row N'.mir (num_at a) 𝓤) (κ, tt) (r₁, tt) tt m₁)))) (id⊢ 𝓤 _) $ await ! tt $ pick ! (λ m₁.
-            split ! $ move ! (1 ∷ []) $ use1 𝓛 (raw (fact 𝓤 (Read a r₁ m₁))) (read-said a r₁ m₁) $ heard ! (Read a r₁ m₁) (λ f₁. split ! $ move ! (1 ∷ []) $
-            peeks ! N.the_row (Is N.the_row) (shows 𝓛 N.the_row) m₁ (u₂ ∷ []) (λ is₂. land ! (from ! (stop !)) (init ! 22 refl (num-typed m₁ u₂ is₂).0) $
+            split ! $ move ! (1 ∷ []) $ use1 𝓛 (raw (fact 𝓤 (Read a r₁ m₁))) (read_said a r₁ m₁) $ heard ! (Read a r₁ m₁) (λ f₁. split ! $ move ! (1 ∷ []) $
+            peeks ! N.the_row (Is N.the_row) (shows 𝓛 N.the_row) m₁ (u₂ ∷ []) (λ is₂. land ! (from ! (stop !)) (init ! 22 refl (num_typed m₁ u₂ is₂).0) $
             -- [what the Num owns; the token; what the reader owns; what s owns; _13; …]: the reader goes past it, and the second is read
-            assigns ! (of_opd ! (load ! (from ! (stop !)) (look ! 24 refl))) (from ! (stop !)) (init ! 10 refl (reader-typed r₁ u₁ is₁).0) $
-            use3 𝓛 (raw ((Past 𝓛 mem run).pre (to-past r₁ u₁ m₁ u₂))) (goes-past r₁ u₁ m₁ u₂) $
-            calls_at ! fm (Past 𝓛 mem run) known_past (to-past r₁ u₁ m₁ u₂) (and_then ! (load ! (from ! (stop !)) (look ! 8 refl)) (and_then ! (load ! (from ! (stop !)) (look ! 20 refl)) (no_more !))) (λ u₃.
+            assigns ! (of_opd ! (load ! (from ! (stop !)) (look ! 24 refl))) (from ! (stop !)) (init ! 10 refl (reader_typed r₁ u₁ is₁).0) $
+            use3 𝓛 (raw ((Past 𝓛 mem run).pre (to_past r₁ u₁ m₁ u₂))) (goes_past r₁ u₁ m₁ u₂) $
+            calls_at ! fm (Past 𝓛 mem run) known_past (to_past r₁ u₁ m₁ u₂) (and_then ! (load ! (from ! (stop !)) (look ! 8 refl)) (and_then ! (load ! (from ! (stop !)) (look ! 20 refl)) (no_more !))) (λ u₃.
             use1 𝓛 (later (some (λ (r₂ : Reader). ((‵ (flft κ q) ⊛ ‵ ftrue) ⊛ ‵ (Own r₂ u₃)) ⊛ raw (ensured 𝓛 past.ended (past.clauses 𝓛 mem run) (κ, tt) (r₁, (m₁, tt)) tt r₂)))) (id⊢ 𝓤 _) $ await ! tt $ pick ! (λ r₂.
-            split ! $ move ! (1 ∷ []) $ use1 𝓛 (raw (fact 𝓤 (Moved r₁ m₁ r₂))) (past-said r₁ m₁ r₂) $ heard ! (Moved r₁ m₁ r₂) (λ e₂. split ! $ move ! (1 ∷ []) $
-            peeks ! (B (κ, tt)) (Is (B (κ, tt))) (shows 𝓛 (B (κ, tt))) r₂ (u₃ ∷ []) (λ is₃. land ! (from ! (stop !)) (init ! 19 refl (reader-typed r₂ u₃ is₃).0) $
-            use1 𝓛 (‵ (Own r₂ u₃) ⊛ ‵ (Own r₂ u₃)) (twice r₂ u₃) $ split ! $ assigns ! (of_opd ! (load ! (from ! (stop !)) (look ! 20 refl))) (from ! (stop !)) (init ! 8 refl (reader-typed r₂ u₃ is₃).0) $
-            move ! (0 ∷ 2 ∷ []) $ use2 𝓛 (raw ((Reading 𝓛 b).pre (to_read b r₂ u₃))) (goes-read b r₂ u₃) $
+            split ! $ move ! (1 ∷ []) $ use1 𝓛 (raw (fact 𝓤 (Moved r₁ m₁ r₂))) (past_said r₁ m₁ r₂) $ heard ! (Moved r₁ m₁ r₂) (λ e₂. split ! $ move ! (1 ∷ []) $
+            peeks ! (B (κ, tt)) (Is (B (κ, tt))) (shows 𝓛 (B (κ, tt))) r₂ (u₃ ∷ []) (λ is₃. land ! (from ! (stop !)) (init ! 19 refl (reader_typed r₂ u₃ is₃).0) $
+            use1 𝓛 (‵ (Own r₂ u₃) ⊛ ‵ (Own r₂ u₃)) (twice r₂ u₃) $ split ! $ assigns ! (of_opd ! (load ! (from ! (stop !)) (look ! 20 refl))) (from ! (stop !)) (init ! 8 refl (reader_typed r₂ u₃ is₃).0) $
+            move ! (0 ∷ 2 ∷ []) $ use2 𝓛 (raw ((Reading 𝓛 b).pre (to_read b r₂ u₃))) (goes_read b r₂ u₃) $
             calls_at ! fm (Reading 𝓛 b) known-j (to_read b r₂ u₃) (and_then ! (load ! (from ! (stop !)) (look ! 7 refl)) (no_more !)) (λ u₄.
             use1 𝓛 (later (some (λ (m₂ : Num). ((‵ (flft κ q) ⊛ ‵ ftrue) ⊛ ‵ (OwnNum m₂ u₄)) ⊛ raw (ensured 𝓛 (caller N.the_row N'.mir (num_at b)) (answered N.the_row N'.mir (num_at b) 𝓤) (κ, tt) (r₂, tt) tt m₂)))) (id⊢ 𝓤 _) $ await ! tt $ pick ! (λ m₂.
-            split ! $ move ! (1 ∷ []) $ use1 𝓛 (raw (fact 𝓤 (Read b r₂ m₂))) (read-said b r₂ m₂) $ heard ! (Read b r₂ m₂) (λ f₂. split ! $ move ! (1 ∷ []) $
-            peeks ! N.the_row (Is N.the_row) (shows 𝓛 N.the_row) m₂ (u₄ ∷ []) (λ is₄. land ! (from ! (stop !)) (init ! 18 refl (num-typed m₂ u₄ is₄).0) $
+            split ! $ move ! (1 ∷ []) $ use1 𝓛 (raw (fact 𝓤 (Read b r₂ m₂))) (read_said b r₂ m₂) $ heard ! (Read b r₂ m₂) (λ f₂. split ! $ move ! (1 ∷ []) $
+            peeks ! N.the_row (Is N.the_row) (shows 𝓛 N.the_row) m₂ (u₄ ∷ []) (λ is₄. land ! (from ! (stop !)) (init ! 18 refl (num_typed m₂ u₄ is₄).0) $
             -- the same, and the third
-            assigns ! (of_opd ! (load ! (from ! (stop !)) (look ! 20 refl))) (from ! (stop !)) (init ! 6 refl (reader-typed r₂ u₃ is₃).0) $
-            use3 𝓛 (raw ((Past 𝓛 mem run).pre (to-past r₂ u₃ m₂ u₄))) (goes-past r₂ u₃ m₂ u₄) $
-            calls_at ! fm (Past 𝓛 mem run) known_past (to-past r₂ u₃ m₂ u₄) (and_then ! (load ! (from ! (stop !)) (look ! 4 refl)) (and_then ! (load ! (from ! (stop !)) (look ! 16 refl)) (no_more !))) (λ u₅.
+            assigns ! (of_opd ! (load ! (from ! (stop !)) (look ! 20 refl))) (from ! (stop !)) (init ! 6 refl (reader_typed r₂ u₃ is₃).0) $
+            use3 𝓛 (raw ((Past 𝓛 mem run).pre (to_past r₂ u₃ m₂ u₄))) (goes_past r₂ u₃ m₂ u₄) $
+            calls_at ! fm (Past 𝓛 mem run) known_past (to_past r₂ u₃ m₂ u₄) (and_then ! (load ! (from ! (stop !)) (look ! 4 refl)) (and_then ! (load ! (from ! (stop !)) (look ! 16 refl)) (no_more !))) (λ u₅.
             use1 𝓛 (later (some (λ (r₃ : Reader). ((‵ (flft κ q) ⊛ ‵ ftrue) ⊛ ‵ (Own r₃ u₅)) ⊛ raw (ensured 𝓛 past.ended (past.clauses 𝓛 mem run) (κ, tt) (r₂, (m₂, tt)) tt r₃)))) (id⊢ 𝓤 _) $ await ! tt $ pick ! (λ r₃.
-            split ! $ move ! (1 ∷ []) $ use1 𝓛 (raw (fact 𝓤 (Moved r₂ m₂ r₃))) (past-said r₂ m₂ r₃) $ heard ! (Moved r₂ m₂ r₃) (λ e₃. split ! $ move ! (1 ∷ []) $
-            peeks ! (B (κ, tt)) (Is (B (κ, tt))) (shows 𝓛 (B (κ, tt))) r₃ (u₅ ∷ []) (λ is₅. land ! (from ! (stop !)) (init ! 15 refl (reader-typed r₃ u₅ is₅).0) $
-            assigns ! (of_opd ! (load ! (from ! (stop !)) (look ! 15 refl))) (from ! (stop !)) (init ! 3 refl (reader-typed r₃ u₅ is₅).0) $ use2 𝓛 (raw ((Reading 𝓛 c).pre (to_read c r₃ u₅))) (goes-read c r₃ u₅) $
+            split ! $ move ! (1 ∷ []) $ use1 𝓛 (raw (fact 𝓤 (Moved r₂ m₂ r₃))) (past_said r₂ m₂ r₃) $ heard ! (Moved r₂ m₂ r₃) (λ e₃. split ! $ move ! (1 ∷ []) $
+            peeks ! (B (κ, tt)) (Is (B (κ, tt))) (shows 𝓛 (B (κ, tt))) r₃ (u₅ ∷ []) (λ is₅. land ! (from ! (stop !)) (init ! 15 refl (reader_typed r₃ u₅ is₅).0) $
+            assigns ! (of_opd ! (load ! (from ! (stop !)) (look ! 15 refl))) (from ! (stop !)) (init ! 3 refl (reader_typed r₃ u₅ is₅).0) $ use2 𝓛 (raw ((Reading 𝓛 c).pre (to_read c r₃ u₅))) (goes_read c r₃ u₅) $
             calls_at ! fm (Reading 𝓛 c) known-k (to_read c r₃ u₅) (and_then ! (load ! (from ! (stop !)) (look ! 2 refl)) (no_more !)) (λ u₆.
             use1 𝓛 (later (some (λ (m₃ : Num). ((‵ (flft κ q) ⊛ ‵ ftrue) ⊛ ‵ (OwnNum m₃ u₆)) ⊛ raw (ensured 𝓛 (caller N.the_row N'.mir (num_at c)) (answered N.the_row N'.mir (num_at c) 𝓤) (κ, tt) (r₃, tt) tt m₃)))) (id⊢ 𝓤 _) $ await ! tt $ pick ! (λ m₃.
-            split ! $ move ! (1 ∷ []) $ use1 𝓛 (raw (fact 𝓤 (Read c r₃ m₃))) (read-said c r₃ m₃) $ heard ! (Read c r₃ m₃) (λ f₃. split ! $ move ! (1 ∷ []) $
-            peeks ! N.the_row (Is N.the_row) (shows 𝓛 N.the_row) m₃ (u₆ ∷ []) (λ is₆. land ! (from ! (stop !)) (init ! 13 refl (num-typed m₃ u₆ is₆).0) $
+            split ! $ move ! (1 ∷ []) $ use1 𝓛 (raw (fact 𝓤 (Read c r₃ m₃))) (read_said c r₃ m₃) $ heard ! (Read c r₃ m₃) (λ f₃. split ! $ move ! (1 ∷ []) $
+            peeks ! N.the_row (Is N.the_row) (shows 𝓛 N.the_row) m₃ (u₆ ∷ []) (λ is₆. land ! (from ! (stop !)) (init ! 13 refl (num_typed m₃ u₆ is₆).0) $
             -- [what the Num owns; the token; what s owns; _13; …]: the row is made
-            drop ! $ use0 𝓛 (raw ((RowOf 𝓛 mem run).pre (to_row m₁ u₂ m₂ u₄ m₃ u₆))) (goes-row m₁ u₂ m₂ u₄ m₃ u₆ is₂ is₄ is₆) $
+            drop ! $ use0 𝓛 (raw ((RowOf 𝓛 mem run).pre (to_row m₁ u₂ m₂ u₄ m₃ u₆))) (goes_row m₁ u₂ m₂ u₄ m₃ u₆ is₂ is₄ is₆) $
             calls_at ! fm (RowOf 𝓛 mem run) known-row (to_row m₁ u₂ m₂ u₄ m₃ u₆) (and_then ! (load ! (from ! (stop !)) (look ! 21 refl)) (and_then ! (load ! (from ! (stop !)) (look ! 17 refl)) (and_then ! (load ! (from ! (stop !)) (look ! 13 refl)) (no_more !)))) (λ u₇.
             use1 𝓛 (later (some (λ (z : Row). (‵ ftrue ⊛ ‵ ((R.the_row).own_val z (u₇ ∷ []))) ⊛ raw (ensured 𝓛 row_of.ended (row_of.clauses 𝓛 mem run) tt (m₁, (m₂, (m₃, tt))) tt z)))) (id⊢ 𝓤 _) $ await ! tt $ pick ! (λ z.
-            split ! $ move ! (1 ∷ []) $ use1 𝓛 (raw (fact 𝓤 (z ≡ row_of m₁ m₂ m₃))) (row-said m₁ m₂ m₃ z) $ heard ! (z ≡ row_of m₁ m₂ m₃) (λ g. split ! $ move ! (1 ∷ []) $
+            split ! $ move ! (1 ∷ []) $ use1 𝓛 (raw (fact 𝓤 (z ≡ row_of m₁ m₂ m₃))) (row_said m₁ m₂ m₃ z) $ heard ! (z ≡ row_of m₁ m₂ m₃) (λ g. split ! $ move ! (1 ∷ []) $
             -- [what the row owns; …; the token; what s owns; _13; …]
             peeks ! R.the_row (Is R.the_row) (shows 𝓛 R.the_row) z (u₇ ∷ []) (λ is₇. land ! (from ! (stop !)) (init ! 30 refl ((LL.lawful R.the_type R'.the_laws 𝓛).typed z _ is₇).0) $
             returns ! (look ! 30 refl) $ forget ! 4 refl $ forget ! 6 refl $ forget ! 8 refl $ forget ! 10 refl $ forget ! 12 refl $ forget ! 14 refl $ forget ! 16 refl $ forget ! 18 refl $ forget ! 20 refl $ forget ! 22 refl $ forget ! 24 refl $ forget ! 26 refl $ forget ! 28 refl $ forget ! 30 refl $
             move ! (30 ∷ 31 ∷ []) $ free1 ! $ move ! (28 ∷ 29 ∷ []) $ free1 ! $ move ! (26 ∷ 27 ∷ []) $ free1 ! $ move ! (24 ∷ 25 ∷ []) $ free1 ! $ move ! (22 ∷ 23 ∷ []) $ free1 ! $ move ! (20 ∷ 21 ∷ []) $ free1 ! $ move ! (18 ∷ 19 ∷ []) $ free1 ! $
             move ! (16 ∷ 17 ∷ []) $ free1 ! $ move ! (14 ∷ 15 ∷ []) $ free1 ! $ move ! (12 ∷ 13 ∷ []) $ free1 ! $ move ! (10 ∷ 11 ∷ []) $ free1 ! $ move ! (8 ∷ 9 ∷ []) $ free1 ! $ move ! (6 ∷ 7 ∷ []) $ free1 ! $ move ! (4 ∷ 5 ∷ []) $ free1 ! $ free0 ! $
-            keep ! (0 ∷ 2 ∷ 3 ∷ []) $ by ! (exits z u₇ (all-is e₁ f₁ e₂ f₂ e₃ f₃ g))))))))))))))))))))))))))))))))))))))))))))
+            keep ! (0 ∷ 2 ∷ 3 ∷ []) $ by ! (exits z u₇ (all_is e₁ f₁ e₂ f₂ e₃ f₃ g))))))))))))))))))))))))))))))))))))))))))))
 
     -- a size, and what is left for it
     abbrev After : Val → SProp 𝓤
@@ -423,48 +423,48 @@ module _ {M : Type 1} {𝓤 : Ura M} (𝓛 : Logic 𝓤) (mem : Memory → SProp
 
     module _ (C : Calls 𝓤 H) (Λ : Loops 𝓤 H) (fm : FmC 𝓤 H 𝓛.laws C) (known-u32 : Triple 𝓤 (C #reader·read-u32) (Reading 𝓛 (number_at 4))) (known-new : Triple 𝓤 (C #reader·new) (New 𝓛 mem run)) (known_past : Triple 𝓤 (C #reader·past) (Past 𝓛 mem run))
         (known-position : Triple 𝓤 (C #reader·position) (Position 𝓛 mem run)) (known-left : Triple 𝓤 (C #reader·left) (Left 𝓛 mem run)) (known-sized : Triple 𝓤 (C #reader·sized-of) (SizedOf 𝓛 mem run)) where
-      walk-size : Is (ShrSlice (named 0) κ u8) s (v ∷ []) → ent 𝓤 (on_entry 𝓛 sizing.signature (κ, tt) (q, tt) (s, (n, tt)) at) (WpFn 𝓤 H C Λ in_size (v ∷ vint w64 n ∷ []) After)
-      walk-size p =
+      walk_size : Is (ShrSlice (named 0) κ u8) s (v ∷ []) → ent 𝓤 (on_entry 𝓛 sizing.signature (κ, tt) (q, tt) (s, (n, tt)) at) (WpFn 𝓤 H C Λ in_size (v ∷ vint w64 n ∷ []) After)
+      walk_size p =
           qed 𝓛 (raw (on_entry 𝓛 sizing.signature (κ, tt) (q, tt) (s, (n, tt)) at) ∷ []) ∵ enter ! C Λ in_size (v ∷ vint w64 n ∷ []) _ $
           alloc1 ! (λ l₀. alloc1 ! (λ l₁. alloc1 ! (λ l₂. alloc1 ! (λ l₃. alloc1 ! (λ l₄. alloc1 ! (λ l₅. alloc1 ! (λ l₆. alloc1 ! (λ l₇. alloc1 ! (λ l₈. alloc1 ! (λ l₉. alloc1 ! (λ l₁₀. alloc1 ! (λ l₁₁. alloc0 ! $ params1 ! $
           pass1 ! (init ! 20 refl ((shr_slice_Lawful 𝓛 (named 0) κ u8).typed s (v ∷ []) p).0) $ pass1 ! (init ! 18 refl (tt, record { fits = n-fits })) $ pass0 ! $
-          move ! (24 ∷ []) $ use1 𝓛 (raw ((New 𝓛 mem run).pre to-new) ⊛ ‵ OwnSlice) goes-new $ split ! $
+          move ! (24 ∷ []) $ use1 𝓛 (raw ((New 𝓛 mem run).pre to_new) ⊛ ‵ OwnSlice) goes_new $ split ! $
           -- [what `new` asks; what s owns; _11; …; _10; …; to _0; …]. Local i stands 2 · (11 - i) after what is in front
-          calls_at ! fm (New 𝓛 mem run) known-new to-new (and_then ! (load ! (from ! (stop !)) (look ! 22 refl)) (and_then ! (load ! (from ! (stop !)) (look ! 20 refl)) (no_more !))) (λ u₁.
+          calls_at ! fm (New 𝓛 mem run) known-new to_new (and_then ! (load ! (from ! (stop !)) (look ! 22 refl)) (and_then ! (load ! (from ! (stop !)) (look ! 20 refl)) (no_more !))) (λ u₁.
           use1 𝓛 (later (some (λ (r₁ : Reader). ((‵ (flft κ q) ⊛ ‵ ftrue) ⊛ ‵ (Own r₁ u₁)) ⊛ raw (ensured 𝓛 new.ended (new.clauses 𝓛 mem run) (κ, tt) (s, (n, tt)) tt r₁)))) (id⊢ 𝓤 _) $ await ! tt $ pick ! (λ r₁.
-          split ! $ move ! (1 ∷ []) $ use1 𝓛 (raw (fact 𝓤 (Made r₁))) (new-said r₁) $ heard ! (Made r₁) (λ e₁. split ! $ move ! (1 ∷ []) $
-          peeks ! (B (κ, tt)) (Is (B (κ, tt))) (shows 𝓛 (B (κ, tt))) r₁ (u₁ ∷ []) (λ is₁. land ! (from ! (stop !)) (init ! 19 refl (reader-typed r₁ u₁ is₁).0) $
+          split ! $ move ! (1 ∷ []) $ use1 𝓛 (raw (fact 𝓤 (Made r₁))) (new_said r₁) $ heard ! (Made r₁) (λ e₁. split ! $ move ! (1 ∷ []) $
+          peeks ! (B (κ, tt)) (Is (B (κ, tt))) (shows 𝓛 (B (κ, tt))) r₁ (u₁ ∷ []) (λ is₁. land ! (from ! (stop !)) (init ! 19 refl (reader_typed r₁ u₁ is₁).0) $
           -- [what the reader owns; the token; what s owns; _11; …]: the u32 is read
-          use1 𝓛 (‵ (Own r₁ u₁) ⊛ ‵ (Own r₁ u₁)) (twice r₁ u₁) $ split ! $ assigns ! (of_opd ! (load ! (from ! (stop !)) (look ! 20 refl))) (from ! (stop !)) (init ! 10 refl (reader-typed r₁ u₁ is₁).0) $
-          move ! (0 ∷ 2 ∷ []) $ use2 𝓛 (raw ((Reading 𝓛 (number_at 4)).pre (to_read (number_at 4) r₁ u₁))) (goes-read (number_at 4) r₁ u₁) $
+          use1 𝓛 (‵ (Own r₁ u₁) ⊛ ‵ (Own r₁ u₁)) (twice r₁ u₁) $ split ! $ assigns ! (of_opd ! (load ! (from ! (stop !)) (look ! 20 refl))) (from ! (stop !)) (init ! 10 refl (reader_typed r₁ u₁ is₁).0) $
+          move ! (0 ∷ 2 ∷ []) $ use2 𝓛 (raw ((Reading 𝓛 (number_at 4)).pre (to_read (number_at 4) r₁ u₁))) (goes_read (number_at 4) r₁ u₁) $
           calls_at ! fm (Reading 𝓛 (number_at 4)) known-u32 (to_read (number_at 4) r₁ u₁) (and_then ! (load ! (from ! (stop !)) (look ! 9 refl)) (no_more !)) (λ u₂.
           use1 𝓛 (later (some (λ (m : Num). ((‵ (flft κ q) ⊛ ‵ ftrue) ⊛ ‵ (OwnNum m u₂)) ⊛ raw (ensured 𝓛 (caller N.the_row N'.mir (num_at (number_at 4))) (answered N.the_row N'.mir (num_at (number_at 4)) 𝓤) (κ, tt) (r₁, tt) tt m)))) (id⊢ 𝓤 _) $ await ! tt $ pick ! (λ m.
-          split ! $ move ! (1 ∷ []) $ use1 𝓛 (raw (fact 𝓤 (Read (number_at 4) r₁ m))) (read-said (number_at 4) r₁ m) $ heard ! (Read (number_at 4) r₁ m) (λ f. split ! $ move ! (1 ∷ []) $
-          peeks ! N.the_row (Is N.the_row) (shows 𝓛 N.the_row) m (u₂ ∷ []) (λ is₂. land ! (from ! (stop !)) (init ! 18 refl (num-typed m u₂ is₂).0) $
+          split ! $ move ! (1 ∷ []) $ use1 𝓛 (raw (fact 𝓤 (Read (number_at 4) r₁ m))) (read_said (number_at 4) r₁ m) $ heard ! (Read (number_at 4) r₁ m) (λ f. split ! $ move ! (1 ∷ []) $
+          peeks ! N.the_row (Is N.the_row) (shows 𝓛 N.the_row) m (u₂ ∷ []) (λ is₂. land ! (from ! (stop !)) (init ! 18 refl (num_typed m u₂ is₂).0) $
           -- [what the Num owns; the token; what the reader owns; what s owns; _11; …]: the reader goes past it, and says where it stands
-          assigns ! (of_opd ! (load ! (from ! (stop !)) (look ! 20 refl))) (from ! (stop !)) (init ! 8 refl (reader-typed r₁ u₁ is₁).0) $
-          use3 𝓛 (raw ((Past 𝓛 mem run).pre (to-past r₁ u₁ m u₂))) (goes-past r₁ u₁ m u₂) $
-          calls_at ! fm (Past 𝓛 mem run) known_past (to-past r₁ u₁ m u₂) (and_then ! (load ! (from ! (stop !)) (look ! 6 refl)) (and_then ! (load ! (from ! (stop !)) (look ! 16 refl)) (no_more !))) (λ u₃.
+          assigns ! (of_opd ! (load ! (from ! (stop !)) (look ! 20 refl))) (from ! (stop !)) (init ! 8 refl (reader_typed r₁ u₁ is₁).0) $
+          use3 𝓛 (raw ((Past 𝓛 mem run).pre (to_past r₁ u₁ m u₂))) (goes_past r₁ u₁ m u₂) $
+          calls_at ! fm (Past 𝓛 mem run) known_past (to_past r₁ u₁ m u₂) (and_then ! (load ! (from ! (stop !)) (look ! 6 refl)) (and_then ! (load ! (from ! (stop !)) (look ! 16 refl)) (no_more !))) (λ u₃.
           use1 𝓛 (later (some (λ (r₂ : Reader). ((‵ (flft κ q) ⊛ ‵ ftrue) ⊛ ‵ (Own r₂ u₃)) ⊛ raw (ensured 𝓛 past.ended (past.clauses 𝓛 mem run) (κ, tt) (r₁, (m, tt)) tt r₂)))) (id⊢ 𝓤 _) $ await ! tt $ pick ! (λ r₂.
-          split ! $ move ! (1 ∷ []) $ use1 𝓛 (raw (fact 𝓤 (Moved r₁ m r₂))) (past-said r₁ m r₂) $ heard ! (Moved r₁ m r₂) (λ e₂. split ! $ move ! (1 ∷ []) $
-          peeks ! (B (κ, tt)) (Is (B (κ, tt))) (shows 𝓛 (B (κ, tt))) r₂ (u₃ ∷ []) (λ is₃. land ! (from ! (stop !)) (init ! 15 refl (reader-typed r₂ u₃ is₃).0) $
-          use1 𝓛 (‵ (Own r₂ u₃) ⊛ ‵ (Own r₂ u₃)) (twice r₂ u₃) $ split ! $ assigns ! (of_opd ! (load ! (from ! (stop !)) (look ! 16 refl))) (from ! (stop !)) (init ! 6 refl (reader-typed r₂ u₃ is₃).0) $
-          move ! (0 ∷ 2 ∷ []) $ use2 𝓛 (raw ((Position 𝓛 mem run).pre (to-position r₂ u₃))) (goes-position r₂ u₃) $
-          calls_at ! fm (Position 𝓛 mem run) known-position (to-position r₂ u₃) (and_then ! (load ! (from ! (stop !)) (look ! 5 refl)) (no_more !)) (λ u₄.
+          split ! $ move ! (1 ∷ []) $ use1 𝓛 (raw (fact 𝓤 (Moved r₁ m r₂))) (past_said r₁ m r₂) $ heard ! (Moved r₁ m r₂) (λ e₂. split ! $ move ! (1 ∷ []) $
+          peeks ! (B (κ, tt)) (Is (B (κ, tt))) (shows 𝓛 (B (κ, tt))) r₂ (u₃ ∷ []) (λ is₃. land ! (from ! (stop !)) (init ! 15 refl (reader_typed r₂ u₃ is₃).0) $
+          use1 𝓛 (‵ (Own r₂ u₃) ⊛ ‵ (Own r₂ u₃)) (twice r₂ u₃) $ split ! $ assigns ! (of_opd ! (load ! (from ! (stop !)) (look ! 16 refl))) (from ! (stop !)) (init ! 6 refl (reader_typed r₂ u₃ is₃).0) $
+          move ! (0 ∷ 2 ∷ []) $ use2 𝓛 (raw ((Position 𝓛 mem run).pre (to_position r₂ u₃))) (goes_position r₂ u₃) $
+          calls_at ! fm (Position 𝓛 mem run) known-position (to_position r₂ u₃) (and_then ! (load ! (from ! (stop !)) (look ! 5 refl)) (no_more !)) (λ u₄.
           use1 𝓛 (later (some (λ (k : ℕ). ((‵ (flft κ q) ⊛ ‵ ftrue) ⊛ ‵ (usize.own_val k (u₄ ∷ []))) ⊛ raw (ensured 𝓛 position.ended (position.clauses 𝓛 mem run) (κ, tt) (r₂, tt) tt k)))) (id⊢ 𝓤 _) $ await ! tt $ pick ! (λ k.
-          split ! $ move ! (1 ∷ []) $ use1 𝓛 (raw (fact 𝓤 (k ≡ r₂.at))) (position-said r₂ k) $ heard ! (k ≡ r₂.at) (λ f₂. split ! $ move ! (1 ∷ []) $
+          split ! $ move ! (1 ∷ []) $ use1 𝓛 (raw (fact 𝓤 (k ≡ r₂.at))) (position_said r₂ k) $ heard ! (k ≡ r₂.at) (λ f₂. split ! $ move ! (1 ∷ []) $
           peeks ! usize (Is usize) (shows 𝓛 usize) k (u₄ ∷ []) (λ is₄. land ! (from ! (stop !)) (init ! 14 refl ((uint_Lawful 𝓛 w64).typed k _ is₄).0) $
           -- [what k owns; the token; what the reader owns; what s owns; _11; …]: and how much is left
-          drop ! $ assigns ! (of_opd ! (load ! (from ! (stop !)) (look ! 15 refl))) (from ! (stop !)) (init ! 3 refl (reader-typed r₂ u₃ is₃).0) $ move ! (1 ∷ 0 ∷ []) $ use2 𝓛 (raw ((Left 𝓛 mem run).pre (to-left r₂ u₃))) (goes_left r₂ u₃) $
-          calls_at ! fm (Left 𝓛 mem run) known-left (to-left r₂ u₃) (and_then ! (load ! (from ! (stop !)) (look ! 2 refl)) (no_more !)) (λ u₅.
+          drop ! $ assigns ! (of_opd ! (load ! (from ! (stop !)) (look ! 15 refl))) (from ! (stop !)) (init ! 3 refl (reader_typed r₂ u₃ is₃).0) $ move ! (1 ∷ 0 ∷ []) $ use2 𝓛 (raw ((Left 𝓛 mem run).pre (to_left r₂ u₃))) (goes_left r₂ u₃) $
+          calls_at ! fm (Left 𝓛 mem run) known-left (to_left r₂ u₃) (and_then ! (load ! (from ! (stop !)) (look ! 2 refl)) (no_more !)) (λ u₅.
           use1 𝓛 (later (some (λ (l : ℕ). ((‵ (flft κ q) ⊛ ‵ ftrue) ⊛ ‵ (usize.own_val l (u₅ ∷ []))) ⊛ raw (ensured 𝓛 left.ended (left.clauses 𝓛 mem run) (κ, tt) (r₂, tt) tt l)))) (id⊢ 𝓤 _) $ await ! tt $ pick ! (λ l.
-          split ! $ move ! (1 ∷ []) $ use1 𝓛 (raw (fact 𝓤 (HasLeft r₂ l))) (left-said r₂ l) $ heard ! (HasLeft r₂ l) (λ f₃. split ! $ move ! (1 ∷ []) $
+          split ! $ move ! (1 ∷ []) $ use1 𝓛 (raw (fact 𝓤 (HasLeft r₂ l))) (left_said r₂ l) $ heard ! (HasLeft r₂ l) (λ f₃. split ! $ move ! (1 ∷ []) $
           peeks ! usize (Is usize) (shows 𝓛 usize) l (u₅ ∷ []) (λ is₅. land ! (from ! (stop !)) (init ! 11 refl ((uint_Lawful 𝓛 w64).typed l _ is₅).0) $
           -- [what l owns; the token; what s owns; _11; …]: they are put together
-          drop ! $ use0 𝓛 (raw ((SizedOf 𝓛 mem run).pre (to-sized m u₂ k u₄ l u₅))) (goes-sized m u₂ k u₄ l u₅ is₂ is₄ is₅) $
-          calls_at ! fm (SizedOf 𝓛 mem run) known-sized (to-sized m u₂ k u₄ l u₅) (and_then ! (load ! (from ! (stop !)) (look ! 17 refl)) (and_then ! (load ! (from ! (stop !)) (look ! 13 refl)) (and_then ! (load ! (from ! (stop !)) (look ! 11 refl)) (no_more !)))) (λ u₆.
+          drop ! $ use0 𝓛 (raw ((SizedOf 𝓛 mem run).pre (to_sized m u₂ k u₄ l u₅))) (goes_sized m u₂ k u₄ l u₅ is₂ is₄ is₅) $
+          calls_at ! fm (SizedOf 𝓛 mem run) known-sized (to_sized m u₂ k u₄ l u₅) (and_then ! (load ! (from ! (stop !)) (look ! 17 refl)) (and_then ! (load ! (from ! (stop !)) (look ! 13 refl)) (and_then ! (load ! (from ! (stop !)) (look ! 11 refl)) (no_more !)))) (λ u₆.
           use1 𝓛 (later (some (λ (z : Sized). (‵ ftrue ⊛ ‵ ((Z.the_row).own_val z (u₆ ∷ []))) ⊛ raw (ensured 𝓛 SizedOf.ended (SizedOf.clauses 𝓛 mem run) tt (m, (k, (l, tt))) tt z)))) (id⊢ 𝓤 _) $ await ! tt $ pick ! (λ z.
-          split ! $ move ! (1 ∷ []) $ use1 𝓛 (raw (fact 𝓤 (z ≡ sized_of m k l))) (sized-said m k l z) $ heard ! (z ≡ sized_of m k l) (λ g. split ! $ move ! (1 ∷ []) $
+          split ! $ move ! (1 ∷ []) $ use1 𝓛 (raw (fact 𝓤 (z ≡ sized_of m k l))) (sized_said m k l z) $ heard ! (z ≡ sized_of m k l) (λ g. split ! $ move ! (1 ∷ []) $
           -- [what the answer owns; …; the token; what s owns; _11; …]
           peeks ! Z.the_row (Is Z.the_row) (shows 𝓛 Z.the_row) z (u₆ ∷ []) (λ is₆. land ! (from ! (stop !)) (init ! 26 refl ((LL.lawful Z.the_type Z'.the_laws 𝓛).typed z _ is₆).0) $
           returns ! (look ! 26 refl) $ forget ! 4 refl $ forget ! 6 refl $ forget ! 8 refl $ forget ! 10 refl $ forget ! 12 refl $ forget ! 14 refl $ forget ! 16 refl $ forget ! 18 refl $ forget ! 20 refl $ forget ! 22 refl $ forget ! 24 refl $ forget ! 26 refl $
@@ -476,20 +476,20 @@ module _ (a b c : Parser ℕ) {M : Type 1} {𝓤 : Ura M} (𝓛 : Logic 𝓤) (m
     (known-new : Triple 𝓤 (𝓣.C #reader·new) (New 𝓛 mem run)) (known_past : Triple 𝓤 (𝓣.C #reader·past) (Past 𝓛 mem run)) (known-row : Triple 𝓤 (𝓣.C #reader·row-of) (RowOf 𝓛 mem run)) where
   open 𝓛 use {H}
 
-  in-row-walks : Walks 𝓛 rowing stayed (WpFn 𝓤 H 𝓣.C 𝓣.Λ (in_row i j k)) (rowed a b c 𝓤)
-  in-row-walks = walked 𝓛 rowing stayed (rowed a b c 𝓤) (WpFn 𝓤 H 𝓣.C 𝓣.Λ (in_row i j k)) (λ κs. (shr_slice_vals, (uint_vals w64, tt))) (λ κs. (shr_slice_Tells (named 0) κs.0 u8, (uint_Tells w64, tt)))
+  in_row_walks : Walks 𝓛 rowing stayed (WpFn 𝓤 H 𝓣.C 𝓣.Λ (in_row i j k)) (rowed a b c 𝓤)
+  in_row_walks = walked 𝓛 rowing stayed (rowed a b c 𝓤) (WpFn 𝓤 H 𝓣.C 𝓣.Λ (in_row i j k)) (λ κs. (shr_slice_vals, (uint_vals w64, tt))) (λ κs. (shr_slice_Tells (named 0) κs.0 u8, (uint_Tells w64, tt)))
       (λ κs qs bounds x g are. via 𝓤 _ (fst∗ 𝓤 _ (emp 𝓤)) (walk 𝓛 mem run κs.0 qs.0 x.0 x.1.0 are.1.0.1 a b c 𝓣.C 𝓣.Λ (fm_of 𝓤 H 𝓛.laws 𝓣) i j k known-i known-j known-k known-new known_past known-row are.0))
 
-  pub in-row-meets : Meets 𝓛 rowing.signature (WpFn 𝓤 H 𝓣.C 𝓣.Λ (in_row i j k)) (closing 𝓛 rowing (rowed a b c 𝓤))
-  in-row-meets = walk_Meets 𝓛 rowing stayed (Goes-none_slice 𝓛 1 (0 ∷ []) tt (plain (λ _. u8)) yes, (Goes-none 𝓛 1 (λ _. usize) yes (λ κs x g. refl), tt)) (rowed a b c 𝓤) (WpFn 𝓤 H 𝓣.C 𝓣.Λ (in_row i j k)) (WpFn-mono 𝓤 H 𝓛.laws 𝓣 (in_row i j k)) in-row-walks
+  pub in_row_meets : Meets 𝓛 rowing.signature (WpFn 𝓤 H 𝓣.C 𝓣.Λ (in_row i j k)) (closing 𝓛 rowing (rowed a b c 𝓤))
+  in_row_meets = walk_Meets 𝓛 rowing stayed (Goes-none_slice 𝓛 1 (0 ∷ []) tt (plain (λ _. u8)) yes, (Goes-none 𝓛 1 (λ _. usize) yes (λ κs x g. refl), tt)) (rowed a b c 𝓤) (WpFn 𝓤 H 𝓣.C 𝓣.Λ (in_row i j k)) (WpFn-mono 𝓤 H 𝓛.laws 𝓣 (in_row i j k)) in_row_walks
 
 module _ {M : Type 1} {𝓤 : Ura M} (𝓛 : Logic 𝓤) (mem : Memory → SProp 𝓤) (run : Routine → Fun 𝓤) (𝓣 : Tables 𝓤 𝓛.H) (known-u32 : Triple 𝓤 (𝓣.C #reader·read-u32) (Reading 𝓛 (number_at 4))) (known-new : Triple 𝓤 (𝓣.C #reader·new) (New 𝓛 mem run)) (known_past : Triple 𝓤 (𝓣.C #reader·past) (Past 𝓛 mem run))
     (known-position : Triple 𝓤 (𝓣.C #reader·position) (Position 𝓛 mem run)) (known-left : Triple 𝓤 (𝓣.C #reader·left) (Left 𝓛 mem run)) (known-sized : Triple 𝓤 (𝓣.C #reader·sized-of) (SizedOf 𝓛 mem run)) where
   open 𝓛 use {H}
 
-  in-size-walks : Walks 𝓛 sizing resting (WpFn 𝓤 H 𝓣.C 𝓣.Λ in_size) (sized 𝓤)
-  in-size-walks = walked 𝓛 sizing resting (sized 𝓤) (WpFn 𝓤 H 𝓣.C 𝓣.Λ in_size) (λ κs. (shr_slice_vals, (uint_vals w64, tt))) (λ κs. (shr_slice_Tells (named 0) κs.0 u8, (uint_Tells w64, tt)))
-      (λ κs qs bounds x g are. via 𝓤 _ (fst∗ 𝓤 _ (emp 𝓤)) (walk-size 𝓛 mem run κs.0 qs.0 x.0 x.1.0 are.1.0.1 𝓣.C 𝓣.Λ (fm_of 𝓤 H 𝓛.laws 𝓣) known-u32 known-new known_past known-position known-left known-sized are.0))
+  in_size_walks : Walks 𝓛 sizing resting (WpFn 𝓤 H 𝓣.C 𝓣.Λ in_size) (sized 𝓤)
+  in_size_walks = walked 𝓛 sizing resting (sized 𝓤) (WpFn 𝓤 H 𝓣.C 𝓣.Λ in_size) (λ κs. (shr_slice_vals, (uint_vals w64, tt))) (λ κs. (shr_slice_Tells (named 0) κs.0 u8, (uint_Tells w64, tt)))
+      (λ κs qs bounds x g are. via 𝓤 _ (fst∗ 𝓤 _ (emp 𝓤)) (walk_size 𝓛 mem run κs.0 qs.0 x.0 x.1.0 are.1.0.1 𝓣.C 𝓣.Λ (fm_of 𝓤 H 𝓛.laws 𝓣) known-u32 known-new known_past known-position known-left known-sized are.0))
 
-  pub in-size-meets : Meets 𝓛 sizing.signature (WpFn 𝓤 H 𝓣.C 𝓣.Λ in_size) (closing 𝓛 sizing (sized 𝓤))
-  in-size-meets = walk_Meets 𝓛 sizing resting (Goes-none_slice 𝓛 1 (0 ∷ []) tt (plain (λ _. u8)) yes, (Goes-none 𝓛 1 (λ _. usize) yes (λ κs x g. refl), tt)) (sized 𝓤) (WpFn 𝓤 H 𝓣.C 𝓣.Λ in_size) (WpFn-mono 𝓤 H 𝓛.laws 𝓣 in_size) in-size-walks
+  pub in_size_meets : Meets 𝓛 sizing.signature (WpFn 𝓤 H 𝓣.C 𝓣.Λ in_size) (closing 𝓛 sizing (sized 𝓤))
+  in_size_meets = walk_Meets 𝓛 sizing resting (Goes-none_slice 𝓛 1 (0 ∷ []) tt (plain (λ _. u8)) yes, (Goes-none 𝓛 1 (λ _. usize) yes (λ κs x g. refl), tt)) (sized 𝓤) (WpFn 𝓤 H 𝓣.C 𝓣.Λ in_size) (WpFn-mono 𝓤 H 𝓛.laws 𝓣 in_size) in_size_walks

@@ -15,27 +15,27 @@ use Rattle.records.specs.Relations.Head.{head_at, head_of}
 use Rattle.records.specs.Bytes.{number_at}
 use Rattle.records.specs.Decode.{many}
 use Rattle.records.specs.Images.{max_image, one_at}
-use Rattle.records.proofs.Laws.{next-step, next-stop}
+use Rattle.records.proofs.Laws.{next_step, next_stop}
 
 -- the head, part by part
 module _ (s : List ℕ) (at : ℕ) where
-  pub head-short : number_at 4 s at ≡ bad → head.Bad ≡ head_of (head_at s at)
+  pub head_short : number_at 4 s at ≡ bad → head.Bad ≡ head_of (head_at s at)
   unfolding head_of head_at after
-  head-short h = rw h
+  head_short h = rw h
 
   module _ {n p : ℕ} (hn : number_at 4 s at ≡ got n p) where
-    pub head-long : max_image < n → head.Bad ≡ head_of (head_at s at)
+    pub head_long : max_image < n → head.Bad ≡ head_of (head_at s at)
     unfolding head_of head_at after test
-    head-long h = rw (hn, lt-leb n max_image h)
+    head_long h = rw (hn, lt-leb n max_image h)
 
     module _ (l : n ≤ max_image) where
-      pub head-other : one_at s p ≡ bad → head.Bad ≡ head_of (head_at s at)
+      pub head_other : one_at s p ≡ bad → head.Bad ≡ head_of (head_at s at)
       unfolding head_of head_at after test
-      head-other h = rw (hn, le-leb n max_image l, h)
+      head_other h = rw (hn, le-leb n max_image l, h)
 
-      pub head-uncounted : {v q : ℕ} → one_at s p ≡ got v q → number_at 2 s q ≡ bad → head.Bad ≡ head_of (head_at s at)
+      pub head_uncounted : {v q : ℕ} → one_at s p ≡ got v q → number_at 2 s q ≡ bad → head.Bad ≡ head_of (head_at s at)
       unfolding head_of head_at after test
-      head-uncounted h k = rw (hn, le-leb n max_image l, h, k)
+      head_uncounted h k = rw (hn, le-leb n max_image l, h, k)
 
       pub head_read : {v q k r : ℕ} → one_at s p ≡ got v q → number_at 2 s q ≡ got k r → head.At n k r ≡ head_of (head_at s at)
       unfolding head_of head_at after test
@@ -77,9 +77,9 @@ module _ {A : Type 0} (elem : Parser A) (s : List ℕ) (at : ℕ) where
   rest : ℕ × ℕ → ℕ → Got (List A)
   rest h r = after (many [] ◌∷◌ h.1 elem s r) (λ es e. test (eqb e (at + h.0)) (got es e))
 
-  by-head : image ≡ after (head_at s at) rest
+  by_head : image ≡ after (head_at s at) rest
   unfolding head_at after test rest
-  by-head = go (number_at 4 s at)
+  by_head = go (number_at 4 s at)
     where
       count : (n : ℕ) (g : Got ℕ) → after g (λ k r. rest (n, k) r) ≡ after (after g (λ k r. got (n, k) r)) rest
       count n (got k r) = refl
@@ -98,19 +98,19 @@ module _ {A : Type 0} (elem : Parser A) (s : List ℕ) (at : ℕ) where
       go bad = refl
 
   module _ {r : Head} (is : r ≡ head_of (head_at s at)) where
-    pub image-bad : r ≡ head.Bad → next.Bad ≡ next_of image
+    pub image_bad : r ≡ head.Bad → next.Bad ≡ next_of image
     unfolding next_of after
-    image-bad h = ap next_of (sym (by-head ∙ ap (λ (g : Got (ℕ × ℕ)). after g rest) (head_none (head_at s at) is h)))
+    image_bad h = ap next_of (sym (by_head ∙ ap (λ (g : Got (ℕ × ℕ)). after g rest) (head_none (head_at s at) is h)))
 
     module _ {n k f : ℕ} (h : r ≡ head.At n k f) {x : Next} (all : x ≡ next_of (many [] ◌∷◌ k elem s f)) where
       headed : image ≡ rest (n, k) f
       unfolding after
-      headed = by-head ∙ ap (λ (g : Got (ℕ × ℕ)). after g rest) (head_is (head_at s at) is h)
+      headed = by_head ∙ ap (λ (g : Got (ℕ × ℕ)). after g rest) (head_is (head_at s at) is h)
 
-      pub image-stop : x ≡ next.Bad → next.Bad ≡ next_of image
+      pub image_stop : x ≡ next.Bad → next.Bad ≡ next_of image
       unfolding rest
-      image-stop w = next-stop _ _ all w ∙ ap next_of (sym headed)
+      image_stop w = next_stop _ _ all w ∙ ap next_of (sym headed)
 
-      pub image-end : {e : ℕ} {y : Next} → x ≡ next.At e → y ≡ next_of (test (eqb e (at + n)) (got e e)) → y ≡ next_of image
+      pub image_end : {e : ℕ} {y : Next} → x ≡ next.At e → y ≡ next_of (test (eqb e (at + n)) (got e e)) → y ≡ next_of image
       unfolding rest
-      image-end {e} w z = next-step _ _ all w (λ es. z ∙ ends_alike (eqb e (at + n)) e es e) ∙ ap next_of (sym headed)
+      image_end {e} w z = next_step _ _ all w (λ es. z ∙ ends_alike (eqb e (at + n)) e es e) ∙ ap next_of (sym headed)

@@ -14,34 +14,34 @@ use Rattle.records.specs.Relations.Write.{over, over_if, over_fit}
 
 module _ (d : List ℕ) (at : ℕ) (bs : List ℕ) where
   -- what fits is over what stood there; what does not changes nothing
-  pub fits-over : at + length bs ≤ length d → over_fit d at bs ≡ over d at bs
+  pub fits_over : at + length bs ≤ length d → over_fit d at bs ≡ over d at bs
   unfolding over_fit over_if
-  fits-over h = rw (le-leb (at + length bs) (length d) h)
+  fits_over h = rw (le-leb (at + length bs) (length d) h)
 
-  pub not-over : length d < at + length bs → over_fit d at bs ≡ d
+  pub not_over : length d < at + length bs → over_fit d at bs ≡ d
   unfolding over_fit over_if
-  not-over h = rw (lt-leb (at + length bs) (length d) h)
+  not_over h = rw (lt-leb (at + length bs) (length d) h)
 
   -- the library's two ways to write
-  pub fits-sets : at + length bs ≤ length d → over_fit d at bs ≡ sets d at bs
+  pub fits_sets : at + length bs ≤ length d → over_fit d at bs ≡ sets d at bs
   unfolding over
-  fits-sets h = fits-over h ∙ sym (sets-eq bs d at h)
+  fits_sets h = fits_over h ∙ sym (sets-eq bs d at h)
 
-  pub fits-paste : at + length bs ≤ length d → over_fit d at bs ≡ paste d at bs (length bs)
+  pub fits_paste : at + length bs ≤ length d → over_fit d at bs ≡ paste d at bs (length bs)
   unfolding over
-  fits-paste h = fits-over h ∙ rw (take-length bs)
+  fits_paste h = fits_over h ∙ rw (take-length bs)
 
   -- as the code's test says it
   module _ {t : Bool} (is : t ≡ leb (at + length bs) (length d)) where
     pub stays : t ≡ false → d ≡ over_fit d at bs
-    stays h = sym (not-over (leb-false (at + length bs) (length d) (sym is ∙ h)))
+    stays h = sym (not_over (leb-false (at + length bs) (length d) (sym is ∙ h)))
 
-  pub length-fit : length (over_fit d at bs) ≡ length d
-  length-fit = go (leb (at + length bs) (length d)) refl
+  pub length_fit : length (over_fit d at bs) ≡ length d
+  length_fit = go (leb (at + length bs) (length d)) refl
     where
       go : (t : Bool) → leb (at + length bs) (length d) ≡ t → length (over_fit d at bs) ≡ length d
-      go true h = let l = leb-true (at + length bs) (length d) h in ap length (fits-sets l) ∙ length-sets d at bs
-      go false h = ap length (not-over (leb-false (at + length bs) (length d) h))
+      go true h = let l = leb-true (at + length bs) (length d) h in ap length (fits_sets l) ∙ length-sets d at bs
+      go false h = ap length (not_over (leb-false (at + length bs) (length d) h))
 
 -- four bytes are two and two
 pub halves : (d : List ℕ) (at v : ℕ) → sets (sets d at (to_be 2 (v / 65536))) (at + 2) (to_be 2 (v % 65536)) ≡ sets d at (to_be 4 v)
@@ -56,9 +56,9 @@ halves d at v =
 pub four_written : (d : List ℕ) (at v : ℕ) {a b : List ℕ} → at + 4 ≤ length d → a ≡ over_fit d at (to_be 2 (v / 65536)) → b ≡ over_fit a (at + 2) (to_be 2 (v % 65536)) → b ≡ over_fit d at (to_be 4 v)
 unfolding to_be
 four_written d at v {a} {b} h p q =
-    let l : length a ≡ length d = ap length p ∙ length-fit d at (to_be 2 (v / 65536)) in
-    let x : a ≡ sets d at (to_be 2 (v / 65536)) = p ∙ fits-sets d at (to_be 2 (v / 65536)) (omega arith) in
-    q ∙ fits-sets a (at + 2) (to_be 2 (v % 65536)) (omega arith) ∙ ap (λ (t : List ℕ). sets t (at + 2) (to_be 2 (v % 65536))) x ∙ halves d at v ∙ sym (fits-sets d at (to_be 4 v) h)
+    let l : length a ≡ length d = ap length p ∙ length_fit d at (to_be 2 (v / 65536)) in
+    let x : a ≡ sets d at (to_be 2 (v / 65536)) = p ∙ fits_sets d at (to_be 2 (v / 65536)) (omega arith) in
+    q ∙ fits_sets a (at + 2) (to_be 2 (v % 65536)) (omega arith) ∙ ap (λ (t : List ℕ). sets t (at + 2) (to_be 2 (v % 65536))) x ∙ halves d at v ∙ sym (fits_sets d at (to_be 4 v) h)
 
 -- what is written is read
 pub be_to_be_2 : (v : ℕ) → v < 65536 → be (to_be 2 v) ≡ v

@@ -17,8 +17,8 @@ use Rattle.records.specs.Bytes.{part, number_at, span_at}
 use Rattle.decimals.specs.Bytes.{same_bytes}
 use Rattle.records.specs.Decode.{many}
 use Rattle.records.specs.Images.{Entry, Store, max_image, is_some, entry_at, store_of, resource_of}
-use Rattle.records.proofs.Laws.{after_is, after-elim, got_elim}
-use Rattle.records.proofs.Views.{both, never, as_elim, many-cons, many-nil}
+use Rattle.records.proofs.Laws.{after_is, after_elim, got_elim}
+use Rattle.records.proofs.Views.{both, never, as_elim, many_cons, many_nil}
 use Rattle.entries.specs.Lookup.{Holder, Find, first_entry, find_in}
 use Rattle.records.specs.Optional.{or_else, option_of}
 use Rattle.entries.specs.Outline.{behind, entry_outline}
@@ -27,7 +27,7 @@ use Rattle.repeats.specs.Relations.Seen.{seen_after}
 use Rattle.entries.specs.Relations.Marked.{marked}
 use Rattle.entries.proofs.Open.{whole_resource}
 use Rattle.entries.proofs.Lengths.{entry_size}
-use Rattle.entries.proofs.Decoded.{first-unread, first-endless, turn_ends, id_there}
+use Rattle.entries.proofs.Decoded.{first_unread, first_endless, turn_ends, id_there}
 
 pub or_true : (b : Bool) → b || true ≡ true
 or_true true = refl
@@ -44,16 +44,16 @@ held_after find seen (e ∷ es) i = held_after find (e.id ∷ seen) es i ∙ go 
     go false = refl
 
 module _ (find : Find) (pre : List Entry) (i : List ℕ) where
-  pub mark-among : true ≡ is_some (first_entry i pre) → eqb 1 1 ≡ is_held find (seen_after [] pre) i
-  mark-among h = eq-eqb 1 1 refl ∙ ap (λ (b : Bool). b || is_held find [] i) h ∙ sym (held_after find [] pre i)
+  pub mark_among : true ≡ is_some (first_entry i pre) → eqb 1 1 ≡ is_held find (seen_after [] pre) i
+  mark_among h = eq-eqb 1 1 refl ∙ ap (λ (b : Bool). b || is_held find [] i) h ∙ sym (held_after find [] pre i)
 
-  pub mark-held : false ≡ is_some (first_entry i pre) → true ≡ is_some (find i) → eqb 1 1 ≡ is_held find (seen_after [] pre) i
+  pub mark_held : false ≡ is_some (first_entry i pre) → true ≡ is_some (find i) → eqb 1 1 ≡ is_held find (seen_after [] pre) i
   unfolding is_held
-  mark-held h k = eq-eqb 1 1 refl ∙ k ∙ ap (λ (b : Bool). b || is_some (find i)) h ∙ sym (held_after find [] pre i)
+  mark_held h k = eq-eqb 1 1 refl ∙ k ∙ ap (λ (b : Bool). b || is_some (find i)) h ∙ sym (held_after find [] pre i)
 
-  pub mark-free : false ≡ is_some (first_entry i pre) → false ≡ is_some (find i) → eqb 0 1 ≡ is_held find (seen_after [] pre) i
+  pub mark_free : false ≡ is_some (first_entry i pre) → false ≡ is_some (find i) → eqb 0 1 ≡ is_held find (seen_after [] pre) i
   unfolding is_held
-  mark-free h k = ne_eqb 0 1 (λ z. omega arith) ∙ k ∙ ap (λ (b : Bool). b || is_some (find i)) h ∙ sym (held_after find [] pre i)
+  mark_free h k = ne_eqb 0 1 (λ z. omega arith) ∙ k ∙ ap (λ (b : Bool). b || is_some (find i)) h ∙ sym (held_after find [] pre i)
 
 -- one read more at the end
 pub many_snoc : {A : Type 0} (p : Parser A) (s : List ℕ) (k at : ℕ) {l : List A} {i : ℕ} {x : A} {e : ℕ} → many [] ◌∷◌ k p s at ≡ got l i → p s i ≡ got x e → many [] ◌∷◌ (suc k) p s at ≡ got (l ++ (x ∷ [])) e
@@ -63,7 +63,7 @@ many_snoc p s zero at {l} {i} {x} {e} h hx =
     let hx' : p s at ≡ got x e = subst (λ (z : ℕ). p s z ≡ got x e) (sym ei) hx in
     after_is (p s at) _ hx' ∙ after_is (many [] ◌∷◌ zero p s e) _ refl ∙ ap (λ (z : List _). got (z ++ (x ∷ [])) e) el)
 many_snoc p s (suc k) at {l} {i} {x} {e} h hx =
-    after-elim (p s at) _ h (λ a j ha h.
+    after_elim (p s at) _ h (λ a j ha h.
     as_elim (λ (r : List _). a ∷ r) _ h (λ l' hl w.
     after_is (p s at) _ ha ∙ after_is (many [] ◌∷◌ (suc k) p s j) _ (many_snoc p s k j hl hx) ∙ ap (λ (z : List _). got (z ++ (x ∷ [])) e) (sym w)))
 
@@ -78,23 +78,23 @@ module _ (s image : List ℕ) (start : ℕ) (R : Store → Type 0) where
   MarkFrom n k at marks out = (st : Store) (u : ℕ) → store_of s ≡ got st u → R st → (pre : List Entry) → many [] ◌∷◌ k entry_at image start ≡ got pre at → (es : List Entry) (f : ℕ) → many [] ◌∷◌ n entry_at image at ≡ got es f
       → (marked out k es ≡ repeats_from (find_in st.items) (seen_after [] pre) es) × ((j : ℕ) → j < k → get_or out j 0 ≡ get_or marks j 0)
 
-  pub marks-none : (n k at : ℕ) (marks : List ℕ) → n ≤ 0 → MarkFrom n k at marks marks
+  pub marks_none : (n k at : ℕ) (marks : List ℕ) → n ≤ 0 → MarkFrom n k at marks marks
   unfolding marked repeats_from
-  marks-none n k at marks z st u hs rs pre hp es f q = many-nil [] ◌∷◌ entry_at image n at z q (λ el _. (rw el, λ j h. refl))
+  marks_none n k at marks z st u hs rs pre hp es f q = many_nil [] ◌∷◌ entry_at image n at z q (λ el _. (rw el, λ j h. refl))
 
-  pub marks-bad : (n k at : ℕ) (marks out : List ℕ) → 0 < n → behind 1 span_at image at ≡ bad → MarkFrom n k at marks out
-  marks-bad n k at marks out z h st u hs rs pre hp es f q = first-unread image n at z q h
+  pub marks_bad : (n k at : ℕ) (marks out : List ℕ) → 0 < n → behind 1 span_at image at ≡ bad → MarkFrom n k at marks out
+  marks_bad n k at marks out z h st u hs rs pre hp es f q = first_unread image n at z q h
 
-  pub marks-stuck : (n k at : ℕ) (marks out : List ℕ) {r : Next} → 0 < n → r ≡ next_of (entry_outline image at) → r ≡ next.Bad → MarkFrom n k at marks out
-  marks-stuck n k at marks out z is b st u hs rs pre hp es f q = first-endless image n at z q is b
+  pub marks_stuck : (n k at : ℕ) (marks out : List ℕ) {r : Next} → 0 < n → r ≡ next_of (entry_outline image at) → r ≡ next.Bad → MarkFrom n k at marks out
+  marks_stuck n k at marks out z is b st u hs rs pre hp es f q = first_endless image n at z q is b
 
   abbrev pub Marks : ℕ → ℕ → ℕ → ℕ → ℕ → Type 0
   Marks m k at a e = (st : Store) (f : ℕ) (pre : List Entry) → store_of s ≡ got st f → R st → many [] ◌∷◌ k entry_at image start ≡ got pre at → eqb m 1 ≡ is_held (find_in st.items) (seen_after [] pre) (part image a (e - a))
 
-  pub marks-next : (count k at : ℕ) (marks : List ℕ) (m : ℕ) (marks' out : List ℕ) {a e i : ℕ} {r : Next} → k < count → k < length marks → behind 1 span_at image at ≡ got a e → Marks m k at a e → marks' ≡ set marks k m
+  pub marks_next : (count k at : ℕ) (marks : List ℕ) (m : ℕ) (marks' out : List ℕ) {a e i : ℕ} {r : Next} → k < count → k < length marks → behind 1 span_at image at ≡ got a e → Marks m k at a e → marks' ≡ set marks k m
       → r ≡ next_of (entry_outline image at) → r ≡ next.At i → MarkFrom (count - (k + 1)) (k + 1) i marks' out → MarkFrom (count - k) k at marks out
   unfolding marked repeats_from
-  marks-next count k at marks m marks' out {a} {e} {i} lt lm h hm hs' is w rest st u hs rs pre hp es f q =
+  marks_next count k at marks m marks' out {a} {e} {i} lt lm h hm hs' is w rest st u hs rs pre hp es f q =
       turn_ends image count k at lt q is w (λ x es' hx hl el.
       let hp' : many [] ◌∷◌ (k + 1) entry_at image start ≡ got (pre ++ (x ∷ [])) i = rw add-one (many_snoc entry_at image k start hp hx) in
       let ih = rest st u hs rs (pre ++ (x ∷ [])) hp' es' f hl in
@@ -109,9 +109,9 @@ module _ (s image : List ℕ) (start : ℕ) (R : Store → Type 0) where
 
 -- how many entries an image can have
 entries_bytes : (s : List ℕ) (n at : ℕ) {es : List Entry} {f : ℕ} → many [] ◌∷◌ n entry_at s at ≡ got es f → at + n * 6 ≤ f
-entries_bytes s zero at h = many-nil [] ◌∷◌ entry_at s zero at (omega arith) h (λ _ ef. omega arith)
+entries_bytes s zero at h = many_nil [] ◌∷◌ entry_at s zero at (omega arith) h (λ _ ef. omega arith)
 entries_bytes s (suc n) at {es} {f} h =
-    many-cons [] ◌∷◌ entry_at s (suc n) at (omega arith) h (λ x e es' hx hl _.
+    many_cons [] ◌∷◌ entry_at s (suc n) at (omega arith) h (λ x e es' hx hl _.
     let m : suc n - 1 ≡ n = omega arith in
     let ih = entries_bytes s n e (subst (λ (j : ℕ). many [] ◌∷◌ j entry_at s e ≡ got es' f) m hl) in
     let b = entry_size s at hx in let b0 = b.0 in

@@ -18,7 +18,7 @@ use Rattle.decimals.specs.Bytes.{same_bytes}
 use Rattle.records.specs.Decode.{many}
 use Rattle.records.specs.Images.{Entry, Item, Store, is_some, entry_at, item_at, store_of}
 use Rattle.decimals.proofs.Same.{same_eq}
-use Rattle.records.proofs.Views.{both, never, many-cons, many-nil}
+use Rattle.records.proofs.Views.{both, never, many_cons, many_nil}
 use Rattle.entries.specs.Lookup.{Holder, Find, first_entry, last_entry, holder_after, find_from, find_in}
 use Rattle.records.specs.Optional.{or_else, option_of}
 use Rattle.entries.specs.Outline.{behind, entry_outline}
@@ -26,26 +26,26 @@ use Rattle.walks.specs.Relations.Passes.{Passes}
 use Rattle.entries.specs.Repeats.{is_held}
 use Rattle.repeats.specs.Relations.Seen.{seen_after}
 use Rattle.repeats.specs.Relations.Slots.{has_id, seek_of, slotted, PlacesAll, Stands, Notes, NotesEntries, NotesItem, Ready}
-use Rattle.entries.proofs.Decoded.{first-unread, first-endless, first_ends, id_there}
+use Rattle.entries.proofs.Decoded.{first_unread, first_endless, first_ends, id_there}
 use Rattle.entries.proofs.Open.{item_cases, resource_parts, function_parts, store_parts}
 use Rattle.entries.proofs.Walk.{not_read, end_of}
-use Rattle.repeats.proofs.Marking.{held_after, mark-among}
+use Rattle.repeats.proofs.Marking.{held_after, mark_among}
 use Rattle.repeats.proofs.Places.{zero_at}
-use Rattle.repeats.proofs.Seeking.{same_refl, span_one, stands-id}
+use Rattle.repeats.proofs.Seeking.{same_refl, span_one, stands_id}
 
 -- what is noted of an id
 module _ (image places held : List ℕ) where
-  pub notes-nothing : Notes image places held (λ x. false) held
-  notes-nothing = record { same = refl; notes = λ l x st. refl }
+  pub notes_nothing : Notes image places held (λ x. false) held
+  notes_nothing = record { same = refl; notes = λ l x st. refl }
 
   module _ (id : List ℕ) (h : ℕ) (eh : h ≡ seek_of image places id) where
     -- ids that stand in one slot are the same
-    one-id : (x : List ℕ) → Stands image places x → seek_of image places x ≡ h → h < 8200 → id ≡ x
-    one-id x st eq lt =
+    one_id : (x : List ℕ) → Stands image places x → seek_of image places x ≡ h → h < 8200 → id ≡ x
+    one_id x st eq lt =
         let t = st.taken in
         let es : slotted image places id ≡ slotted image places x = ap (λ (k : ℕ). get_or places k 0) (sym eh ∙ sym eq) in
         let own : Stands image places id = record { inside = omega arith; taken = omega arith } in
-        span_one image id x (behind 1 span_at image (slotted image places x)) (ap (has_id image id) (sym es) ∙ stands-id image places id own) (stands-id image places x st)
+        span_one image id x (behind 1 span_at image (slotted image places x)) (ap (has_id image id) (sym es) ∙ stands_id image places id own) (stands_id image places x st)
 
     slot_same : (x : List ℕ) → same_bytes id x ≡ true → seek_of image places x ≡ h
     slot_same x y = ap (seek_of image places) (sym (same_eq id x y)) ∙ sym eh
@@ -54,14 +54,14 @@ module _ (image places held : List ℕ) where
     untold true c n = absurd (n refl)
     untold false c n = refl
 
-    pub notes-none : 8200 ≤ h → Notes image places held (same_bytes id) held
-    notes-none l = record {
+    pub notes_none : 8200 ≤ h → Notes image places held (same_bytes id) held
+    notes_none l = record {
       same = refl;
       notes = λ _ x st. untold (same_bytes id x) (eqb (get_or held (seek_of image places x) 0) 1) (λ y. let e = slot_same x y in let i = st.inside in omega arith);
     }
 
-    pub notes-one : h < 8200 → Notes image places held (same_bytes id) (set held h 1)
-    notes-one lt = record {
+    pub notes_one : h < 8200 → Notes image places held (same_bytes id) (set held h 1)
+    notes_one lt = record {
       same = length-set held h 1;
       notes = λ l x st. go l x st (eqb (seek_of image places x) h) refl;
     }
@@ -70,7 +70,7 @@ module _ (image places held : List ℕ) where
             → eqb (get_or (set held h 1) (seek_of image places x) 0) 1 ≡ same_bytes id x || eqb (get_or held (seek_of image places x) 0) 1
         go l x st true t =
             let eq : seek_of image places x ≡ h = eqb-true (seek_of image places x) h t in
-            let ix : id ≡ x = one-id x st eq lt in
+            let ix : id ≡ x = one_id x st eq lt in
             let y : same_bytes id x ≡ true = ap (same_bytes id) (sym ix) ∙ same_refl id in
             let v : get_or (set held h 1) (seek_of image places x) 0 ≡ 1 = ap (λ (k : ℕ). get_or (set held h 1) k 0) eq ∙ get_or-set_same held h 1 0 (omega arith) in
             eq-eqb (get_or (set held h 1) (seek_of image places x) 0) 1 v ∙ ap (λ (c : Bool). c || eqb (get_or held (seek_of image places x) 0) 1) (sym y)
@@ -151,13 +151,13 @@ some_find i xs x = sym (some_from xs x (holder_after i x none))
 module _ (s image places : List ℕ) where
   pub entries_none : {n at : ℕ} {held : List ℕ} → n ≤ 0 → NotesEntries s image places n at held held
   unfolding first_entry is_some
-  entries_none {n} {at} {held} z = record { says = λ es f q. many-nil [] ◌∷◌ entry_at s n at z q (λ el _. rw el (notes-nothing image places held)) }
+  entries_none {n} {at} {held} z = record { says = λ es f q. many_nil [] ◌∷◌ entry_at s n at z q (λ el _. rw el (notes_nothing image places held)) }
 
-  pub entries-bad : {n at : ℕ} {held out : List ℕ} → 0 < n → behind 1 span_at s at ≡ bad → NotesEntries s image places n at held out
-  entries-bad {n} {at} z h = record { says = λ es f q. first-unread s n at z q h }
+  pub entries_bad : {n at : ℕ} {held out : List ℕ} → 0 < n → behind 1 span_at s at ≡ bad → NotesEntries s image places n at held out
+  entries_bad {n} {at} z h = record { says = λ es f q. first_unread s n at z q h }
 
-  pub entries-stuck : {n at : ℕ} {held out : List ℕ} {r : Next} → 0 < n → r ≡ next_of (entry_outline s at) → r ≡ next.Bad → NotesEntries s image places n at held out
-  entries-stuck {n} {at} z is b = record { says = λ es f q. first-endless s n at z q is b }
+  pub entries_stuck : {n at : ℕ} {held out : List ℕ} {r : Next} → 0 < n → r ≡ next_of (entry_outline s at) → r ≡ next.Bad → NotesEntries s image places n at held out
+  entries_stuck {n} {at} z is b = record { says = λ es f q. first_endless s n at z q is b }
 
   pub entries_next : {n at a e i : ℕ} {held mid out : List ℕ} {r : Next} → 0 < n → behind 1 span_at s at ≡ got a e → Notes image places held (same_bytes (part s a (e - a))) mid
       → r ≡ next_of (entry_outline s at) → r ≡ next.At i → NotesEntries s image places (n - 1) i mid out → NotesEntries s image places n at held out
@@ -170,20 +170,20 @@ module _ (s image places : List ℕ) where
   }
 
   -- an item
-  pub item-unread : {at : ℕ} {held out : List ℕ} → byte_at s at ≡ bad → NotesItem s image places at held out
-  item-unread {at} h = record { says = λ x f q. item_cases s at q (λ p es hb _ _. never h hb) (λ p es hb _ _. never h hb) (λ p i hb _ _. never h hb) }
+  pub item_unread : {at : ℕ} {held out : List ℕ} → byte_at s at ≡ bad → NotesItem s image places at held out
+  item_unread {at} h = record { says = λ x f q. item_cases s at q (λ p es hb _ _. never h hb) (λ p es hb _ _. never h hb) (λ p i hb _ _. never h hb) }
 
   module _ {m p at : ℕ} (h : byte_at s at ≡ got m p) {held out : List ℕ} where
-    pub function-unread : m ≡ 3 → behind 6 span_at s p ≡ bad → NotesItem s image places at held out
-    function-unread e k = record {
+    pub function_unread : m ≡ 3 → behind 6 span_at s p ≡ bad → NotesItem s image places at held out
+    function_unread e k = record {
       says = λ x f q. item_cases s at q
           (λ p' es hb _ _. both h hb (λ em _. absurd (omega arith))) (λ p' es hb _ _. both h hb (λ em _. absurd (omega arith)))
           (λ p' i hb hr _. both h hb (λ _ ep. function_parts s p' hr (λ n w a _ _ hs _ _. never (subst (λ (z : ℕ). behind 6 span_at s z ≡ bad) ep k) hs)));
     }
 
-    pub function-noted : {a e : ℕ} → m ≡ 3 → behind 6 span_at s p ≡ got a e → Notes image places held (same_bytes (part s a (e - a))) out → NotesItem s image places at held out
+    pub function_noted : {a e : ℕ} → m ≡ 3 → behind 6 span_at s p ≡ got a e → Notes image places held (same_bytes (part s a (e - a))) out → NotesItem s image places at held out
     unfolding holder_after or_else
-    function-noted {a} {e} t k one = record {
+    function_noted {a} {e} t k one = record {
       says = λ x f q. item_cases s at q
           (λ p' es hb _ _. both h hb (λ em _. absurd (omega arith))) (λ p' es hb _ _. both h hb (λ em _. absurd (omega arith)))
           (λ p' i hb hr ex. both h hb (λ _ ep. function_parts s p' hr (λ n w a' _ _ hs ei _.
@@ -192,45 +192,45 @@ module _ (s image places : List ℕ) where
           notes_as one (λ y. ap (λ (t : List ℕ). same_bytes t y) ip ∙ sym (some_named (same_bytes i y) Holder.function) ∙ ap (λ (z : Item). is_some (holder_after z y none)) (sym ex))))));
     }
 
-    pub resource-unread : (m ≡ 3 → ⊥) → behind 5 (number_at 2) s p ≡ bad → NotesItem s image places at held out
-    resource-unread n k = record {
+    pub resource_unread : (m ≡ 3 → ⊥) → behind 5 (number_at 2) s p ≡ bad → NotesItem s image places at held out
+    resource_unread n k = record {
       says = λ x f q. item_cases s at q
           (λ p' es hb hr _. both h hb (λ _ ep. resource_parts s p' hr (λ _ _ c r _ _ _ hk _ _ _. never (subst (λ (z : ℕ). behind 5 (number_at 2) s z ≡ bad) ep k) hk)))
           (λ p' es hb hr _. both h hb (λ _ ep. resource_parts s p' hr (λ _ _ c r _ _ _ hk _ _ _. never (subst (λ (z : ℕ). behind 5 (number_at 2) s z ≡ bad) ep k) hk)))
           (λ p' i hb _ _. both h hb (λ em _. absurd (n em)));
     }
 
-    pub resource-noted : {c r : ℕ} → (m ≡ 3 → ⊥) → behind 5 (number_at 2) s p ≡ got c r → NotesEntries s image places c r held out → NotesItem s image places at held out
+    pub resource_noted : {c r : ℕ} → (m ≡ 3 → ⊥) → behind 5 (number_at 2) s p ≡ got c r → NotesEntries s image places c r held out → NotesItem s image places at held out
     unfolding holder_after or_else is_some
-    resource-noted {c} {r} n k all = record {
+    resource_noted {c} {r} n k all = record {
       says = λ x f q. item_cases s at q
           (λ p' es hb hr ex. both h hb (λ _ ep. resource_parts s p' hr (λ _ _ c' r' _ _ _ hk _ hm _.
           both (subst (λ (z : ℕ). behind 5 (number_at 2) s z ≡ got c r) ep k) hk (λ ec er.
           notes_as (all.says es f (rw (ec, er) hm)) (λ y. ap (λ (z : Item). is_some (holder_after z y none)) (sym ex))))))
           (λ p' es hb hr ex. both h hb (λ _ ep. resource_parts s p' hr (λ _ _ c' r' _ _ _ hk _ hm _.
           both (subst (λ (z : ℕ). behind 5 (number_at 2) s z ≡ got c r) ep k) hk (λ ec er.
-          notes_as (all.says es f (rw (ec, er) hm)) (λ y. over-some y es ∙ ap (λ (z : Item). is_some (holder_after z y none)) (sym ex))))))
+          notes_as (all.says es f (rw (ec, er) hm)) (λ y. over_some y es ∙ ap (λ (z : Item). is_some (holder_after z y none)) (sym ex))))))
           (λ p' i hb _ _. both h hb (λ em _. absurd (n em)));
     }
       where
-        over-some : (y : List ℕ) (es : List Entry) → is_some (first_entry y es) ≡ is_some (or_else (last_entry y es) none)
-        over-some y es = some_last y es ∙ or_swap false (is_some (last_entry y es)) ∙ sym (some_or (last_entry y es) none)
+        over_some : (y : List ℕ) (es : List Entry) → is_some (first_entry y es) ≡ is_some (or_else (last_entry y es) none)
+        over_some y es = some_last y es ∙ or_swap false (is_some (last_entry y es)) ∙ sym (some_or (last_entry y es) none)
 
   -- the items of a store
   pub record NotesItems (n at : ℕ) (held out : List ℕ) : Type 0 where
     pub says : (xs : List Item) (f : ℕ) → many [] ◌∷◌ n item_at s at ≡ got xs f → Notes image places held (λ x. is_some (find_from xs x none)) out
 
-  pub items-none : {n at : ℕ} {held : List ℕ} → n ≤ 0 → NotesItems n at held held
+  pub items_none : {n at : ℕ} {held : List ℕ} → n ≤ 0 → NotesItems n at held held
   unfolding find_from is_some
-  items-none {n} {at} {held} z = record { says = λ es f q. many-nil [] ◌∷◌ item_at s n at z q (λ el _. rw el (notes-nothing image places held)) }
+  items_none {n} {at} {held} z = record { says = λ es f q. many_nil [] ◌∷◌ item_at s n at z q (λ el _. rw el (notes_nothing image places held)) }
 
-  pub items-stuck : {n at : ℕ} {held out : List ℕ} → 0 < n → Passes (item_at s at) next.Bad → NotesItems n at held out
-  items-stuck {n} {at} z w = record { says = λ es f q. many-cons [] ◌∷◌ item_at s n at z q (λ x e r hx _ _. not_read w x e hx) }
+  pub items_stuck : {n at : ℕ} {held out : List ℕ} → 0 < n → Passes (item_at s at) next.Bad → NotesItems n at held out
+  items_stuck {n} {at} z w = record { says = λ es f q. many_cons [] ◌∷◌ item_at s n at z q (λ x e r hx _ _. not_read w x e hx) }
 
-  pub items-next : {n at i : ℕ} {held mid out : List ℕ} → 0 < n → NotesItem s image places at held mid → Passes (item_at s at) (next.At i) → NotesItems (n - 1) i mid out → NotesItems n at held out
-  items-next {n} {at} {i} {held} {mid} {out} z one w rest = record {
+  pub items_next : {n at i : ℕ} {held mid out : List ℕ} → 0 < n → NotesItem s image places at held mid → Passes (item_at s at) (next.At i) → NotesItems (n - 1) i mid out → NotesItems n at held out
+  items_next {n} {at} {i} {held} {mid} {out} z one w rest = record {
     says = λ es f q.
-        many-cons [] ◌∷◌ item_at s n at z q (λ x j es' hx hl el.
+        many_cons [] ◌∷◌ item_at s n at z q (λ x j es' hx hl el.
         let ej : j ≡ i = end_of w x j hx in
         notes_as (notes_then (one.says x j hx) (rest.says es' f (rw (← ej) hl)))
         (λ y. some_find x es' y ∙ ap (λ (t : List Item). is_some (find_from t y none)) (sym el)));
@@ -239,12 +239,12 @@ module _ (s image places : List ℕ) where
   abbrev pub NotesStore : List ℕ → List ℕ → Type 0
   NotesStore held out = (st : Store) (f : ℕ) → store_of s ≡ got st f → Notes image places held (λ x. is_some (find_in st.items x)) out
 
-  pub store-unread : (held out : List ℕ) → number_at 2 s 7 ≡ bad → NotesStore held out
-  store-unread held out h st f q = store_parts s q (λ k _ _ hk _ _ _ _. never h hk)
+  pub store_unread : (held out : List ℕ) → number_at 2 s 7 ≡ bad → NotesStore held out
+  store_unread held out h st f q = store_parts s q (λ k _ _ hk _ _ _ _. never h hk)
 
-  pub store-noted : (held out : List ℕ) {k p : ℕ} → number_at 2 s 7 ≡ got k p → NotesItems k p held out → NotesStore held out
+  pub store_noted : (held out : List ℕ) {k p : ℕ} → number_at 2 s 7 ≡ got k p → NotesItems k p held out → NotesStore held out
   unfolding find_in
-  store-noted held out h w st f q = store_parts s q (λ k _ _ hk _ hm _ _. both h hk (λ ek ep. w.says st.items f (rw (ek, ep) hm)))
+  store_noted held out h w st f q = store_parts s q (λ k _ _ hk _ hm _ _. both h hk (λ ek ep. w.says st.items f (rw (ek, ep) hm)))
 
 -- both tables say what is held
 zero_not : (n h : ℕ) → eqb (get_or (replicate n 0) h 0) 1 ≡ false
@@ -270,9 +270,9 @@ module _ (image places held : List ℕ) (find : Find) (r : Ready image places he
   stands = let w = here in record { inside = omega arith; taken = omega arith }
 
   -- an entry that stands in its slot is not held by one before it
-  pub mark-quick : p ≡ at → eqb (get_or held h 0) 1 ≡ is_held find (seen_after [] pre) (part image a (e - a))
+  pub mark_quick : p ≡ at → eqb (get_or held h 0) 1 ≡ is_held find (seen_after [] pre) (part image a (e - a))
   unfolding is_held
-  mark-quick eq =
+  mark_quick eq =
       let id : List ℕ = part image a (e - a) in
       let m : eqb (get_or held h 0) 1 ≡ is_some (find id) = ap (λ (j : ℕ). eqb (get_or held j 0) 1) eh ∙ r.holds id stands in
       let f : is_some (first_entry id pre) ≡ false = go (is_some (first_entry id pre)) refl (λ y. let w = here in let o = (r.placed count start hc).low k pre at lk hp id y stands.inside in let o1 = o.1 in omega arith) in
@@ -283,8 +283,8 @@ module _ (image places held : List ℕ) (find : Find) (r : Ready image places he
       go false e n = e
 
   -- what stands in its slot from before is an entry before it
-  pub mark-before : p < at → eqb 1 1 ≡ is_held find (seen_after [] pre) (part image a (e - a))
-  mark-before l =
+  pub mark_before : p < at → eqb 1 1 ≡ is_held find (seen_after [] pre) (part image a (e - a))
+  mark_before l =
       let w = here in
-      let has : has_id image (part image a (e - a)) (get_or places h 0) ≡ true = ap (λ (j : ℕ). has_id image (part image a (e - a)) (get_or places j 0)) eh ∙ stands-id image places (part image a (e - a)) stands in
-      mark-among find pre (part image a (e - a)) (sym ((r.placed count start hc).first k pre at lk hp (part image a (e - a)) h (omega arith) (omega arith) has))
+      let has : has_id image (part image a (e - a)) (get_or places h 0) ≡ true = ap (λ (j : ℕ). has_id image (part image a (e - a)) (get_or places j 0)) eh ∙ stands_id image places (part image a (e - a)) stands in
+      mark_among find pre (part image a (e - a)) (sym ((r.placed count start hc).first k pre at lk hp (part image a (e - a)) h (omega arith) (omega arith) has))

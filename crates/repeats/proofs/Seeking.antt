@@ -47,80 +47,80 @@ span_one image x y bad h k = let z : ◌≡◌ {A = ℕ} 0 1 = cc in absurd (ome
 
 -- what suits an id
 module _ (image x : List ℕ) where
-  pub suits-free : {p : ℕ} → p ≡ 0 → true ≡ suits image x p
+  pub suits_free : {p : ℕ} → p ≡ 0 → true ≡ suits image x p
   unfolding suits
-  suits-free {p} e = sym (ap (λ (b : Bool). b || has_id image x p) (eq-eqb p 0 e))
+  suits_free {p} e = sym (ap (λ (b : Bool). b || has_id image x p) (eq-eqb p 0 e))
 
-  pub suits-taken : {p : ℕ} → (p ≡ 0 → ⊥) → suits image x p ≡ has_id image x p
+  pub suits_taken : {p : ℕ} → (p ≡ 0 → ⊥) → suits image x p ≡ has_id image x p
   unfolding suits
-  suits-taken {p} n = or_right (eqb p 0) (has_id image x p) (ne_eqb p 0 n)
+  suits_taken {p} n = or_right (eqb p 0) (has_id image x p) (ne_eqb p 0 n)
 
-  pub suits-id : (p : ℕ) → has_id image x p ≡ true → suits image x p ≡ true
+  pub suits_id : (p : ℕ) → has_id image x p ≡ true → suits image x p ≡ true
   unfolding suits
-  suits-id p h = ap (λ (b : Bool). eqb p 0 || b) h ∙ or_true (eqb p 0)
+  suits_id p h = ap (λ (b : Bool). eqb p 0 || b) h ∙ or_true (eqb p 0)
 
   pub not_free : {p : ℕ} → suits image x p ≡ false → 0 < p
   unfolding suits
   not_free {p} h = positive p (eqb-false p 0 (or_neither (eqb p 0) (has_id image x p) h))
 
-  pub suits-bad : {p : ℕ} → (p ≡ 0 → ⊥) → behind 1 span_at image p ≡ bad → false ≡ suits image x p
+  pub suits_bad : {p : ℕ} → (p ≡ 0 → ⊥) → behind 1 span_at image p ≡ bad → false ≡ suits image x p
   unfolding span_is
-  suits-bad {p} n h = sym (suits-taken n ∙ ap (span_is image x) h)
+  suits_bad {p} n h = sym (suits_taken n ∙ ap (span_is image x) h)
 
-  pub suits-span : {p a e : ℕ} → (p ≡ 0 → ⊥) → behind 1 span_at image p ≡ got a e → same_bytes (part image a (e - a)) x ≡ suits image x p
+  pub suits_span : {p a e : ℕ} → (p ≡ 0 → ⊥) → behind 1 span_at image p ≡ got a e → same_bytes (part image a (e - a)) x ≡ suits image x p
   unfolding span_is
-  suits-span {p} n h = sym (suits-taken n ∙ ap (span_is image x) h)
+  suits_span {p} n h = sym (suits_taken n ∙ ap (span_is image x) h)
 
   pub has_span : (p : ℕ) {a e : ℕ} → behind 1 span_at image p ≡ got a e → has_id image x p ≡ same_bytes (part image a (e - a)) x
   unfolding span_is
   has_span p h = ap (span_is image x) h
 
-  pub suited-at : (p : ℕ) {q : ℕ} {r b : Bool} → q ≡ p → r ≡ suits image x q → r ≡ b → suits image x p ≡ b
-  suited-at p eq is t = ap (suits image x) (sym eq) ∙ sym is ∙ t
+  pub suited_at : (p : ℕ) {q : ℕ} {r b : Bool} → q ≡ p → r ≡ suits image x q → r ≡ b → suits image x p ≡ b
+  suited_at p eq is t = ap (suits image x) (sym eq) ∙ sym is ∙ t
 
 -- steps of seeking
 module _ (image places x : List ℕ) where
-  pub seek-none : (n j : ℕ) → n ≤ 0 → seek_from image places x n j ≡ 8200
+  pub seek_none : (n j : ℕ) → n ≤ 0 → seek_from image places x n j ≡ 8200
   unfolding seek_from
-  seek-none zero j z = refl
-  seek-none (suc n) j z = absurd (omega arith)
+  seek_none zero j z = refl
+  seek_none (suc n) j z = absurd (omega arith)
 
-  pub seek-here : (n j : ℕ) → 0 < n → suits image x (get_or places j 0) ≡ true → seek_from image places x n j ≡ j
+  pub seek_here : (n j : ℕ) → 0 < n → suits image x (get_or places j 0) ≡ true → seek_from image places x n j ≡ j
   unfolding seek_from
-  seek-here zero j z h = absurd (omega arith)
-  seek-here (suc n) j z h = ap (λ (b : Bool). either b j (seek_from image places x n (suc j))) h
+  seek_here zero j z h = absurd (omega arith)
+  seek_here (suc n) j z h = ap (λ (b : Bool). either b j (seek_from image places x n (suc j))) h
 
-  pub seek-on : (n j : ℕ) → 0 < n → suits image x (get_or places j 0) ≡ false → seek_from image places x n j ≡ seek_from image places x (n - 1) (j + 1)
+  pub seek_on : (n j : ℕ) → 0 < n → suits image x (get_or places j 0) ≡ false → seek_from image places x n j ≡ seek_from image places x (n - 1) (j + 1)
   unfolding seek_from
-  seek-on zero j z h = absurd (omega arith)
-  seek-on (suc n) j z h =
+  seek_on zero j z h = absurd (omega arith)
+  seek_on (suc n) j z h =
       let e : suc n - 1 ≡ n = omega arith in
       let f : j + 1 ≡ suc j = add-one j in
       ap (λ (b : Bool). either b j (seek_from image places x n (suc j))) h ∙ ap (λ (m : ℕ). seek_from image places x m (suc j)) (sym e) ∙ ap (λ (i : ℕ). seek_from image places x (suc n - 1) i) (sym f)
 
   -- the loop of seek: h + j is the slot that it looks at, and 8 - j are left
-  pub seek-starts : {h : ℕ} → h ≡ slot_of x → seek_from image places x (8 - 0) (h + 0) ≡ seek_of image places x
+  pub seek_starts : {h : ℕ} → h ≡ slot_of x → seek_from image places x (8 - 0) (h + 0) ≡ seek_of image places x
   unfolding seek_of
-  seek-starts {h} e = let z : h + 0 ≡ slot_of x = omega arith in ap (seek_from image places x 8) z
+  seek_starts {h} e = let z : h + 0 ≡ slot_of x = omega arith in ap (seek_from image places x 8) z
 
   pub seek_found : (h : ℕ) {j : ℕ} → j < 8 → suits image x (get_or places (h + j) 0) ≡ true → seek_from image places x (8 - j) (h + j) ≡ seek_of image places x → h + j ≡ seek_of image places x
-  seek_found h {j} l t e = sym (seek-here (8 - j) (h + j) (omega arith) t) ∙ e
+  seek_found h {j} l t e = sym (seek_here (8 - j) (h + j) (omega arith) t) ∙ e
 
-  pub seek-turn : (h : ℕ) {j : ℕ} → j < 8 → suits image x (get_or places (h + j) 0) ≡ false → seek_from image places x (8 - j) (h + j) ≡ seek_of image places x
+  pub seek_turn : (h : ℕ) {j : ℕ} → j < 8 → suits image x (get_or places (h + j) 0) ≡ false → seek_from image places x (8 - j) (h + j) ≡ seek_of image places x
       → seek_from image places x (8 - (j + 1)) (h + (j + 1)) ≡ seek_of image places x
-  seek-turn h {j} l t e =
+  seek_turn h {j} l t e =
       let a : 8 - (j + 1) ≡ 8 - j - 1 = omega arith in
       let b : h + (j + 1) ≡ h + j + 1 = omega arith in
-      ap (λ (n : ℕ). seek_from image places x n (h + (j + 1))) a ∙ ap (seek_from image places x (8 - j - 1)) b ∙ sym (seek-on (8 - j) (h + j) (omega arith) t) ∙ e
+      ap (λ (n : ℕ). seek_from image places x n (h + (j + 1))) a ∙ ap (seek_from image places x (8 - j - 1)) b ∙ sym (seek_on (8 - j) (h + j) (omega arith) t) ∙ e
 
-  pub seek-ended : (h : ℕ) {j : ℕ} → 8 ≤ j → seek_from image places x (8 - j) (h + j) ≡ seek_of image places x → 8200 ≡ seek_of image places x
-  seek-ended h {j} l e = sym (seek-none (8 - j) (h + j) (omega arith)) ∙ e
+  pub seek_ended : (h : ℕ) {j : ℕ} → 8 ≤ j → seek_from image places x (8 - j) (h + j) ≡ seek_of image places x → 8200 ≡ seek_of image places x
+  seek_ended h {j} l e = sym (seek_none (8 - j) (h + j) (omega arith)) ∙ e
 
   -- what is found suits the id
-  suits-from : (n j : ℕ) → seek_from image places x n j < 8200 → suits image x (get_or places (seek_from image places x n j) 0) ≡ true
+  suits_from : (n j : ℕ) → seek_from image places x n j < 8200 → suits image x (get_or places (seek_from image places x n j) 0) ≡ true
   unfolding seek_from
-  suits-from zero j l = absurd (omega arith)
-  suits-from (suc n) j l = go (suits-from n (suc j)) (suits image x (get_or places j 0)) refl
+  suits_from zero j l = absurd (omega arith)
+  suits_from (suc n) j l = go (suits_from n (suc j)) (suits image x (get_or places j 0)) refl
     where
       go : (seek_from image places x n (suc j) < 8200 → suits image x (get_or places (seek_from image places x n (suc j)) 0) ≡ true) → (b : Bool) → suits image x (get_or places j 0) ≡ b
           → suits image x (get_or places (either (suits image x (get_or places j 0)) j (seek_from image places x n (suc j))) 0) ≡ true
@@ -129,19 +129,19 @@ module _ (image places x : List ℕ) where
           let er : either (suits image x (get_or places j 0)) j (seek_from image places x n (suc j)) ≡ seek_from image places x n (suc j) = ap (λ (b : Bool). either b j (seek_from image places x n (suc j))) e in
           ap (λ (b : Bool). suits image x (get_or places (either b j (seek_from image places x n (suc j))) 0)) e ∙ ih (omega arith)
 
-  pub seek-suits : seek_of image places x < 8200 → suits image x (slotted image places x) ≡ true
+  pub seek_suits : seek_of image places x < 8200 → suits image x (slotted image places x) ≡ true
   unfolding seek_of
-  seek-suits l = suits-from 8 (slot_of x) l
+  seek_suits l = suits_from 8 (slot_of x) l
 
-  pub stands-id : Stands image places x → has_id image x (slotted image places x) ≡ true
-  stands-id st = let t = st.taken in sym (suits-taken image x (λ z. let w : slotted image places x ≡ 0 = z in omega arith)) ∙ seek-suits st.inside
+  pub stands_id : Stands image places x → has_id image x (slotted image places x) ≡ true
+  stands_id st = let t = st.taken in sym (suits_taken image x (λ z. let w : slotted image places x ≡ 0 = z in omega arith)) ∙ seek_suits st.inside
 
   -- an id's slot stays its slot, where slots that are taken stay as they are
   module _ (later : List ℕ) (kept : (j : ℕ) → 0 < get_or places j 0 → get_or later j 0 ≡ get_or places j 0) where
-    stays-from : (n j : ℕ) → j + n ≤ 8200 → (seek_from image places x n j < 8200 → suits image x (get_or later (seek_from image places x n j) 0) ≡ true) → seek_from image later x n j ≡ seek_from image places x n j
+    stays_from : (n j : ℕ) → j + n ≤ 8200 → (seek_from image places x n j < 8200 → suits image x (get_or later (seek_from image places x n j) 0) ≡ true) → seek_from image later x n j ≡ seek_from image places x n j
     unfolding seek_from
-    stays-from zero j l h = refl
-    stays-from (suc n) j l h = go (stays-from n (suc j) (omega arith)) (suits image x (get_or places j 0)) refl
+    stays_from zero j l h = refl
+    stays_from (suc n) j l h = go (stays_from n (suc j) (omega arith)) (suits image x (get_or places j 0)) refl
       where
         rest : Bool → ℕ
         rest b = either b j (seek_from image places x n (suc j))
@@ -159,6 +159,6 @@ module _ (image places x : List ℕ) where
             ∙ ih (λ g. ap (λ (i : ℕ). suits image x (get_or later i 0)) (sym er) ∙ h (omega arith))
             ∙ sym er
 
-    pub seek-stays : (seek_of image places x < 8200 → suits image x (get_or later (seek_of image places x) 0) ≡ true) → seek_of image later x ≡ seek_of image places x
+    pub seek_stays : (seek_of image places x < 8200 → suits image x (get_or later (seek_of image places x) 0) ≡ true) → seek_of image later x ≡ seek_of image places x
     unfolding seek_of
-    seek-stays h = let s = slot_small x in stays-from 8 (slot_of x) (omega arith) h
+    seek_stays h = let s = slot_small x in stays_from 8 (slot_of x) (omega arith) h

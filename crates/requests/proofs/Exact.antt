@@ -12,15 +12,15 @@ use Rattle.records.specs.Got.{got}
 use Rattle.records.specs.Bytes.{be, part, bytes_at, number_at}
 use Rattle.records.specs.Encode.{enc_str, enc_optional}
 use Rattle.records.specs.Valid.{Fits, ValidId, IfAny, All}
-use Rattle.records.proofs.Laws.{number_in, bytes-in, bytes_inv, got_elim, after_is}
+use Rattle.records.proofs.Laws.{number_in, bytes_in, bytes_inv, got_elim, after_is}
 use Rattle.rules.specs.Rules.{is_id}
 use Rattle.layout.specs.Exact.{Stands, Octets, Exact}
-use Rattle.layout.proofs.Stands.{octets_part, length_part, stands-length, join}
+use Rattle.layout.proofs.Stands.{octets_part, length_part, stands_length, join}
 use Rattle.layout.proofs.Octets.{octets_append}
-use Rattle.layout.proofs.Steps.{Read, took, gives, ahead, as-last, passes}
-use Rattle.layout.proofs.Patterns.{id_exact, optional-exact}
-use Rattle.layout.proofs.Images.{image-exact, whole-sound, whole-complete}
-use Rattle.layout.proofs.Theorems.{at-injective}
+use Rattle.layout.proofs.Steps.{Read, took, gives, ahead, as_last, passes}
+use Rattle.layout.proofs.Patterns.{id_exact, optional_exact}
+use Rattle.layout.proofs.Images.{image_exact, whole_sound, whole_complete}
+use Rattle.layout.proofs.Theorems.{at_injective}
 use Rattle.requests.specs.Image.{Request, max_sheet, min_arguments, arguments_bytes_at, request_at, sheet_at, sheet_of}
 use Rattle.requests.specs.Encode.{enc_request, enc_sheet}
 use Rattle.requests.specs.Valid.{ValidArgumentsBytes, ValidRequest, ValidSheet}
@@ -48,13 +48,13 @@ unfolding arguments_bytes_at ValidArgumentsBytes min_arguments
 bytes_complete {s} {at} {e} {b} ok h =
     let few : 7 ≤ length b = ok.1 in
     let w : e ≤ length s = h.within in
-    let l : at + length b ≡ e = stands-length h in
+    let l : at + length b ≡ e = stands_length h in
     let m : e - at ≡ length b = omega arith in
     let y : part s at (length b) ≡ b = ap (λ (j : ℕ). part s at j) (sym m) ∙ h.bytes in
     let x : part s at 4 ≡ part b 0 4 = sym (take-take 4 (length b) (drop at s) (omega arith)) ∙ ap (take 4) y in
     let v : be (part s at 4) ≡ length b = ap be x ∙ ok.3 in
     let n : number_at 4 s at ≡ got (length b) (at + 4) = number_in s at 4 (omega arith) ∙ ap (λ (j : ℕ). got j (at + 4)) v in
-    let t : bytes_at (length b) s at ≡ got b e = bytes-in s at (length b) (omega arith) ∙ ap (λ (j : List ℕ). got j (at + length b)) y ∙ ap (λ (j : ℕ). got b j) l in
+    let t : bytes_at (length b) s at ≡ got b e = bytes_in s at (length b) (omega arith) ∙ ap (λ (j : List ℕ). got j (at + length b)) y ∙ ap (λ (j : ℕ). got b j) l in
     after_is (number_at 4 s at) _ n ∙ passes (length_ok (length b)) (length_ok_law (length b) few ok.2) t
 
 pub arguments_bytes_exact : Exact arguments_bytes_at (λ b. b) ValidArgumentsBytes
@@ -66,16 +66,16 @@ unfolding request_at enc_request ValidRequest
 request_exact = record {
   sound = λ {s} {at} oct l h.
       took id_exact oct l h (λ i p okI stI h.
-      took (optional-exact id_exact) oct stI.within h (λ a q okA stA h.
+      took (optional_exact id_exact) oct stI.within h (λ a q okA stA h.
       took arguments_bytes_exact oct stA.within h (λ b e okB stB h.
       gives h (Read enc_request ValidRequest s at) ((okI, okA, okB), join stI (join stA stB)))));
   octets = λ r ok.
       octets_append (enc_str r.id) _ (id_exact.octets r.id ok.0)
-      (octets_append (enc_optional enc_str r.attribute) _ ((optional-exact id_exact).octets r.attribute ok.1) (arguments_bytes_exact.octets r.image ok.2));
+      (octets_append (enc_optional enc_str r.attribute) _ ((optional_exact id_exact).octets r.attribute ok.1) (arguments_bytes_exact.octets r.image ok.2));
   complete = λ {a = r} ok h.
       ahead id_exact _ ok.0 h (λ p u t.
-      ahead (optional-exact id_exact) _ ok.1 t (λ q v w.
-      as-last arguments_bytes_exact (λ b. record { id = r.id; attribute = r.attribute; image = b }) ok.2 w));
+      ahead (optional_exact id_exact) _ ok.1 t (λ q v w.
+      as_last arguments_bytes_exact (λ b. record { id = r.id; attribute = r.attribute; image = b }) ok.2 w));
 }
 
 sheet_fits : Fits 4 max_sheet
@@ -84,17 +84,17 @@ sheet_fits = omega arith
 
 pub sheet_exact : Exact sheet_at enc_sheet ValidSheet
 unfolding sheet_at enc_sheet ValidSheet
-sheet_exact = image-exact sheet_fits request_exact
+sheet_exact = image_exact sheet_fits request_exact
 
 -- what is read is valid, and the slice is its encoding
 pub sheet_sound : {s : List ℕ} {e : ℕ} {rs : List Request} → Octets s → sheet_of s ≡ got rs e → ValidSheet rs × (s ≡ enc_sheet rs) × (e ≡ length s)
 unfolding sheet_of
-sheet_sound oct h = whole-sound sheet_exact oct h
+sheet_sound oct h = whole_sound sheet_exact oct h
 
 -- what is valid is read back from its encoding
 pub sheet_complete : {rs : List Request} → ValidSheet rs → sheet_of (enc_sheet rs) ≡ got rs (length (enc_sheet rs))
 unfolding sheet_of
-sheet_complete ok = whole-complete sheet_exact ok
+sheet_complete ok = whole_complete sheet_exact ok
 
 -- in one: bytes decode to rs exactly when rs is valid and they are its encoding
 pub sheet_exactly : (s : List ℕ) (rs : List Request) → (Octets s × (sheet_of s ≡ got rs (length s))) ↔ (ValidSheet rs × (s ≡ enc_sheet rs))
@@ -105,7 +105,7 @@ sheet_exactly s rs = (
 )
 
 pub sheet_injective : {q r : List Request} → ValidSheet q → ValidSheet r → enc_sheet q ≡ enc_sheet r → q ≡ r
-sheet_injective = at-injective sheet_exact
+sheet_injective = at_injective sheet_exact
 
 pub sheet_one_image : {s t : List ℕ} {e f : ℕ} {rs : List Request} → Octets s → Octets t → sheet_of s ≡ got rs e → sheet_of t ≡ got rs f → s ≡ t
 sheet_one_image a b h k = (sheet_sound a h).1 ∙ sym (sheet_sound b k).1

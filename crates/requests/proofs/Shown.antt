@@ -10,7 +10,7 @@ use Rattle.records.specs.Got.{Got, got, bad, test, pick}
 use Rattle.records.specs.Bytes.{part, byte_at, bytes_at, number_at, span_at}
 use Rattle.records.specs.Decode.{id_at}
 use Rattle.records.specs.Optional.{option_of}
-use Rattle.records.proofs.Laws.{after_is, after-elim, test-elim, got_elim, bytes_inv, span-in}
+use Rattle.records.proofs.Laws.{after_is, after_elim, test_elim, got_elim, bytes_inv, span_in}
 use Rattle.records.proofs.Views.{pick_elim, both, never, id_elim, optional_elim}
 use Rattle.requests.specs.declared.Spans.{Spans}
 use Rattle.requests.specs.declared.Asked.{Asked}
@@ -36,39 +36,39 @@ asked_none bad is h = refl
 
 -- the parts lie in the bytes
 module _ (s : List ℕ) where
-  image-inside : (i j : ℕ) (has : Bool) (a at : ℕ) {q : Spans} {e : ℕ} → image_spans i j has a s at ≡ got q e → i ≤ j → j ≤ length s → a ≤ at → Inside s q
+  image_inside : (i j : ℕ) (has : Bool) (a at : ℕ) {q : Spans} {e : ℕ} → image_spans i j has a s at ≡ got q e → i ≤ j → j ≤ length s → a ≤ at → Inside s q
   unfolding image_spans spans
-  image-inside i j has a at h l m o =
-      after-elim (number_at 4 s at) _ h (λ n p _ h.
-      after-elim (bytes_at n s at) _ h (λ b f hb h.
+  image_inside i j has a at h l m o =
+      after_elim (number_at 4 s at) _ h (λ n p _ h.
+      after_elim (bytes_at n s at) _ h (λ b f hb h.
       let k = bytes_inv s at n hb in
       let x : at + n ≤ length s = k.0 in
       let y : f ≡ at + n = k.2 in
       got_elim h (λ u _. subst (Inside s) u (record { id_on = l; id_in = m; attribute_on = o; attribute_in = omega arith; image_on = omega arith; image_in = omega arith }))))
 
-  attribute-inside : (i j at : ℕ) {q : Spans} {e : ℕ} → attribute_spans i j s at ≡ got q e → i ≤ j → j ≤ length s → Inside s q
+  attribute_inside : (i j at : ℕ) {q : Spans} {e : ℕ} → attribute_spans i j s at ≡ got q e → i ≤ j → j ≤ length s → Inside s q
   unfolding attribute_spans
-  attribute-inside i j at h l m =
-      after-elim (byte_at s at) _ h (λ f p _ h.
+  attribute_inside i j at h l m =
+      after_elim (byte_at s at) _ h (λ f p _ h.
       pick_elim _ _ _ h
-      (λ _ h. image-inside i j false p p h l m (omega arith))
-      (λ _ h. test-elim _ _ h (λ _ h. after-elim (span_at s p) _ h (λ a k ha h. image-inside i j true a k h l m (span-in s p ha).0))))
+      (λ _ h. image_inside i j false p p h l m (omega arith))
+      (λ _ h. test_elim _ _ h (λ _ h. after_elim (span_at s p) _ h (λ a k ha h. image_inside i j true a k h l m (span_in s p ha).0))))
 
-  pub spans-inside : (at : ℕ) {q : Spans} {e : ℕ} → spans_at s at ≡ got q e → Inside s q
+  pub spans_inside : (at : ℕ) {q : Spans} {e : ℕ} → spans_at s at ≡ got q e → Inside s q
   unfolding spans_at
-  spans-inside at h = after-elim (span_at s at) _ h (λ i j hi h. let k = span-in s at hi in attribute-inside i j j h k.0 k.1)
+  spans_inside at h = after_elim (span_at s at) _ h (λ i j hi h. let k = span_in s at hi in attribute_inside i j j h k.0 k.1)
 
   -- the same, by what the code answered
-  pub asked-inside : (at : ℕ) {x : Asked} {q : Spans} → x ≡ asked_of (spans_at s at) → x ≡ asked.Is q → Inside s q
-  asked-inside at is h = asked_is (spans_at s at) is h (λ e g. spans-inside at g)
+  pub asked_inside : (at : ℕ) {x : Asked} {q : Spans} → x ≡ asked_of (spans_at s at) → x ≡ asked.Is q → Inside s q
+  asked_inside at is h = asked_is (spans_at s at) is h (λ e g. spans_inside at g)
 
 -- the parts of a request that was read
 module _ (s : List ℕ) where
   -- its image
-  image-shows : (i j : ℕ) (has : Bool) (a at : ℕ) {b : List ℕ} {e : ℕ} → arguments_bytes_at s at ≡ got b e
+  image_shows : (i j : ℕ) (has : Bool) (a at : ℕ) {b : List ℕ} {e : ℕ} → arguments_bytes_at s at ≡ got b e
       → (image_spans i j has a s at ≡ got (spans i j has a at e) e) × (part s at (e - at) ≡ b)
   unfolding image_spans
-  image-shows i j has a at {b} {e} h =
+  image_shows i j has a at {b} {e} h =
       arguments_bytes_elim s at h (λ n p hn _ _ hb.
       let k = bytes_inv s at n hb in
       let y : e ≡ at + n = k.2 in
@@ -76,38 +76,38 @@ module _ (s : List ℕ) where
       (after_is (number_at 4 s at) _ hn ∙ after_is (bytes_at n s at) _ hb, ap (λ (l : ℕ). part s at l) m ∙ sym k.1))
 
   -- a Flag of 0, and a Flag of 1
-  plain-spans : (i j at : ℕ) {p : ℕ} → byte_at s at ≡ got 0 p → attribute_spans i j s at ≡ image_spans i j false p s p
+  plain_spans : (i j at : ℕ) {p : ℕ} → byte_at s at ≡ got 0 p → attribute_spans i j s at ≡ image_spans i j false p s p
   unfolding attribute_spans pick
-  plain-spans i j at h = after_is (byte_at s at) _ h
+  plain_spans i j at h = after_is (byte_at s at) _ h
 
-  attribute-spans : (i j at : ℕ) {p a e : ℕ} → byte_at s at ≡ got 1 p → span_at s p ≡ got a e → attribute_spans i j s at ≡ image_spans i j true a s e
+  attribute_spans_law : (i j at : ℕ) {p a e : ℕ} → byte_at s at ≡ got 1 p → span_at s p ≡ got a e → attribute_spans i j s at ≡ image_spans i j true a s e
   unfolding attribute_spans pick test
-  attribute-spans i j at {p} h k = after_is (byte_at s at) _ h ∙ after_is (span_at s p) _ k
+  attribute_spans_law i j at {p} h k = after_is (byte_at s at) _ h ∙ after_is (span_at s p) _ k
 
   -- what the outline gives of a request
   abbrev pub Outlined : (at : ℕ) (r : Request) (e : ℕ) → Type 0
   Outlined at r e = (q : Spans) × (spans_at s at ≡ got q e) × (q.end ≡ e) × Shows s q r
 
-  pub request-spans : (at : ℕ) {r : Request} {e : ℕ} → request_at s at ≡ got r e → Outlined at r e
+  pub request_spans : (at : ℕ) {r : Request} {e : ℕ} → request_at s at ≡ got r e → Outlined at r e
   unfolding spans_at spans option_of
-  request-spans at {r} {e} h =
+  request_spans at {r} {e} h =
       request_elim s at h (λ i p a q b hi ha hb w.
       id_elim s at hi (λ f hf ef _.
       subst (λ (z : Request). Outlined at z e) (sym w)
       (optional_elim id_at s p ha
       (λ hz o.
-      let g = image-shows f p false q q hb in
-      (spans f p false q q e, after_is (span_at s at) _ hf ∙ plain-spans f p p hz ∙ g.0, refl, record { id = sym ef; attribute = sym o; image = g.1 }))
+      let g = image_shows f p false q q hb in
+      (spans f p false q q e, after_is (span_at s at) _ hf ∙ plain_spans f p p hz ∙ g.0, refl, record { id = sym ef; attribute = sym o; image = g.1 }))
       (λ k t ho ht o.
       id_elim s k ht (λ c hc ec _.
-      let g = image-shows f p true c q hb in
-      (spans f p true c q e, after_is (span_at s at) _ hf ∙ attribute-spans f p p ho hc ∙ g.0, refl, record { id = sym ef; attribute = ap some (sym ec) ∙ sym o; image = g.1 }))))))
+      let g = image_shows f p true c q hb in
+      (spans f p true c q e, after_is (span_at s at) _ hf ∙ attribute_spans_law f p p ho hc ∙ g.0, refl, record { id = sym ef; attribute = ap some (sym ec) ∙ sym o; image = g.1 }))))))
 
   -- the same, by what the code answered
-  pub asked-shows : (at : ℕ) {x : Asked} {q : Spans} {r : Request} {e : ℕ} → x ≡ asked_of (spans_at s at) → x ≡ asked.Is q → request_at s at ≡ got r e → (q.end ≡ e) × Shows s q r
-  asked-shows at {q = q} {r} {e} is h g =
-      let k = request-spans at g in
+  pub asked_shows : (at : ℕ) {x : Asked} {q : Spans} {r : Request} {e : ℕ} → x ≡ asked_of (spans_at s at) → x ≡ asked.Is q → request_at s at ≡ got r e → (q.end ≡ e) × Shows s q r
+  asked_shows at {q = q} {r} {e} is h g =
+      let k = request_spans at g in
       asked_is (spans_at s at) is h (λ f w. both k.1 w (λ u _. subst (λ (z : Spans). (z.end ≡ e) × Shows s z r) u (k.2, k.3)))
 
-  pub asked-never : (at : ℕ) {x : Asked} {r : Request} {e : ℕ} {C : Type 0} → x ≡ asked_of (spans_at s at) → x ≡ asked.Bad → request_at s at ≡ got r e → C
-  asked-never at is h g = let k = request-spans at g in never (asked_none (spans_at s at) is h) k.1
+  pub asked_never : (at : ℕ) {x : Asked} {r : Request} {e : ℕ} {C : Type 0} → x ≡ asked_of (spans_at s at) → x ≡ asked.Bad → request_at s at ≡ got r e → C
+  asked_never at is h g = let k = request_spans at g in never (asked_none (spans_at s at) is h) k.1

@@ -29,18 +29,18 @@ module _ {A : Type 0} (g : Got A) (k : A → ℕ → Got Spans) where
 
 -- an arguments image behind an Id and an attribute
 module _ (i j : ℕ) (has : Bool) (a : ℕ) (s : List ℕ) (at : ℕ) {r : Num} (is : r ≡ num_of (number_at 4 s at)) where
-  pub image-none : r ≡ num.Bad → asked.Bad ≡ asked_of (image_spans i j has a s at)
+  pub image_none : r ≡ num.Bad → asked.Bad ≡ asked_of (image_spans i j has a s at)
   unfolding image_spans
-  image-none h = nowhere (number_at 4 s at) _ (num_none is h)
+  image_none h = nowhere (number_at 4 s at) _ (num_none is h)
 
   module _ {n p : ℕ} (h : r ≡ num.At n p) {x : Next} (all : x ≡ next_of (bytes_at n s at)) where
-    pub image-short : x ≡ next.Bad → asked.Bad ≡ asked_of (image_spans i j has a s at)
+    pub image_short : x ≡ next.Bad → asked.Bad ≡ asked_of (image_spans i j has a s at)
     unfolding image_spans
-    image-short w = behind (number_at 4 s at) _ (num_is is h) (nowhere (bytes_at n s at) _ (next_none all w))
+    image_short w = behind (number_at 4 s at) _ (num_is is h) (nowhere (bytes_at n s at) _ (next_none all w))
 
-    pub image-is : {e : ℕ} → x ≡ next.At e → asked.Is (spans i j has a at e) ≡ asked_of (image_spans i j has a s at)
+    pub image_is : {e : ℕ} → x ≡ next.At e → asked.Is (spans i j has a at e) ≡ asked_of (image_spans i j has a s at)
     unfolding image_spans asked_of
-    image-is w = next_is all w (λ b q. behind (number_at 4 s at) _ (num_is is h) (behind (bytes_at n s at) _ q refl))
+    image_is w = next_is all w (λ b q. behind (number_at 4 s at) _ (num_is is h) (behind (bytes_at n s at) _ q refl))
 
 -- a Flag, and what it announces
 module _ (i j : ℕ) (s : List ℕ) (at : ℕ) {r : Num} (is : r ≡ num_of (byte_at s at)) where
@@ -49,19 +49,19 @@ module _ (i j : ℕ) (s : List ℕ) (at : ℕ) {r : Num} (is : r ≡ num_of (byt
   flag_none h = nowhere (byte_at s at) _ (num_none is h)
 
   module _ {f p : ℕ} (h : r ≡ num.At f p) where
-    flag-zero : f ≡ 0 → {x : Asked} → x ≡ asked_of (image_spans i j false p s p) → x ≡ asked_of (attribute_spans i j s at)
+    flag_zero : f ≡ 0 → {x : Asked} → x ≡ asked_of (image_spans i j false p s p) → x ≡ asked_of (attribute_spans i j s at)
     unfolding attribute_spans pick
-    flag-zero z q = behind (byte_at s at) _ (num_is is h) (rw (eq-eqb f 0 z) q)
+    flag_zero z q = behind (byte_at s at) _ (num_is is h) (rw (eq-eqb f 0 z) q)
 
     module _ (z : f ≡ 0 → ⊥) where
-      flag-other : (f ≡ 1 → ⊥) → asked.Bad ≡ asked_of (attribute_spans i j s at)
+      flag_other : (f ≡ 1 → ⊥) → asked.Bad ≡ asked_of (attribute_spans i j s at)
       unfolding attribute_spans pick test asked_of
-      flag-other o = behind (byte_at s at) _ (num_is is h) (rw (ne_eqb f 0 z, ne_eqb f 1 o))
+      flag_other o = behind (byte_at s at) _ (num_is is h) (rw (ne_eqb f 0 z, ne_eqb f 1 o))
 
       module _ (o : f ≡ 1) {t : Num} (str : t ≡ num_of (span_at s p)) where
-        flag-short : t ≡ num.Bad → asked.Bad ≡ asked_of (attribute_spans i j s at)
+        flag_short : t ≡ num.Bad → asked.Bad ≡ asked_of (attribute_spans i j s at)
         unfolding attribute_spans pick test
-        flag-short w = behind (byte_at s at) _ (num_is is h) (rw (ne_eqb f 0 z, eq-eqb f 1 o) (nowhere (span_at s p) _ (num_none str w)))
+        flag_short w = behind (byte_at s at) _ (num_is is h) (rw (ne_eqb f 0 z, eq-eqb f 1 o) (nowhere (span_at s p) _ (num_none str w)))
 
         flag_one : {a e : ℕ} → t ≡ num.At a e → {x : Asked} → x ≡ asked_of (image_spans i j true a s e) → x ≡ asked_of (attribute_spans i j s at)
         unfolding attribute_spans pick test
@@ -69,29 +69,29 @@ module _ (i j : ℕ) (s : List ℕ) (at : ℕ) {r : Num} (is : r ≡ num_of (byt
 
 -- a request: its Id, its Flag, the attribute's Id, its image
 module _ (s : List ℕ) (at : ℕ) {r : Num} (is : r ≡ num_of (span_at s at)) where
-  pub request-none : r ≡ num.Bad → asked.Bad ≡ asked_of (spans_at s at)
+  pub request_none : r ≡ num.Bad → asked.Bad ≡ asked_of (spans_at s at)
   unfolding spans_at
-  request-none h = nowhere (span_at s at) _ (num_none is h)
+  request_none h = nowhere (span_at s at) _ (num_none is h)
 
   module _ {i j : ℕ} (h : r ≡ num.At i j) {b : Num} (byte : b ≡ num_of (byte_at s j)) where
     named : {x : Asked} → x ≡ asked_of (attribute_spans i j s j) → x ≡ asked_of (spans_at s at)
     unfolding spans_at
     named q = behind (span_at s at) _ (num_is is h) q
 
-    pub request-unmarked : b ≡ num.Bad → asked.Bad ≡ asked_of (spans_at s at)
-    request-unmarked w = named (flag_none i j s j byte w)
+    pub request_unmarked_law : b ≡ num.Bad → asked.Bad ≡ asked_of (spans_at s at)
+    request_unmarked_law w = named (flag_none i j s j byte w)
 
     module _ {f p : ℕ} (w : b ≡ num.At f p) where
-      pub request-plain : f ≡ 0 → {x : Asked} → x ≡ asked_of (image_spans i j false p s p) → x ≡ asked_of (spans_at s at)
-      request-plain z q = named (flag-zero i j s j byte w z q)
+      pub request_plain : f ≡ 0 → {x : Asked} → x ≡ asked_of (image_spans i j false p s p) → x ≡ asked_of (spans_at s at)
+      request_plain z q = named (flag_zero i j s j byte w z q)
 
       module _ (z : f ≡ 0 → ⊥) where
-        pub request-other : (f ≡ 1 → ⊥) → asked.Bad ≡ asked_of (spans_at s at)
-        request-other o = named (flag-other i j s j byte w z o)
+        pub request_other : (f ≡ 1 → ⊥) → asked.Bad ≡ asked_of (spans_at s at)
+        request_other o = named (flag_other i j s j byte w z o)
 
         module _ (o : f ≡ 1) {t : Num} (str : t ≡ num_of (span_at s p)) where
-          pub request-short : t ≡ num.Bad → asked.Bad ≡ asked_of (spans_at s at)
-          request-short v = named (flag-short i j s j byte w z o str v)
+          pub request_short : t ≡ num.Bad → asked.Bad ≡ asked_of (spans_at s at)
+          request_short v = named (flag_short i j s j byte w z o str v)
 
-          pub request-attribute : {a e : ℕ} → t ≡ num.At a e → {x : Asked} → x ≡ asked_of (image_spans i j true a s e) → x ≡ asked_of (spans_at s at)
-          request-attribute v q = named (flag_one i j s j byte w z o str v q)
+          pub request_attribute : {a e : ℕ} → t ≡ num.At a e → {x : Asked} → x ≡ asked_of (image_spans i j true a s e) → x ≡ asked_of (spans_at s at)
+          request_attribute v q = named (flag_one i j s j byte w z o str v q)

@@ -9,7 +9,7 @@ use Rattle.records.specs.Got.{got, Parser}
 use Rattle.records.specs.Bytes.{bytes_at, number_at}
 use Rattle.records.specs.Decode.{many, optional_at, id_at}
 use Rattle.records.specs.Images.{one_at, max_image}
-use Rattle.records.proofs.Laws.{after-elim, test-elim, got_elim, number_inv, byte_inv}
+use Rattle.records.proofs.Laws.{after_elim, test_elim, got_elim, number_inv, byte_inv}
 use Rattle.records.proofs.Views.{as_elim, one_elim, whole_elim}
 use Rattle.layout.specs.Exact.{Octets}
 use Rattle.layout.proofs.Steps.{number_exact}
@@ -21,8 +21,8 @@ pub arguments_bytes_elim : {C : Type 0} (s : List ℕ) (at : ℕ) {b : List ℕ}
     → ((n p : ℕ) → number_at 4 s at ≡ got n p → min_arguments ≤ n → n ≤ max_image → bytes_at n s at ≡ got b e → C) → C
 unfolding arguments_bytes_at
 arguments_bytes_elim s at h c =
-    after-elim (number_at 4 s at) _ h (λ n p hn h.
-    test-elim _ _ h (λ t h. let l = length_limits n t in c n p hn l.0 l.1 h))
+    after_elim (number_at 4 s at) _ h (λ n p hn h.
+    test_elim _ _ h (λ t h. let l = length_limits n t in c n p hn l.0 l.1 h))
 
 -- a request: its Id, its attribute, its image
 pub request_elim : {C : Type 0} (s : List ℕ) (at : ℕ) {r : Request} {e : ℕ} → request_at s at ≡ got r e
@@ -30,8 +30,8 @@ pub request_elim : {C : Type 0} (s : List ℕ) (at : ℕ) {r : Request} {e : ℕ
     → r ≡ record { id = i; attribute = a; image = b } → C) → C
 unfolding request_at
 request_elim s at h c =
-    after-elim (id_at s at) _ h (λ i p hi h.
-    after-elim (optional_at id_at s p) _ h (λ a q ha h.
+    after_elim (id_at s at) _ h (λ i p hi h.
+    after_elim (optional_at id_at s p) _ h (λ a q ha h.
     as_elim _ _ h (λ b hb w. c i p a q b hi ha hb w)))
 
 -- as many as were asked for
@@ -39,7 +39,7 @@ many_length : {A : Type 0} (p : Parser A) (s : List ℕ) (n at : ℕ) {l : List 
 unfolding many
 many_length p s zero at h = got_elim h (λ x _. ap length (sym x))
 many_length p s (suc n) at h =
-    after-elim (p s at) _ h (λ a i _ h.
+    after_elim (p s at) _ h (λ a i _ h.
     as_elim _ _ h (λ k hk w. ap length w ∙ ap suc (many_length p s n i hk)))
 
 -- a sheet image: its count stands at 5, its requests at 7, and they end where the slice ends
@@ -54,12 +54,12 @@ pub sheet_parts : (s : List ℕ) {rs : List Request} {e : ℕ} → sheet_of s �
 unfolding sheet_of sheet_at
 sheet_parts s {rs} {e} h =
     whole_elim sheet_at s h (λ h end.
-    after-elim (number_at 4 s 0) _ h (λ n p hn h.
-    test-elim _ _ h (λ _ h.
-    after-elim (one_at s p) _ h (λ v q hv h.
-    after-elim (number_at 2 s q) _ h (λ k r hk h.
-    after-elim (many [] ◌∷◌ k request_at s r) _ h (λ m f hm h.
-    test-elim _ _ h (λ _ h. got_elim h (λ x y.
+    after_elim (number_at 4 s 0) _ h (λ n p hn h.
+    test_elim _ _ h (λ _ h.
+    after_elim (one_at s p) _ h (λ v q hv h.
+    after_elim (number_at 2 s q) _ h (λ k r hk h.
+    after_elim (many [] ◌∷◌ k request_at s r) _ h (λ m f hm h.
+    test_elim _ _ h (λ _ h. got_elim h (λ x y.
     one_elim s p hv (λ hb _.
     let ep : p ≡ 4 = (number_inv s 4 0 hn).1 in
     let eq : q ≡ 5 = (byte_inv s p hb).2 ∙ ap (λ (j : ℕ). j + 1) ep in

@@ -7,7 +7,7 @@ use Rattle.decimals.specs.Ascii.{ascii}
 use Rattle.records.specs.Got.{got}
 use Rattle.records.specs.Tree.{Key, Named, Pattern, pattern, Elements, more, text, placeable, inline, select, Inline, variable, without, Inlines, Variants, or, variant}
 use Rattle.records.specs.Images.{Kind, Entry, Item, Argument}
-use Rattle.records.specs.Encode.{encPattern, enc_arguments_image}
+use Rattle.records.specs.Encode.{enc_pattern, enc_arguments_image}
 use Rattle.resolution.specs.Effect.{Bytes}
 use Rattle.resolution.specs.Format.{finished, Buffers, Formatted, format_store}
 use Rattle.resolution.specs.Opened.{opened}
@@ -21,7 +21,7 @@ abbrev pub ⟩ : Bytes
 
 -- A pattern holds the bytes that it is read from: here, those that the encoder writes.
 unfoldable pub pattern_of : Elements → Pattern
-pattern_of es = pattern (encPattern (pattern [] es)) es
+pattern_of es = pattern (enc_pattern (pattern [] es)) es
 
 -- `id = …` and `-id = …`
 unfoldable pub a_message : String → Elements → Entry

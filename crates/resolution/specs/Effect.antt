@@ -2,7 +2,7 @@
 use Rattle.std.specs.Prelude.{List, [], ◌∷◌, ◌++◌, Bool, true, false, ℕ, zero, suc, ◌+◌, length, ltb}
 use Rattle.std.proofs.Math.Option.{Option, none, some}
 use Rattle.numbers.specs.Value.{Value}
-use Rattle.records.specs.Errors.{Error, tooManyPlaceables}
+use Rattle.records.specs.Errors.{Error, too_many_placeables}
 
 abbrev pub Bytes : Type 0
 Bytes = List ℕ
@@ -12,7 +12,7 @@ Bytes = List ℕ
 pub data Effect : Type 0 where
   put : Bytes → Effect
   report : Error → Effect
-  begin expand unfound open-text keep-text : Effect
+  begin expand unfound open_text keep_text : Effect
   free merged : ℕ → Effect
 
 abbrev pub Trace : Type 0
@@ -86,7 +86,7 @@ enter_if true few s = record { trace = []; text = []; kept = 0; state = s; value
 enter_if false true s =
     record { trace = begin ∷ []; text = []; kept = 0; state = record { begun = suc s.begun; dirty = false; locals = s.locals }; value = true }
 enter_if false false s =
-    record { trace = begin ∷ report tooManyPlaceables ∷ []; text = []; kept = 0; state = record { begun = suc s.begun; dirty = true; locals = s.locals }; value = false }
+    record { trace = begin ∷ report too_many_placeables ∷ []; text = []; kept = 0; state = record { begun = suc s.begun; dirty = true; locals = s.locals }; value = false }
 
 unfoldable pub enter : M Bool
 enter s = enter_if s.dirty (ltb s.begun max_placeables) s
@@ -103,7 +103,7 @@ entered before m = enter >>= λ go. only_if go (before >> (emit expand >> m))
 unfoldable pub capture : M Done → M Bytes
 capture m s =
     let r = m s in
-    record { trace = open-text ∷ r.trace ++ (keep-text ∷ []); text = []; kept = r.kept + length r.text; state = r.state; value = r.text }
+    record { trace = open_text ∷ r.trace ++ (keep_text ∷ []); text = []; kept = r.kept + length r.text; state = r.state; value = r.text }
 
 -- what m left at the workspace's back is freed where m ends
 unfoldable pub release : {A : Type 0} → M A → M A

@@ -4,7 +4,7 @@
 use Rattle.std.specs.Prelude.{List, [], ◌∷◌, ◌++◌, Bool, true, false, ℕ, zero, suc, ◌+◌, ◌-◌, min, max, length, leb}
 use Rattle.numbers.specs.Number.{fraction_limit}
 use Rattle.records.specs.Errors.{Error, enc_errors}
-use Rattle.resolution.specs.Effect.{Bytes, Effect, put, report, begin, expand, unfound, open-text, keep-text, free, merged, Trace}
+use Rattle.resolution.specs.Effect.{Bytes, Effect, put, report, begin, expand, unfound, open_text, keep_text, free, merged, Trace}
 
 -- The text, the errors listed, how many workspace texts are open, the workspace bytes in use ("Use is the bytes of both") and the most there were,
 -- placeables begun and expanded, lookups unfound.
@@ -65,8 +65,8 @@ step L (report e) m =
 step L begin m = ran (record { written = m.written; errors = m.errors; nest = m.nest; used = m.used; high = m.high; begun = suc m.begun; expanded = m.expanded; unfounds = m.unfounds })
 step L expand m = ran (record { written = m.written; errors = m.errors; nest = m.nest; used = m.used; high = m.high; begun = m.begun; expanded = suc m.expanded; unfounds = m.unfounds })
 step L unfound m = ran (record { written = m.written; errors = m.errors; nest = m.nest; used = m.used; high = m.high; begun = m.begun; expanded = m.expanded; unfounds = suc m.unfounds })
-step L open-text m = ran (record { written = m.written; errors = m.errors; nest = suc m.nest; used = m.used; high = m.high; begun = m.begun; expanded = m.expanded; unfounds = m.unfounds })
-step L keep-text m = ran (record { written = m.written; errors = m.errors; nest = m.nest - 1; used = m.used; high = m.high; begun = m.begun; expanded = m.expanded; unfounds = m.unfounds })
+step L open_text m = ran (record { written = m.written; errors = m.errors; nest = suc m.nest; used = m.used; high = m.high; begun = m.begun; expanded = m.expanded; unfounds = m.unfounds })
+step L keep_text m = ran (record { written = m.written; errors = m.errors; nest = m.nest - 1; used = m.used; high = m.high; begun = m.begun; expanded = m.expanded; unfounds = m.unfounds })
 step L (free n) m = ran (record { written = m.written; errors = m.errors; nest = m.nest; used = m.used - n; high = m.high; begun = m.begun; expanded = m.expanded; unfounds = m.unfounds })
 step L (merged k) m = allow k fraction_limit 17 m
 

@@ -41,7 +41,7 @@ run_pattern st find L p = exec L (resolve st find max_patterns p (bytes_of p ∷
 -- refusal before the run changes nothing, one in the run clears the three buffers.
 pub data Answer : Type 0 where
   finished : (text errors begun unfound work : ℕ) → Answer
-  refusedBefore refusedRunning : ℕ → Answer
+  refused_before refused_running : ℕ → Answer
 
 -- the three buffers that are lent
 pub record Buffers : Type 0 where
@@ -61,7 +61,7 @@ zeros b = replicate (length b) 0
 
 -- "all these change nothing"
 unfoldable pub refuse : ℕ → Buffers → Formatted
-refuse n b = record { answer = refusedBefore n; buffers = b }
+refuse n b = record { answer = refused_before n; buffers = b }
 
 unfoldable pub or_refuse : Bool → ℕ → Buffers → Formatted → Formatted
 or_refuse true n b f = f
@@ -73,7 +73,7 @@ ended (ran m) b = record {
   answer = finished (length m.written) (length m.errors) m.begun m.unfounds m.high;
   buffers = record { text = at_front m.written b.text; list = at_front (enc_errors m.errors) b.list; work = zeros b.work };
 }
-ended (refused n) b = record { answer = refusedRunning n; buffers = record { text = zeros b.text; list = zeros b.list; work = zeros b.work } }
+ended (refused n) b = record { answer = refused_running n; buffers = record { text = zeros b.text; list = zeros b.list; work = zeros b.work } }
 
 -- an absent attribute is an Id enough
 unfoldable pub is_id_or_none : Option Bytes → Bool

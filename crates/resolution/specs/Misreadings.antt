@@ -2,7 +2,7 @@
 use Rattle.std.specs.Prelude.{refl, [], ◌∷◌, ◌++◌, replicate}
 use Rattle.std.proofs.Math.Option.{none}
 use Rattle.decimals.specs.Ascii.{ascii}
-use Rattle.records.specs.Tree.{Literal, no_more, inline, Inline, nested, with-args, no-inline, no_variant}
+use Rattle.records.specs.Tree.{Literal, no_more, inline, Inline, nested, with_arguments, no_inline, no_variant}
 use Rattle.resolution.specs.Case.{⟨, ⟩, a_message, a_term, say, put, choice, named, numbered, default, var, quoted, ref, term_ref, call, whole, Case, no_errors, Formats, computed}
 use Rattle.resolution.specs.Sentences.{ws}
 
@@ -38,7 +38,7 @@ direct_bare = record {
 -- ⟨in⟩u⟨2⟩.
 unfoldable pub outer_cleared : Case
 outer_cleared = record {
-  entries = a_message "a" (put (Inline.term (ascii "t") none (with-args no-inline ((ascii "n", Literal.string (ascii "in")) ∷ []))) no_more) ∷ a_term "t" (put (var "n") (put (term_ref "u") (put (var "n") no_more))) ∷ a_term "u" (say "u" no_more) ∷ [];
+  entries = a_message "a" (put (Inline.term (ascii "t") none (with_arguments no_inline ((ascii "n", Literal.string (ascii "in")) ∷ []))) no_more) ∷ a_term "t" (put (var "n") (put (term_ref "u") (put (var "n") no_more))) ∷ a_term "u" (say "u" no_more) ∷ [];
   message = ascii "a";
   arguments = whole "n" 2 ∷ [];
   text = ⟨ ++ ascii "in" ++ ⟩ ++ ascii "u" ++ ⟨ ++ ascii "2" ++ ⟩;
@@ -52,7 +52,7 @@ outer_cleared = record {
 -- "Listing an error for a missing function in a selector: none is listed": `a = { F() -> *[o] y }`: y; unfound 1.
 unfoldable pub selector_missing : Case
 selector_missing = record {
-  entries = a_message "a" (choice (call "F" no-inline []) (default "o" (say "y" no_more) no_variant) no_more) ∷ [];
+  entries = a_message "a" (choice (call "F" no_inline []) (default "o" (say "y" no_more) no_variant) no_more) ∷ [];
   message = ascii "a";
   arguments = [];
   text = ascii "y";

@@ -8,9 +8,9 @@ use Rattle.numbers.specs.Value.{Value, textual, numeric, nothing, wrong, value_t
 use Rattle.plural.specs.Plural.{category, keyword}
 use Rattle.unescape.specs.Unescape.{unescape, has_backslash}
 use Rattle.decimals.specs.Bytes.{same_bytes}
-use Rattle.records.specs.Tree.{Literal, Key, Named, Pattern, pattern, Elements, no_more, more, Element, text, placeable, Expression, inline, select, Inline, variable, nested, Arguments, without, with-args, Inlines, no-inline, and, Variants, no_variant, or, Variant, variant}
+use Rattle.records.specs.Tree.{Literal, Key, Named, Pattern, pattern, Elements, no_more, more, Element, text, placeable, Expression, inline, select, Inline, variable, nested, Arguments, without, with_arguments, Inlines, no_inline, and, Variants, no_variant, or, Variant, variant}
 use Rattle.records.specs.Images.{Kind, Entry}
-use Rattle.records.specs.Errors.{Error, Referred, reference, no_value, missingDefault, cyclic}
+use Rattle.records.specs.Errors.{Error, Referred, reference, no_value, missing_default, cyclic}
 use Rattle.entries.specs.Lookup.{Holder, Find, part_of}
 use Rattle.records.specs.Optional.{or_else}
 use Rattle.resolution.specs.Effect.{Bytes, Effect, report, unfound, merged, Locals, State, M, Done, ret, ◌>>=◌, ◌>>◌, emit, write, is_dirty, get_locals, set_locals, only_if, entered, capture, release}
@@ -183,42 +183,42 @@ as_term (some (Holder.entry e)) = term_only e.kind e
 
 module _ (cross : Pattern → Trail → M Done) (trail : Trail) where
   -- `Scope::track`: a pattern that is being resolved already is Cyclic, any other is resolved under a longer trail
-  unfoldable pub trackIf : Bool → Bytes → Pattern → M Done
-  trackIf true shown p = write_ref_error cyclic shown
-  trackIf false shown p = cross p (bytes_of p ∷ trail)
+  unfoldable pub track_if : Bool → Bytes → Pattern → M Done
+  track_if true shown p = write_ref_error cyclic shown
+  track_if false shown p = cross p (bytes_of p ∷ trail)
 
   unfoldable pub track : Bytes → Pattern → M Done
-  track shown p = trackIf (on_trail (bytes_of p) trail) shown p
+  track shown p = track_if (on_trail (bytes_of p) trail) shown p
 
   -- the part of an entry that a reference names, or what stands for one that is missing
-  unfoldable pub onPart : Error → Bytes → Option Pattern → M Done
-  onPart e shown none = write_ref_error e shown
-  onPart e shown (some p) = track shown p
+  unfoldable pub on_part : Error → Bytes → Option Pattern → M Done
+  on_part e shown none = write_ref_error e shown
+  on_part e shown (some p) = track shown p
 
   -- a message without a value is NoValue, one without the attribute a Reference
-  unfoldable pub missingPart : Bytes → Option Bytes → Error
-  missingPart i none = no_value i
-  missingPart i (some a) = reference Referred.message i (some a)
+  unfoldable pub missing_piece : Bytes → Option Bytes → Error
+  missing_piece i none = no_value i
+  missing_piece i (some a) = reference Referred.message i (some a)
 
-  unfoldable pub messageFound : Bytes → Option Bytes → Option Entry → M Done
-  messageFound i a none = write_ref_error (reference Referred.message i a) (dotted i a)
-  messageFound i a (some e) = onPart (missingPart i a) (dotted i a) (part_of a e)
+  unfoldable pub message_found : Bytes → Option Bytes → Option Entry → M Done
+  message_found i a none = write_ref_error (reference Referred.message i a) (dotted i a)
+  message_found i a (some e) = on_part (missing_piece i a) (dotted i a) (part_of a e)
 
   -- 45 is `-`
-  unfoldable pub termFound : Bytes → Option Bytes → Option Entry → M Done
-  termFound i a none = write_ref_error (reference Referred.term i a) (45 ∷ dotted i a)
-  termFound i a (some e) = onPart (reference Referred.term i a) (45 ∷ dotted i a) (part_of a e)
+  unfoldable pub term_found : Bytes → Option Bytes → Option Entry → M Done
+  term_found i a none = write_ref_error (reference Referred.term i a) (45 ∷ dotted i a)
+  term_found i a (some e) = on_part (reference Referred.term i a) (45 ∷ dotted i a) (part_of a e)
 
   -- a message reference
-  unfoldable pub writeMessage : Find → Bytes → Option Bytes → M Done
-  writeMessage find i a = look_up find i >>= λ o. messageFound i a (as_message o)
+  unfoldable pub write_message : Find → Bytes → Option Bytes → M Done
+  write_message find i a = look_up find i >>= λ o. message_found i a (as_message o)
 
   -- a term reference, its arguments known: they are the local arguments while it is written, and there are none after it (the Rust clears them)
-  unfoldable pub writeTerm : Find → Bytes → Option Bytes → List (Bytes × Value) → M Done
-  writeTerm find i a named = do
+  unfoldable pub write_term : Find → Bytes → Option Bytes → List (Bytes × Value) → M Done
+  write_term find i a named = do
     set_locals (some named)
     o ← look_up find i
-    termFound i a (as_term o)
+    term_found i a (as_term o)
     set_locals none
 
 -- the values of a call's arguments, positional and named
@@ -300,66 +300,66 @@ several_of (more e (more e' es)) = true
 module _ (st : Setting) (find : Find) (cross : Pattern → Trail → M Done) (trail : Trail) where
   unfoldable mutual
     -- `Pattern::write`
-    pub writePattern : Pattern → M Done
-    writePattern (pattern b es) = writeElements es (several_of es && st.isolating)
+    pub write_pattern : Pattern → M Done
+    write_pattern (pattern b es) = write_elements es (several_of es && st.isolating)
 
-    pub writeElements : Elements → Bool → M Done
-    writeElements no_more iso = ret tt
-    writeElements (more e es) iso = writeElement e iso >> writeElements es iso
+    pub write_elements : Elements → Bool → M Done
+    write_elements no_more iso = ret tt
+    write_elements (more e es) iso = write_element e iso >> write_elements es iso
 
     -- one turn of the loop of `Pattern::write`, with `maybe_track`; a dirty scope writes nothing more
-    pub writeElement : Element → Bool → M Done
-    writeElement (text t) iso = is_dirty >>= λ d. only_if (not d) (write t)
-    writeElement (placeable x) iso =
-        entered (mark (iso && not (bare x)) fsi) (writeExpression x >> (cut_short (braced (error_of x)) >> mark (iso && not (bare x)) pdi))
+    pub write_element : Element → Bool → M Done
+    write_element (text t) iso = is_dirty >>= λ d. only_if (not d) (write t)
+    write_element (placeable x) iso =
+        entered (mark (iso && not (bare x)) fsi) (write_expression x >> (cut_short (braced (error_of x)) >> mark (iso && not (bare x)) pdi))
 
     -- `Expression::write`: "A selector's text is freed when its variant, or none, is chosen"
-    pub writeExpression : Expression → M Done
-    writeExpression (inline x) = writeInline x
-    writeExpression (select x vs) = release (resolveInline x) >>= λ v. writeNth vs (chosen st.locale v vs)
+    pub write_expression : Expression → M Done
+    write_expression (inline x) = write_inline x
+    write_expression (select x vs) = release (resolve_inline x) >>= λ v. write_nth vs (chosen st.locale v vs)
 
     -- the variant at a position; "without that, MissingDefault"
-    pub writeNth : Variants → Option ℕ → M Done
-    writeNth no_variant none = emit (report missingDefault)
-    writeNth no_variant (some n) = ret tt
-    writeNth (or v vs) none = emit (report missingDefault)
-    writeNth (or v vs) (some zero) = writeVariant v
-    writeNth (or v vs) (some (suc n)) = writeNth vs (some n)
+    pub write_nth : Variants → Option ℕ → M Done
+    write_nth no_variant none = emit (report missing_default)
+    write_nth no_variant (some n) = ret tt
+    write_nth (or v vs) none = emit (report missing_default)
+    write_nth (or v vs) (some zero) = write_variant v
+    write_nth (or v vs) (some (suc n)) = write_nth vs (some n)
 
-    pub writeVariant : Variant → M Done
-    writeVariant (variant k d p) = writePattern p
+    pub write_variant : Variant → M Done
+    write_variant (variant k d p) = write_pattern p
 
     -- `InlineExpression::write`. "A function's arguments once its result, or that it is missing, is known" are freed; "a term's when all its text is
     -- written"
-    pub writeInline : Inline → M Done
-    writeInline (Inline.string s) = write (unescape s)
-    writeInline (Inline.number n) = write (value_text (numeric (literal n)))
-    writeInline (variable i) = get_variable st.arguments i >>= λ v. write_variable i v
-    writeInline (Inline.function i xs ns) = release (getArguments xs ns >>= λ g. call_function find i g) >>= λ v. write_result i v
-    writeInline (Inline.message i a) = writeMessage cross trail find i a
-    writeInline (Inline.term i a r) = release (termArguments r >>= λ g. writeTerm cross trail find i a g.named)
-    writeInline (nested x) = writeExpression x
+    pub write_inline : Inline → M Done
+    write_inline (Inline.string s) = write (unescape s)
+    write_inline (Inline.number n) = write (value_text (numeric (literal n)))
+    write_inline (variable i) = get_variable st.arguments i >>= λ v. write_variable i v
+    write_inline (Inline.function i xs ns) = release (get_arguments xs ns >>= λ g. call_function find i g) >>= λ v. write_result i v
+    write_inline (Inline.message i a) = write_message cross trail find i a
+    write_inline (Inline.term i a r) = release (term_arguments r >>= λ g. write_term cross trail find i a g.named)
+    write_inline (nested x) = write_expression x
 
     -- `InlineExpression::resolve`: a message, a term and an inline placeable become text in the workspace
-    pub resolveInline : Inline → M Value
-    resolveInline (Inline.string s) = string_value s
-    resolveInline (Inline.number n) = ret (numeric (literal n))
-    resolveInline (variable i) = get_variable st.arguments i >>= λ v. or_wrong v
-    resolveInline (Inline.function i xs ns) = release (getArguments xs ns >>= λ g. call_function find i g) >>= λ v. or_wrong v
-    resolveInline (Inline.message i a) = held (capture (writeMessage cross trail find i a))
-    resolveInline (Inline.term i a r) = held (capture (release (termArguments r >>= λ g. writeTerm cross trail find i a g.named)))
-    resolveInline (nested x) = held (capture (writeExpression x))
+    pub resolve_inline : Inline → M Value
+    resolve_inline (Inline.string s) = string_value s
+    resolve_inline (Inline.number n) = ret (numeric (literal n))
+    resolve_inline (variable i) = get_variable st.arguments i >>= λ v. or_wrong v
+    resolve_inline (Inline.function i xs ns) = release (get_arguments xs ns >>= λ g. call_function find i g) >>= λ v. or_wrong v
+    resolve_inline (Inline.message i a) = held (capture (write_message cross trail find i a))
+    resolve_inline (Inline.term i a r) = held (capture (release (term_arguments r >>= λ g. write_term cross trail find i a g.named)))
+    resolve_inline (nested x) = held (capture (write_expression x))
 
     -- `Scope::get_arguments`
-    pub termArguments : Arguments → M Given
-    termArguments without = ret (record { positional = []; named = [] })
-    termArguments (with-args xs ns) = getArguments xs ns
+    pub term_arguments : Arguments → M Given
+    term_arguments without = ret (record { positional = []; named = [] })
+    term_arguments (with_arguments xs ns) = get_arguments xs ns
 
-    pub getArguments : Inlines → Named → M Given
-    getArguments no-inline ns = named_values ns >>= λ n. ret (record { positional = []; named = n })
-    getArguments (and x xs) ns = resolveInline x >>= λ v. (getArguments xs ns >>= λ g. ret (pushed v g))
+    pub get_arguments : Inlines → Named → M Given
+    get_arguments no_inline ns = named_values ns >>= λ n. ret (record { positional = []; named = n })
+    get_arguments (and x xs) ns = resolve_inline x >>= λ v. (get_arguments xs ns >>= λ g. ret (pushed v g))
 
 -- a pattern, where references nest at most n deep
 unfoldable pub resolve : Setting → Find → ℕ → Pattern → Trail → M Done
 resolve st find zero p trail = ret tt
-resolve st find (suc n) p trail = writePattern st find (λ q t. resolve st find n q t) trail p
+resolve st find (suc n) p trail = write_pattern st find (λ q t. resolve st find n q t) trail p

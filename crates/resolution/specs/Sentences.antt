@@ -2,7 +2,7 @@
 -- case, in the document's order, with the document's line above it. Here they hold of formatting from the bundle as it is read; the crate `cases` holds
 -- them from bytes.
 use Rattle.std.specs.Prelude.{refl, [], ◌∷◌, ◌++◌, ℕ, zero, suc, replicate}
-use Rattle.records.specs.Tree.{Literal, Elements, no_more, no-inline, and, no_variant}
+use Rattle.records.specs.Tree.{Literal, Elements, no_more, no_inline, and, no_variant}
 use Rattle.decimals.specs.Ascii.{ascii}
 use Rattle.resolution.specs.Case.{⟨, ⟩, a_message, a_term, say, put, choice, numbered, default, var, quoted, numeral, ref, term_ref, call, whole, Case, no_errors, Formats, computed}
 
@@ -107,7 +107,7 @@ term_in_term = record {
 -- `a = { NUMBER(5, minimumFractionDigits: 0) }`: document 02, "the case `5.` becomes `5`".
 unfoldable pub five_no_dot : Case
 five_no_dot = record {
-  entries = a_message "a" (put (call "NUMBER" (and (numeral "5") no-inline) ((ascii "minimumFractionDigits", Literal.number (ascii "0")) ∷ [])) no_more) ∷ [];
+  entries = a_message "a" (put (call "NUMBER" (and (numeral "5") no_inline) ((ascii "minimumFractionDigits", Literal.number (ascii "0")) ∷ [])) no_more) ∷ [];
   message = ascii "a";
   arguments = [];
   text = ascii "5";
@@ -121,7 +121,7 @@ five_no_dot = record {
 -- `a = { NUMBER($m) }`, no m: NUMBER() without braces; Reference variable m.
 unfoldable pub number_of_none : Case
 number_of_none = record {
-  entries = a_message "a" (put (call "NUMBER" (and (var "m") no-inline) []) no_more) ∷ [];
+  entries = a_message "a" (put (call "NUMBER" (and (var "m") no_inline) []) no_more) ∷ [];
   message = ascii "a";
   arguments = [];
   text = ascii "NUMBER()";
@@ -135,7 +135,7 @@ number_of_none = record {
 -- `a = { F() }`: {F()}; unfound 1.
 unfoldable pub no_function : Case
 no_function = record {
-  entries = a_message "a" (put (call "F" no-inline []) no_more) ∷ [];
+  entries = a_message "a" (put (call "F" no_inline []) no_more) ∷ [];
   message = ascii "a";
   arguments = [];
   text = ascii "{F()}";

@@ -20,7 +20,7 @@ use Rattle.resolver.specs.Relations.Leaves.{NamedAt, NumberAt}
 use Rattle.resolver.specs.Relations.Members.{PositionalAt}
 use Rattle.resolver.proofs.Single.Puts.{counts}
 use Rattle.resolver.specs.Relations.Answers.{AnswerAt, AppliedAt}
-use Rattle.resolver.proofs.Calls.{called-stopped, called-unnamed, called-halted, called-function, called-message, called-term, called-lost}
+use Rattle.resolver.proofs.Calls.{called_stopped, called_unnamed, called_halted, called_function, called_message, called_term, called_lost}
 
 module _ (s w2 : List ℕ) (s2 : Progress) (id : List ℕ) (named m base : ℕ) (first : CodeValue.Value) (old : ℕ) {h : Found}
     (hold : (st : Store) (f : ℕ) → store_of s ≡ got st f → HolderAt s (find_in st.items id) h) where
@@ -30,23 +30,23 @@ module _ (s w2 : List ℕ) (s2 : Progress) (id : List ℕ) (named m base : ℕ) 
   pub answer-function : {s3 r : Progress} {c : CodeValue.Value} → h ≡ found.Function → NumberAt s w2 s2 named m base first s3 c → r ≡ back_s old s3 → AnswerAt s w2 s2 id named m base first old r true c
   answer-function {s3} {r} {c} eh nb er = record {
     called = λ image left at a p sp ei w x l w1 t s1 end pos hm nm z1 z2 eb eo.
-        called-function (env s image) left at sp w pos hm nm z1 z2 (holds a p ei) eh (subst (λ (b : ℕ). NumberAt s w2 s2 named m b first s3 c) eb nb) (er ∙ ap (λ (b : ℕ). back_s b s3) eo);
+        called_function (env s image) left at sp w pos hm nm z1 z2 (holds a p ei) eh (subst (λ (b : ℕ). NumberAt s w2 s2 named m b first s3 c) eb nb) (er ∙ ap (λ (b : ℕ). back_s b s3) eo);
   }
 
   pub answer-message : {r : Progress} {q : ℕ} → h ≡ found.Message q → r ≡ back_s old s2 → AnswerAt s w2 s2 id named m base first old r false val.Wrong
   answer-message {r} eh er = record {
-    called = λ image left at a p sp ei w x l w1 t s1 end pos hm nm z1 z2 eb eo. called-message (env s image) left at sp w pos hm nm z1 z2 (holds a p ei) eh (er ∙ ap (λ (b : ℕ). back_s b s2) eo);
+    called = λ image left at a p sp ei w x l w1 t s1 end pos hm nm z1 z2 eb eo. called_message (env s image) left at sp w pos hm nm z1 z2 (holds a p ei) eh (er ∙ ap (λ (b : ℕ). back_s b s2) eo);
   }
 
   pub answer-term : {r : Progress} {q : ℕ} → h ≡ found.Term q → r ≡ back_s old s2 → AnswerAt s w2 s2 id named m base first old r false val.Wrong
   answer-term {r} eh er = record {
-    called = λ image left at a p sp ei w x l w1 t s1 end pos hm nm z1 z2 eb eo. called-term (env s image) left at sp w pos hm nm z1 z2 (holds a p ei) eh (er ∙ ap (λ (b : ℕ). back_s b s2) eo);
+    called = λ image left at a p sp ei w x l w1 t s1 end pos hm nm z1 z2 eb eo. called_term (env s image) left at sp w pos hm nm z1 z2 (holds a p ei) eh (er ∙ ap (λ (b : ℕ). back_s b s2) eo);
   }
 
   pub answer-nothing : {r : Progress} → h ≡ found.Nothing → r ≡ missing_s old s2 → AnswerAt s w2 s2 id named m base first old r false val.Wrong
   answer-nothing {r} eh er = record {
     called = λ image left at a p sp ei w x l w1 t s1 end pos hm nm z1 z2 eb eo.
-        called-lost (env s image) left at sp w pos hm nm z1 z2 (holds a p ei) eh (counts refl) (er ∙ ap (λ (b : ℕ). back_s b (counted_s s2)) eo);
+        called_lost (env s image) left at sp w pos hm nm z1 z2 (holds a p ei) eh (counts refl) (er ∙ ap (λ (b : ℕ). back_s b (counted_s s2)) eo);
   }
 
 -- NUMBER's result, where its first argument is told by another name
@@ -63,7 +63,7 @@ answer-as {s} {w2} {s2} {id} {named} {m} {base} {first} {old} {r} {b} {d} {c} {v
 module _ (s : List ℕ) (at : ℕ) {w1 : List ℕ} {s1 : Progress} {first : CodeValue.Value} {end old : ℕ} where
   -- refused while they were resolved
   pub applied-stopped : (b : Bool) (c : CodeValue.Value) → (s1.refused ≡ 0 → ⊥) → AppliedAt s at w1 s1 first end old w1 s1 b c
-  applied-stopped b c z = record { called = λ image left a p sp w x l t pos eo. called-stopped (env s image) left at sp w pos b c z }
+  applied-stopped b c z = record { called = λ image left a p sp w x l t pos eo. called_stopped (env s image) left at sp w pos b c z }
 
   -- no Str is its Id: never
   pub applied-none : (b : Bool) (c : CodeValue.Value) → span_at s at ≡ bad → AppliedAt s at w1 s1 first end old w1 s1 b c
@@ -71,12 +71,12 @@ module _ (s : List ℕ) (at : ℕ) {w1 : List ℕ} {s1 : Progress} {first : Code
 
   -- no named ones stand there: never
   pub applied-unnamed : (b : Bool) (c : CodeValue.Value) → number_at 2 s end ≡ bad → AppliedAt s at w1 s1 first end old w1 s1 b c
-  applied-unnamed b c h = record { called = λ image left a p sp w x l t pos eo. called-unnamed (env s image) left at sp w pos b c h }
+  applied-unnamed b c h = record { called = λ image left a p sp w x l t pos eo. called_unnamed (env s image) left at sp w pos b c h }
 
   module _ {m named : ℕ} (hm : number_at 2 s end ≡ got m named) {w2 : List ℕ} {s2 : Progress} (nm : NamedAt s named m w1 s1 w2 s2) where
     -- refused while the named ones were resolved
     pub applied-halted : (b : Bool) (c : CodeValue.Value) → (s2.refused ≡ 0 → ⊥) → AppliedAt s at w1 s1 first end old w2 s2 b c
-    applied-halted b c z = record { called = λ image left a p sp w x l t pos eo. called-halted (env s image) left at sp w pos hm nm b c z }
+    applied-halted b c z = record { called = λ image left a p sp w x l t pos eo. called_halted (env s image) left at sp w pos hm nm b c z }
 
     -- all are known: the answer
     pub applied-answer : {a p : ℕ} {r : Progress} {b : Bool} {c : CodeValue.Value} → span_at s at ≡ got a p → s1.refused ≡ 0 → s2.refused ≡ 0

@@ -12,17 +12,17 @@ use Rattle.records.specs.declared.Next.{Next}
 use Rattle.records.specs.declared.Next.TheVariants as next
 use Rattle.records.specs.Got.{Got, got, bad}
 use Rattle.records.specs.Bytes.{part, number_at, span_at}
-use Rattle.records.specs.Tree.{Named, Inline, Inlines, no-inline, and}
-use Rattle.records.specs.Decode.{many, id_at, named_at, inlinesAt, arguments_at, inline}
+use Rattle.records.specs.Tree.{Named, Inline, Inlines, no_inline, and}
+use Rattle.records.specs.Decode.{many, id_at, named_at, inlines_at, arguments_at, inline}
 use Rattle.records.specs.Images.{Entry, Store, store_of}
-use Rattle.records.proofs.Views.{both, never, id_elim, many-cons, many-nil, arguments-elim, named_arguments_elim}
+use Rattle.records.proofs.Views.{both, never, id_elim, many_cons, many_nil, arguments_elim, named_arguments_elim}
 use Rattle.entries.specs.Lookup.{Holder, find_in}
 use Rattle.entries.specs.Relations.Meets.{HolderAt}
 use Rattle.entries.specs.declared.Found.{Found}
 use Rattle.entries.specs.declared.Found.TheVariants as found
 use Rattle.resolution.specs.Effect.{Bytes, unfound, State, Out, M, Done, ret, ◌>>=◌, ◌>>◌, emit, release}
 use Rattle.resolution.specs.Exec.{Machine, Limits}
-use Rattle.resolution.specs.Resolve.{Trail, named_values, Given, merges_of, call, call_function, look_up, resolveInline, getArguments}
+use Rattle.resolution.specs.Resolve.{Trail, named_values, Given, merges_of, call, call_function, look_up, resolve_inline, get_arguments}
 use Rattle.state.specs.Progress.{Progress}
 use Rattle.values.specs.declared.Value as CodeValue
 use Rattle.values.specs.declared.Value.TheVariants as val
@@ -32,10 +32,10 @@ use Rattle.resolver.specs.Relations.Members.{Here, ValueAt, positional_values, P
 use Rattle.state.specs.Setters.{back_s}
 use Rattle.resolver.proofs.Single.Laws.{Stays, stays, here_stays, kept_same, kept_then, runs_ret, runs_then, ended_then}
 use Rattle.resolver.proofs.Single.Steps.{runs_as}
-use Rattle.resolver.proofs.Single.Release.{release-back, release-over, runs_stopped}
-use Rattle.resolver.proofs.Binds.{look-found, look-lost, given, arguments-then}
+use Rattle.resolver.proofs.Single.Release.{release_back, release_over, runs_stopped}
+use Rattle.resolver.proofs.Binds.{look_found, look_lost, given, arguments_then}
 use Rattle.resolver.proofs.Single.Values.{named_value}
-use Rattle.resolver.proofs.References.{known-message, known-term, known-function, known-nothing}
+use Rattle.resolver.proofs.References.{known_message, known_term, known_function, known_nothing}
 
 -- what was refused stays so: where a later state is not, an earlier one was not
 kept_go : {w v : World} → Kept w v → v.st.refused ≡ 0 → w.st.refused ≡ 0
@@ -48,47 +48,47 @@ kept_go {w} {v} k z = go w.st.refused refl
 -- positional arguments, one after the other, and where they end
 pub record InlinesAt (e : Env) (left k at : ℕ) (w v : World) (end : ℕ) : Type 0 where
   pub kept : Kept w v
-  pub runs : (u : Setup e) (xs : Inlines) (f : ℕ) → inlinesAt (inline left) k e.store at ≡ got xs f
+  pub runs : (u : Setup e) (xs : Inlines) (f : ℕ) → inlines_at (inline left) k e.store at ≡ got xs f
       → (n : ℕ) (t : Trail) → Here e w 0 n t → Runs (positional_values (setting_of e u) (find_of e u) (cross_of e u n) t xs) w v
-  pub ends : (xs : Inlines) (f : ℕ) → inlinesAt (inline left) k e.store at ≡ got xs f → end ≡ f
+  pub ends : (xs : Inlines) (f : ℕ) → inlines_at (inline left) k e.store at ≡ got xs f → end ≡ f
 
 module _ (e : Env) (left : ℕ) where
-  pub inlines-none : (i p : ℕ) (w : World) → i ≤ 0 → InlinesAt e left i p w w p
-  unfolding inlinesAt positional_values
-  inlines-none i p w z = record {
+  pub inlines_none : (i p : ℕ) (w : World) → i ≤ 0 → InlinesAt e left i p w w p
+  unfolding inlines_at positional_values
+  inlines_none i p w z = record {
     kept = kept_same w;
-    runs = λ u xs f h n t here. many-nil no-inline and (inline left) e.store i p z h (λ el _.
+    runs = λ u xs f h n t here. many_nil no_inline and (inline left) e.store i p z h (λ el _.
         runs_as (ap (positional_values (setting_of e u) (find_of e u) (cross_of e u n) t) el) (runs_ret [] w));
-    ends = λ xs f h. many-nil no-inline and (inline left) e.store i p z h (λ _ ef. sym ef);
+    ends = λ xs f h. many_nil no_inline and (inline left) e.store i p z h (λ _ ef. sym ef);
   }
 
   module _ (i p : ℕ) {r : Next} {w u : World} {c : CodeValue.Value} (z : 0 < i) (h : ValueAt e left p w u c) (past : (a : Inline) (f : ℕ) → inline left e.store p ≡ got a f → r ≡ next.At f) where
-    pub inlines-more : {q : ℕ} → r ≡ next.At q → (v : World) (end : ℕ) → InlinesAt e left (i - 1) q u v end → InlinesAt e left i p w v end
-    unfolding inlinesAt positional_values
-    inlines-more {q} er v end g = record {
+    pub inlines_more : {q : ℕ} → r ≡ next.At q → (v : World) (end : ℕ) → InlinesAt e left (i - 1) q u v end → InlinesAt e left i p w v end
+    unfolding inlines_at positional_values
+    inlines_more {q} er v end g = record {
       kept = kept_then h.kept g.kept;
       runs = λ y xs f k n t here L s m lv.
-          many-cons no-inline and (inline left) e.store i p z k (λ a j l ha hl el.
+          many_cons no_inline and (inline left) e.store i p z k (λ a j l ha hl el.
           let eq : q ≡ j = (let o = past a j ha in cc) in
-          let ql : inlinesAt (inline left) (i - 1) e.store q ≡ got l f = subst (λ (b : ℕ). inlinesAt (inline left) (i - 1) e.store b ≡ got l f) (sym eq) hl in
-          let R = resolveInline (setting_of e y) (find_of e y) (cross_of e y n) t a in
+          let ql : inlines_at (inline left) (i - 1) e.store q ≡ got l f = subst (λ (b : ℕ). inlines_at (inline left) (i - 1) e.store b ≡ got l f) (sym eq) hl in
+          let R = resolve_inline (setting_of e y) (find_of e y) (cross_of e y n) t a in
           let P = positional_values (setting_of e y) (find_of e y) (cross_of e y n) t l in
           subst (λ (b : Inlines). Ended L w v (positional_values (setting_of e y) (find_of e y) (cross_of e y n) t b s) m) (sym el)
           (ended_then R (λ x. (P >>= λ vs. ret (x ∷ vs))) L s m (h.runs y a j ha n t here L s m lv) g.kept (λ m1 l1 mv.
           ended_then P (λ vs. ret ((R s).value ∷ vs)) L (R s).state m1 (g.runs y l f ql n t (here_stays here h.kept (stays mv)) L (R s).state m1 l1) (kept_same v) (λ m2 l2 mv2.
           runs_ret ((R s).value ∷ (P (R s).state).value) v L (P (R s).state).state m2 l2))));
-      ends = λ xs f k. many-cons no-inline and (inline left) e.store i p z k (λ a j l ha hl el.
+      ends = λ xs f k. many_cons no_inline and (inline left) e.store i p z k (λ a j l ha hl el.
           let eq : q ≡ j = (let o = past a j ha in cc) in
-          g.ends l f (subst (λ (b : ℕ). inlinesAt (inline left) (i - 1) e.store b ≡ got l f) (sym eq) hl));
+          g.ends l f (subst (λ (b : ℕ). inlines_at (inline left) (i - 1) e.store b ≡ got l f) (sym eq) hl));
     }
 
     -- nothing stands there: never, where the arguments were read
-    pub inlines-stop : r ≡ next.Bad → (end : ℕ) → InlinesAt e left i p w u end
-    unfolding inlinesAt
-    inlines-stop er end = record {
+    pub inlines_stop : r ≡ next.Bad → (end : ℕ) → InlinesAt e left i p w u end
+    unfolding inlines_at
+    inlines_stop er end = record {
       kept = h.kept;
-      runs = λ y xs f k n t here. many-cons no-inline and (inline left) e.store i p z k (λ a j l ha hl el. let o = past a j ha in let z : ◌≡◌ {A = ℕ} 0 1 = cc in absurd (omega arith));
-      ends = λ xs f k. many-cons no-inline and (inline left) e.store i p z k (λ a j l ha hl el. let o = past a j ha in let z : ◌≡◌ {A = ℕ} 0 1 = cc in absurd (omega arith));
+      runs = λ y xs f k n t here. many_cons no_inline and (inline left) e.store i p z k (λ a j l ha hl el. let o = past a j ha in let z : ◌≡◌ {A = ℕ} 0 1 = cc in absurd (omega arith));
+      ends = λ xs f k. many_cons no_inline and (inline left) e.store i p z k (λ a j l ha hl el. let o = past a j ha in let z : ◌≡◌ {A = ℕ} 0 1 = cc in absurd (omega arith));
     }
 
 -- a value that the code holds, as the first of several
@@ -111,60 +111,60 @@ taken_most (none_yet a b c d) = omega arith
 taken_most (one_is h u v k) = omega arith
 
 module _ {e : Env} {left n start : ℕ} {w : World} {i p : ℕ} {first : CodeValue.Value} {now u : World} {x : CodeValue.Value} where
-  pub taken-first : (q : ℕ) → 0 < i → i ≡ n → Taken e left n start w i p first now → ValueAt e left p now u x → Taken e left n start w (i - 1) q x u
-  taken-first q z ei (none_yet _ ep ew ef) h =
+  pub taken_first : (q : ℕ) → 0 < i → i ≡ n → Taken e left n start w i p first now → ValueAt e left p now u x → Taken e left n start w (i - 1) q x u
+  taken_first q z ei (none_yet _ ep ew ef) h =
       one_is (omega arith) u (subst (λ (j : ℕ). ValueAt e left j w u x) ep (subst (λ (o : World). ValueAt e left p o u x) ew h)) (kept_same u)
-  taken-first q z ei (one_is lt v k kp) h = absurd (omega arith)
+  taken_first q z ei (one_is lt v k kp) h = absurd (omega arith)
 
-  pub taken-later : (q : ℕ) → 0 < i → (i ≡ n → ⊥) → Taken e left n start w i p first now → ValueAt e left p now u x → Taken e left n start w (i - 1) q first u
-  taken-later q z ni (none_yet ei _ _ _) h = absurd (ni ei)
-  taken-later q z ni (one_is lt v k kp) h = one_is (omega arith) v k (kept_then kp h.kept)
+  pub taken_later : (q : ℕ) → 0 < i → (i ≡ n → ⊥) → Taken e left n start w i p first now → ValueAt e left p now u x → Taken e left n start w (i - 1) q first u
+  taken_later q z ni (none_yet ei _ _ _) h = absurd (ni ei)
+  taken_later q z ni (one_is lt v k kp) h = one_is (omega arith) v k (kept_then kp h.kept)
 
 module _ (e : Env) (left at : ℕ) where
-  pub positional-none : (w : World) (c : CodeValue.Value) (p : ℕ) → number_at 2 e.store at ≡ bad → PositionalAt e left at w w c p
-  positional-none w c p h = record { kept = kept_same w; runs = λ u k c xs f hn. never h hn; ends = λ k c xs f hn. never h hn; first_is = λ u k c xs f hn. never h hn }
+  pub positional_none : (w : World) (c : CodeValue.Value) (p : ℕ) → number_at 2 e.store at ≡ bad → PositionalAt e left at w w c p
+  positional_none w c p h = record { kept = kept_same w; runs = λ u k c xs f hn. never h hn; ends = λ k c xs f hn. never h hn; first_is = λ u k c xs f hn. never h hn }
 
   -- all were resolved, or one does not stand where it should
-  pub positional-all : {n start i p q : ℕ} {w v : World} {first : CodeValue.Value} → number_at 2 e.store at ≡ got n start → (i ≡ n → n ≤ 0) → Taken e left n start w i p first v
+  pub positional_all : {n start i p q : ℕ} {w v : World} {first : CodeValue.Value} → number_at 2 e.store at ≡ got n start → (i ≡ n → n ≤ 0) → Taken e left n start w i p first v
       → InlinesAt e left n start w v q → PositionalAt e left at w v first q
-  unfolding inlinesAt positional_values ◌>>=◌ ret
-  positional-all {n} {start} {i} {p} {q} {w} {v} {first} hn empty tk g = record {
+  unfolding inlines_at positional_values ◌>>=◌ ret
+  positional_all {n} {start} {i} {p} {q} {w} {v} {first} hn empty tk g = record {
     kept = g.kept;
-    runs = λ u k c xs f hk hx. both hn hk (λ ek ec. g.runs u xs f (at-start hx ek ec));
-    ends = λ k c xs f hk hx. both hn hk (λ ek ec. g.ends xs f (at-start hx ek ec));
-    first_is = λ u k c xs f hk hx m t here L s o lv z. both hn hk (λ ek ec. go tk u xs f (at-start hx ek ec) m t here L s o lv z);
+    runs = λ u k c xs f hk hx. both hn hk (λ ek ec. g.runs u xs f (at_start hx ek ec));
+    ends = λ k c xs f hk hx. both hn hk (λ ek ec. g.ends xs f (at_start hx ek ec));
+    first_is = λ u k c xs f hk hx m t here L s o lv z. both hn hk (λ ek ec. go tk u xs f (at_start hx ek ec) m t here L s o lv z);
   }
     where
-      at-start : {k c : ℕ} {xs : Inlines} {f : ℕ} → inlinesAt (inline left) k e.store c ≡ got xs f → n ≡ k → start ≡ c → inlinesAt (inline left) n e.store start ≡ got xs f
-      at-start hx ek ec = rw (ek, ec) hx
+      at_start : {k c : ℕ} {xs : Inlines} {f : ℕ} → inlines_at (inline left) k e.store c ≡ got xs f → n ≡ k → start ≡ c → inlines_at (inline left) n e.store start ≡ got xs f
+      at_start hx ek ec = rw (ek, ec) hx
 
-      go : Taken e left n start w i p first v → (u : Setup e) (xs : Inlines) (f : ℕ) → inlinesAt (inline left) n e.store start ≡ got xs f → (m : ℕ) (t : Trail) → Here e w 0 m t
+      go : Taken e left n start w i p first v → (u : Setup e) (xs : Inlines) (f : ℕ) → inlines_at (inline left) n e.store start ≡ got xs f → (m : ℕ) (t : Trail) → Here e w 0 m t
           → (L : Limits) (s : State) (o : Machine) → Live L w s o → v.st.refused ≡ 0 → FirstIs first (positional_values (setting_of e u) (find_of e u) (cross_of e u m) t xs s).value
-      go (none_yet ei _ _ ef) u xs f hx m t here L s o lv z = many-nil no-inline and (inline left) e.store n start (empty ei) hx (λ el _.
+      go (none_yet ei _ _ ef) u xs f hx m t here L s o lv z = many_nil no_inline and (inline left) e.store n start (empty ei) hx (λ el _.
           first_none (ap (λ (b : Inlines). (positional_values (setting_of e u) (find_of e u) (cross_of e u m) t b s).value) el) ef)
-      go (one_is lt u1 h kp) u xs f hx m t here L s o lv z = many-cons no-inline and (inline left) e.store n start (omega arith) hx (λ a j l ha hl el.
+      go (one_is lt u1 h kp) u xs f hx m t here L s o lv z = many_cons no_inline and (inline left) e.store n start (omega arith) hx (λ a j l ha hl el.
           subst (λ (b : Inlines). FirstIs first (positional_values (setting_of e u) (find_of e u) (cross_of e u m) t b s).value) (sym el)
           (holds_first _ (h.holds u a j ha m t here L s o lv (kept_go kp z))))
 
 -- arguments at `at`, of which the positional ones were resolved
 module _ (e : Env) (left at : ℕ) (w u1 : World) (first : CodeValue.Value) (end : ℕ) (pos : PositionalAt e left at w u1 first end) where
-  args-elim : {C : Type 0} {xs : Inlines} {ns : Named} {f : ℕ} → arguments_at (inline left) e.store at ≡ got (xs, ns) f
-      → ((k c q m r : ℕ) → number_at 2 e.store at ≡ got k c → inlinesAt (inline left) k e.store c ≡ got xs q → number_at 2 e.store end ≡ got m r → many [] ◌∷◌ m named_at e.store r ≡ got ns f → C) → C
-  args-elim {C} {xs} {ns} {f} h c = arguments-elim (inline left) e.store at h (λ k p xs' q m r ns' hk hx hm hr ew.
+  args_elim : {C : Type 0} {xs : Inlines} {ns : Named} {f : ℕ} → arguments_at (inline left) e.store at ≡ got (xs, ns) f
+      → ((k c q m r : ℕ) → number_at 2 e.store at ≡ got k c → inlines_at (inline left) k e.store c ≡ got xs q → number_at 2 e.store end ≡ got m r → many [] ◌∷◌ m named_at e.store r ≡ got ns f → C) → C
+  args_elim {C} {xs} {ns} {f} h c = arguments_elim (inline left) e.store at h (λ k p xs' q m r ns' hk hx hm hr ew.
       let ex : xs ≡ xs' = ap (λ (o : Inlines × Named). o.0) ew in
       let en : ns ≡ ns' = ap (λ (o : Inlines × Named). o.1) ew in
       named_arguments_elim m e.store r hr (λ hr' _.
       c k p q m r hk (rw ex hx) (subst (λ (j : ℕ). number_at 2 e.store j ≡ got m r) (sym (pos.ends k p xs' q hk hx)) hm) (rw en hr')))
 
   -- refused while they were resolved
-  pub arguments-stopped : {B : Type 0} (F : Given → M B) → (u1.st.refused ≡ 0 → ⊥) → (u : Setup e) (xs : Inlines) (ns : Named) (f : ℕ) → arguments_at (inline left) e.store at ≡ got (xs, ns) f
-      → (n : ℕ) (t : Trail) → Here e w 0 n t → Runs (getArguments (setting_of e u) (find_of e u) (cross_of e u n) t xs ns >>= F) w u1
-  arguments-stopped F z u xs ns f h n t here = args-elim h (λ k c q m r hk hx hm hr.
-      runs_as (arguments-then (setting_of e u) (find_of e u) (cross_of e u n) t ns F xs) (runs_stopped _ _ z (pos.runs u k c xs q hk hx n t here)))
+  pub arguments_stopped : {B : Type 0} (F : Given → M B) → (u1.st.refused ≡ 0 → ⊥) → (u : Setup e) (xs : Inlines) (ns : Named) (f : ℕ) → arguments_at (inline left) e.store at ≡ got (xs, ns) f
+      → (n : ℕ) (t : Trail) → Here e w 0 n t → Runs (get_arguments (setting_of e u) (find_of e u) (cross_of e u n) t xs ns >>= F) w u1
+  arguments_stopped F z u xs ns f h n t here = args_elim h (λ k c q m r hk hx hm hr.
+      runs_as (arguments_then (setting_of e u) (find_of e u) (cross_of e u n) t ns F xs) (runs_stopped _ _ z (pos.runs u k c xs q hk hx n t here)))
 
   -- no named ones stand there: never
-  pub arguments-unnamed : {C : Type 0} {xs : Inlines} {ns : Named} {f : ℕ} → number_at 2 e.store end ≡ bad → arguments_at (inline left) e.store at ≡ got (xs, ns) f → C
-  arguments-unnamed b h = args-elim h (λ k c q m r hk hx hm hr. never b hm)
+  pub arguments_unnamed : {C : Type 0} {xs : Inlines} {ns : Named} {f : ℕ} → number_at 2 e.store end ≡ bad → arguments_at (inline left) e.store at ≡ got (xs, ns) f → C
+  arguments_unnamed b h = args_elim h (λ k c q m r hk hx hm hr. never b hm)
 
 -- the named ones, then what follows
 module _ (e : Env) (left at : ℕ) (w : World) (x l w1 t : List ℕ) (s1 : Progress) (first : CodeValue.Value) (end : ℕ) (pos : PositionalAt e left at w (world e.store x l w1 t s1) first end)
@@ -175,24 +175,24 @@ module _ (e : Env) (left at : ℕ) (w : World) (x l w1 t : List ℕ) (s1 : Progr
   abbrev pub after : World
   after = world e.store x l w2 t s2
 
-  pub kept-named : Kept w after
-  kept-named = kept_then pos.kept (nm.kept x l t)
+  pub kept_named : Kept w after
+  kept_named = kept_then pos.kept (nm.kept x l t)
 
   module _ {B : Type 0} (F : Given → M B) {v : World} (kp : Kept after v) (u : Setup e) (xs : Inlines) (ns : Named) (f : ℕ) (h : arguments_at (inline left) e.store at ≡ got (xs, ns) f)
       (n : ℕ) (tr : Trail) (here : Here e w 0 n tr) where
     P : M (List Value)
     P = positional_values (setting_of e u) (find_of e u) (cross_of e u n) tr xs
 
-    args-named : {C : Type 0} → ((k c q : ℕ) → number_at 2 e.store at ≡ got k c → inlinesAt (inline left) k e.store c ≡ got xs q → many [] ◌∷◌ m named_at e.store named ≡ got ns f → C) → C
-    args-named c = args-elim e left at w mid first end pos h (λ k c' q m' r hk hx hm' hr. both hm hm' (λ em en. c k c' q hk hx (rw (em, en) hr)))
+    args_named : {C : Type 0} → ((k c q : ℕ) → number_at 2 e.store at ≡ got k c → inlines_at (inline left) k e.store c ≡ got xs q → many [] ◌∷◌ m named_at e.store named ≡ got ns f → C) → C
+    args_named c = args_elim e left at w mid first end pos h (λ k c' q m' r hk hx hm' hr. both hm hm' (λ em en. c k c' q hk hx (rw (em, en) hr)))
 
     -- what is known past the named ones
-    pub arguments-runs : ((vs : List Value) (L : Limits) (s : State) (k : Machine) → Live L after s k → FirstIs first vs → NamedIn w2 s2.back s1.back ns
+    pub arguments_runs : ((vs : List Value) (L : Limits) (s : State) (k : Machine) → Live L after s k → FirstIs first vs → NamedIn w2 s2.back s1.back ns
         → many [] ◌∷◌ m named_at e.store named ≡ got ns f → Here e after 0 n tr → Ended L after v (F (given vs (named_texts ns)) s) k)
-        → Runs (getArguments (setting_of e u) (find_of e u) (cross_of e u n) tr xs ns >>= F) w v
+        → Runs (get_arguments (setting_of e u) (find_of e u) (cross_of e u n) tr xs ns >>= F) w v
     unfolding P
-    arguments-runs go = args-named (λ k c q hk hx hr.
-        runs_as (arguments-then (setting_of e u) (find_of e u) (cross_of e u n) tr ns F xs) (λ L s o lv.
+    arguments_runs go = args_named (λ k c q hk hx hr.
+        runs_as (arguments_then (setting_of e u) (find_of e u) (cross_of e u n) tr ns F xs) (λ L s o lv.
         ended_then P (λ vs. (named_values ns >>= λ y. F (given vs y))) L s o (pos.runs u k c xs q hk hx n tr here L s o lv) (kept_then (nm.kept x l t) kp) (λ o1 l1 mv1.
         ended_then (named_values ns) (λ y. F (given (P s).value y)) L (P s).state o1 (nm.runs ns f hr x l t L (P s).state o1 l1) kp (λ o2 l2 mv2.
         subst (λ (y : List (Bytes × Value)). Ended L after v (F (given (P s).value y) (named_values ns (P s).state).state) o2) (sym (named_value ns (P s).state))
@@ -202,23 +202,23 @@ module _ (e : Env) (left at : ℕ) (w : World) (x l w1 t : List ℕ) (s1 : Progr
         (here_stays (here_stays here pos.kept (stays mv1)) (nm.kept x l t) (stays mv2)))))))
 
     -- the value that it gives
-    pub arguments-value : {C : Type 0} (L : Limits) (s : State) (o : Machine) → Live L w s o → s1.refused ≡ 0 → s2.refused ≡ 0
-        → ((vs : List Value) (q : State) → ((getArguments (setting_of e u) (find_of e u) (cross_of e u n) tr xs ns >>= F) s).value ≡ (F (given vs (named_texts ns)) q).value
+    pub arguments_value : {C : Type 0} (L : Limits) (s : State) (o : Machine) → Live L w s o → s1.refused ≡ 0 → s2.refused ≡ 0
+        → ((vs : List Value) (q : State) → ((get_arguments (setting_of e u) (find_of e u) (cross_of e u n) tr xs ns >>= F) s).value ≡ (F (given vs (named_texts ns)) q).value
         → FirstIs first vs → NamedIn w2 s2.back s1.back ns → many [] ◌∷◌ m named_at e.store named ≡ got ns f → C) → C
     unfolding P ◌>>=◌
-    arguments-value {C} L s o lv z1 z2 c = args-named (λ k c' q hk hx hr. go k c' q hk hx hr (pos.runs u k c' xs q hk hx n tr here L s o lv))
+    arguments_value {C} L s o lv z1 z2 c = args_named (λ k c' q hk hx hr. go k c' q hk hx hr (pos.runs u k c' xs q hk hx n tr here L s o lv))
       where
-        go : (k c' q : ℕ) → number_at 2 e.store at ≡ got k c' → inlinesAt (inline left) k e.store c' ≡ got xs q → many [] ◌∷◌ m named_at e.store named ≡ got ns f → Ended L w mid (P s) o → C
+        go : (k c' q : ℕ) → number_at 2 e.store at ≡ got k c' → inlines_at (inline left) k e.store c' ≡ got xs q → many [] ◌∷◌ m named_at e.store named ≡ got ns f → Ended L w mid (P s) o → C
         go k c' q hk hx hr (ended o1 ex l1 nn mv) = c (P s).value (named_values ns (P s).state).state
-            (ap (λ (y : M B). (y s).value) (arguments-then (setting_of e u) (find_of e u) (cross_of e u n) tr ns F xs)
+            (ap (λ (y : M B). (y s).value) (arguments_then (setting_of e u) (find_of e u) (cross_of e u n) tr ns F xs)
             ∙ ap (λ (y : List (Bytes × Value)). (F (given (P s).value y) (named_values ns (P s).state).state).value) (named_value ns (P s).state))
             (pos.first_is u k c' xs q hk hx n tr here L s o lv z1) (nm.named ns f hr x l t L (P s).state o1 l1 z2) hr
         go k c' q hk hx hr (stopped j ex nz r) = absurd (nz (sym r ∙ z1))
 
 -- a call, its Id at `at`
 module _ (e : Env) (left at : ℕ) where
-  pub called-none : (w : World) (b : Bool) (c : CodeValue.Value) → span_at e.store at ≡ bad → CalledAt e left at w w b c
-  called-none w b c h = record {
+  pub called_none : (w : World) (b : Bool) (c : CodeValue.Value) → span_at e.store at ≡ bad → CalledAt e left at w w b c
+  called_none w b c h = record {
     kept = kept_same w;
     runs = λ u i p xs ns f hi. id_elim e.store at hi (λ q hs _ _. never h hs);
     result = λ u i p xs ns f hi. id_elim e.store at hi (λ q hs _ _. never h hs);
@@ -228,27 +228,27 @@ module _ (e : Env) (left at : ℕ) where
     abbrev id_of : Bytes
     id_of = part e.store a (p - a)
 
-    call-id : {C : Type 0} {i : Bytes} {q : ℕ} → id_at e.store at ≡ got i q → (i ≡ id_of → p ≡ q → C) → C
-    call-id {C} {i} {q} hi c = id_elim e.store at hi (λ b hs et _. both sp hs (λ ea ep.
+    call_id : {C : Type 0} {i : Bytes} {q : ℕ} → id_at e.store at ≡ got i q → (i ≡ id_of → p ≡ q → C) → C
+    call_id {C} {i} {q} hi c = id_elim e.store at hi (λ b hs et _. both sp hs (λ ea ep.
         c (et ∙ ap (λ (j : ℕ). part e.store j (q - j)) (sym ea) ∙ ap (λ (j : ℕ). part e.store a (j - a)) (sym ep)) ep))
 
-    at-id : {xs : Inlines} {ns : Named} {q f : ℕ} → p ≡ q → arguments_at (inline left) e.store q ≡ got (xs, ns) f → arguments_at (inline left) e.store p ≡ got (xs, ns) f
-    at-id ep h = rw ep h
+    at_id : {xs : Inlines} {ns : Named} {q f : ℕ} → p ≡ q → arguments_at (inline left) e.store q ≡ got (xs, ns) f → arguments_at (inline left) e.store p ≡ got (xs, ns) f
+    at_id ep h = rw ep h
 
     module _ (w : World) {u1 : World} {first : CodeValue.Value} {end : ℕ} (pos : PositionalAt e left p w u1 first end) where
-      pub called-stopped : (b : Bool) (c : CodeValue.Value) → (u1.st.refused ≡ 0 → ⊥) → CalledAt e left at w u1 b c
-      called-stopped b c z = record {
+      pub called_stopped : (b : Bool) (c : CodeValue.Value) → (u1.st.refused ≡ 0 → ⊥) → CalledAt e left at w u1 b c
+      called_stopped b c z = record {
         kept = pos.kept;
-        runs = λ u i q xs ns f hi ha n t here. call-id hi (λ ei ep.
-            release-over w u1 _ z (arguments-stopped e left p w u1 first end pos (λ g. call_function (find_of e u) i g) z u xs ns f (at-id ep ha) n t here));
+        runs = λ u i q xs ns f hi ha n t here. call_id hi (λ ei ep.
+            release_over w u1 _ z (arguments_stopped e left p w u1 first end pos (λ g. call_function (find_of e u) i g) z u xs ns f (at_id ep ha) n t here));
         result = λ u i q xs ns f hi ha n t here L s m lv r. absurd (z r);
       }
 
-      pub called-unnamed : (b : Bool) (c : CodeValue.Value) → number_at 2 e.store end ≡ bad → CalledAt e left at w u1 b c
-      called-unnamed b c h = record {
+      pub called_unnamed : (b : Bool) (c : CodeValue.Value) → number_at 2 e.store end ≡ bad → CalledAt e left at w u1 b c
+      called_unnamed b c h = record {
         kept = pos.kept;
-        runs = λ u i q xs ns f hi ha n t here. call-id hi (λ ei ep. arguments-unnamed e left p w u1 first end pos h (at-id ep ha));
-        result = λ u i q xs ns f hi ha n t here L s m lv r. call-id hi (λ ei ep. arguments-unnamed e left p w u1 first end pos h (at-id ep ha));
+        runs = λ u i q xs ns f hi ha n t here. call_id hi (λ ei ep. arguments_unnamed e left p w u1 first end pos h (at_id ep ha));
+        result = λ u i q xs ns f hi ha n t here L s m lv r. call_id hi (λ ei ep. arguments_unnamed e left p w u1 first end pos h (at_id ep ha));
       }
 
     module _ (w : World) {x l w1 t : List ℕ} {s1 : Progress} {first : CodeValue.Value} {end : ℕ} (pos : PositionalAt e left p w (world e.store x l w1 t s1) first end)
@@ -256,83 +256,83 @@ module _ (e : Env) (left at : ℕ) where
       abbrev known : World
       known = world e.store x l w2 t s2
 
-      pub called-halted : (b : Bool) (c : CodeValue.Value) → (s2.refused ≡ 0 → ⊥) → CalledAt e left at w known b c
-      called-halted b c z = record {
-        kept = kept-named e left p w x l w1 t s1 first end pos m named hm w2 s2 nm;
-        runs = λ u i q xs ns f hi ha n tr here. call-id hi (λ ei ep.
-            release-over w known _ z (arguments-runs e left p w x l w1 t s1 first end pos m named hm w2 s2 nm (λ g. call_function (find_of e u) i g) (kept_same known) u xs ns f (at-id ep ha) n tr here
+      pub called_halted : (b : Bool) (c : CodeValue.Value) → (s2.refused ≡ 0 → ⊥) → CalledAt e left at w known b c
+      called_halted b c z = record {
+        kept = kept_named e left p w x l w1 t s1 first end pos m named hm w2 s2 nm;
+        runs = λ u i q xs ns f hi ha n tr here. call_id hi (λ ei ep.
+            release_over w known _ z (arguments_runs e left p w x l w1 t s1 first end pos m named hm w2 s2 nm (λ g. call_function (find_of e u) i g) (kept_same known) u xs ns f (at_id ep ha) n tr here
             (λ vs L s k lv fi ni hr here2. absurd (z lv.go))));
         result = λ u i q xs ns f hi ha n tr here L s k lv r. absurd (z r);
       }
 
       module _ (z1 : s1.refused ≡ 0) (z2 : s2.refused ≡ 0) {h : Found}
           (hold : (st : Store) (f : ℕ) → store_of e.store ≡ got st f → HolderAt e.store (find_in st.items (part e.store a (p - a))) h) where
-        holder-of : (u : Setup e) {i : Bytes} → i ≡ id_of → HolderAt e.store (find_of e u i) h
-        holder-of u ei = rw ei (hold u.held u.used u.held_at)
+        holder_of_law : (u : Setup e) {i : Bytes} → i ≡ id_of → HolderAt e.store (find_of e u i) h
+        holder_of_law u ei = rw ei (hold u.held u.used u.held_at)
 
         -- what follows the arguments, freed
-        called-by : {s3 r : Progress} {b : Bool} {c : CodeValue.Value} → r ≡ back_s w.st.back s3 → Kept known (world e.store x l w2 t s3)
+        called_by : {s3 r : Progress} {b : Bool} {c : CodeValue.Value} → r ≡ back_s w.st.back s3 → Kept known (world e.store x l w2 t s3)
             → ((u : Setup e) (i : Bytes) (ns : Named) (f : ℕ) → i ≡ id_of → (vs : List Value) (L : Limits) (s : State) (k : Machine) → Live L known s k → FirstIs first vs → NamedIn w2 s2.back s1.back ns
             → many [] ◌∷◌ m named_at e.store named ≡ got ns f → Ended L known (world e.store x l w2 t s3) (call_function (find_of e u) i (given vs (named_texts ns)) s) k)
             → ((u : Setup e) (i : Bytes) (ns : Named) (f : ℕ) → i ≡ id_of → (vs : List Value) (q : State) → FirstIs first vs → NamedIn w2 s2.back s1.back ns
             → many [] ◌∷◌ m named_at e.store named ≡ got ns f → s3.refused ≡ 0 → ResultIs e.store e.given.args w2 r.back b c (call_function (find_of e u) i (given vs (named_texts ns)) q).value)
             → CalledAt e left at w (world e.store x l w2 t r) b c
         unfolding release
-        called-by {s3} {r} {b} {c} er kp go val =
-            let kw = kept_then (kept-named e left p w x l w1 t s1 first end pos m named hm w2 s2 nm) kp in
+        called_by {s3} {r} {b} {c} er kp go val =
+            let kw = kept_then (kept_named e left p w x l w1 t s1 first end pos m named hm w2 s2 nm) kp in
             record {
               kept = record { begun = (let o = kw.begun in let o2 = ap (λ (q : Progress). q.begun) er in omega arith); over = λ f. ap (λ (q : Progress). q.refused) er ∙ kw.over f };
-              runs = λ u i q xs ns f hi ha n tr here. call-id hi (λ ei ep.
-                  release-back w (world e.store x l w2 t s3) _ er
-                  (arguments-runs e left p w x l w1 t s1 first end pos m named hm w2 s2 nm (λ g. call_function (find_of e u) i g) kp u xs ns f (at-id ep ha) n tr here
+              runs = λ u i q xs ns f hi ha n tr here. call_id hi (λ ei ep.
+                  release_back w (world e.store x l w2 t s3) _ er
+                  (arguments_runs e left p w x l w1 t s1 first end pos m named hm w2 s2 nm (λ g. call_function (find_of e u) i g) kp u xs ns f (at_id ep ha) n tr here
                   (λ vs L s k lv fi ni hr here2. go u i ns f ei vs L s k lv fi ni hr)));
-              result = λ u i q xs ns f hi ha n tr here L s k lv z. call-id hi (λ ei ep.
-                  arguments-value e left p w x l w1 t s1 first end pos m named hm w2 s2 nm (λ g. call_function (find_of e u) i g) kp u xs ns f (at-id ep ha) n tr here L s k lv z1 z2
+              result = λ u i q xs ns f hi ha n tr here L s k lv z. call_id hi (λ ei ep.
+                  arguments_value e left p w x l w1 t s1 first end pos m named hm w2 s2 nm (λ g. call_function (find_of e u) i g) kp u xs ns f (at_id ep ha) n tr here L s k lv z1 z2
                   (λ vs q ev fi ni hr.
                   subst (λ (o : Option Value). ResultIs e.store e.given.args w2 r.back b c o) (sym ev)
                   (val u i ns f ei vs q fi ni hr (sym (ap (λ (o : Progress). o.refused) er) ∙ z))));
             }
 
         -- the one function
-        pub called-function : {s3 r : Progress} {c : CodeValue.Value} → h ≡ found.Function → NumberAt e.store w2 s2 named m s1.back first s3 c → r ≡ back_s w.st.back s3
+        pub called_function : {s3 r : Progress} {c : CodeValue.Value} → h ≡ found.Function → NumberAt e.store w2 s2 named m s1.back first s3 c → r ≡ back_s w.st.back s3
             → CalledAt e left at w (world e.store x l w2 t r) true c
         unfolding call_function call ◌>>◌ ◌>>=◌ ret
-        called-function {s3} {r} {c} eh nb er = called-by er (nb.kept x l t)
-            (λ u i ns f ei vs L s k lv fi ni hr. known-function (holder-of u ei) eh (λ eo.
-            subst (λ (o : M (Option Value)). Ended L known (world e.store x l w2 t s3) (o s) k) (sym (look-found (find_of e u) i (λ o. call (given vs (named_texts ns)) o) Holder.function eo))
+        called_function {s3} {r} {c} eh nb er = called_by er (nb.kept x l t)
+            (λ u i ns f ei vs L s k lv fi ni hr. known_function (holder_of_law u ei) eh (λ eo.
+            subst (λ (o : M (Option Value)). Ended L known (world e.store x l w2 t s3) (o s) k) (sym (look_found (find_of e u) i (λ o. call (given vs (named_texts ns)) o) Holder.function eo))
             (nb.runs ns f vs s2.back hr fi ni x l t L s k lv)))
-            (λ u i ns f ei vs q fi ni hr z3. known-function (holder-of u ei) eh (λ eo.
+            (λ u i ns f ei vs q fi ni hr z3. known_function (holder_of_law u ei) eh (λ eo.
             has_result (number_function vs (named_texts ns)) refl
-            (ap (λ (o : M (Option Value)). (o q).value) (look-found (find_of e u) i (λ o. call (given vs (named_texts ns)) o) Holder.function eo))
+            (ap (λ (o : M (Option Value)). (o q).value) (look_found (find_of e u) i (λ o. call (given vs (named_texts ns)) o) Holder.function eo))
             (nb.holds ns f vs s2.back hr fi ni e.given.args r.back z2 z3)))
 
         -- an entry is no function
-        called-other : {r : Progress} → r ≡ back_s w.st.back s2 → ((u : Setup e) (i : Bytes) → i ≡ id_of → (y : Entry) × (find_of e u i ≡ some (Holder.entry y)))
+        called_other : {r : Progress} → r ≡ back_s w.st.back s2 → ((u : Setup e) (i : Bytes) → i ≡ id_of → (y : Entry) × (find_of e u i ≡ some (Holder.entry y)))
             → CalledAt e left at w (world e.store x l w2 t r) false val.Wrong
         unfolding call_function call ret
-        called-other {r} er is = called-by er (kept_same known)
+        called_other {r} er is = called_by er (kept_same known)
             (λ u i ns f ei vs L s k lv fi ni hr.
             let y = is u i ei in
-            subst (λ (o : M (Option Value)). Ended L known known (o s) k) (sym (look-found (find_of e u) i (λ o. call (given vs (named_texts ns)) o) (Holder.entry y.0) y.1)) (runs_ret none known L s k lv))
+            subst (λ (o : M (Option Value)). Ended L known known (o s) k) (sym (look_found (find_of e u) i (λ o. call (given vs (named_texts ns)) o) (Holder.entry y.0) y.1)) (runs_ret none known L s k lv))
             (λ u i ns f ei vs q fi ni hr z3.
             let y = is u i ei in
-            is_no_function refl refl (ap (λ (o : M (Option Value)). (o q).value) (look-found (find_of e u) i (λ o. call (given vs (named_texts ns)) o) (Holder.entry y.0) y.1)))
+            is_no_function refl refl (ap (λ (o : M (Option Value)). (o q).value) (look_found (find_of e u) i (λ o. call (given vs (named_texts ns)) o) (Holder.entry y.0) y.1)))
 
-        pub called-message : {r : Progress} {q : ℕ} → h ≡ found.Message q → r ≡ back_s w.st.back s2 → CalledAt e left at w (world e.store x l w2 t r) false val.Wrong
-        called-message eh er = called-other er (λ u i ei. known-message (holder-of u ei) eh (λ y f eo ek hy. (y, eo)))
+        pub called_message : {r : Progress} {q : ℕ} → h ≡ found.Message q → r ≡ back_s w.st.back s2 → CalledAt e left at w (world e.store x l w2 t r) false val.Wrong
+        called_message eh er = called_other er (λ u i ei. known_message (holder_of_law u ei) eh (λ y f eo ek hy. (y, eo)))
 
-        pub called-term : {r : Progress} {q : ℕ} → h ≡ found.Term q → r ≡ back_s w.st.back s2 → CalledAt e left at w (world e.store x l w2 t r) false val.Wrong
-        called-term eh er = called-other er (λ u i ei. known-term (holder-of u ei) eh (λ y f eo ek hy. (y, eo)))
+        pub called_term : {r : Progress} {q : ℕ} → h ≡ found.Term q → r ≡ back_s w.st.back s2 → CalledAt e left at w (world e.store x l w2 t r) false val.Wrong
+        called_term eh er = called_other er (λ u i ei. known_term (holder_of_law u ei) eh (λ y f eo ek hy. (y, eo)))
 
         -- nothing has the Id
-        pub called-lost : {s3 r : Progress} → h ≡ found.Nothing → ((i x l w t : List ℕ) → Acts (emit unfound) (world i x l w t s2) (world i x l w t s3)) → r ≡ back_s w.st.back s3
+        pub called_lost : {s3 r : Progress} → h ≡ found.Nothing → ((i x l w t : List ℕ) → Acts (emit unfound) (world i x l w t s2) (world i x l w t s3)) → r ≡ back_s w.st.back s3
             → CalledAt e left at w (world e.store x l w2 t r) false val.Wrong
         unfolding call_function call ret ◌>>◌ ◌>>=◌
-        called-lost {s3} {r} eh c er =
+        called_lost {s3} {r} eh c er =
             let c1 = c e.store x l w2 t in
-            called-by er c1.kept
-            (λ u i ns f ei vs L s k lv fi ni hr. known-nothing (holder-of u ei) eh (λ eo.
-            subst (λ (o : M (Option Value)). Ended L known (world e.store x l w2 t s3) (o s) k) (sym (look-lost (find_of e u) i (λ o. call (given vs (named_texts ns)) o) eo))
+            called_by er c1.kept
+            (λ u i ns f ei vs L s k lv fi ni hr. known_nothing (holder_of_law u ei) eh (λ eo.
+            subst (λ (o : M (Option Value)). Ended L known (world e.store x l w2 t s3) (o s) k) (sym (look_lost (find_of e u) i (λ o. call (given vs (named_texts ns)) o) eo))
             (runs_then c1.runs (kept_same (world e.store x l w2 t s3)) (λ _. runs_ret none (world e.store x l w2 t s3)) L s k lv)))
-            (λ u i ns f ei vs q fi ni hr z3. known-nothing (holder-of u ei) eh (λ eo.
-            is_no_function refl refl (ap (λ (o : M (Option Value)). (o q).value) (look-lost (find_of e u) i (λ o. call (given vs (named_texts ns)) o) eo))))
+            (λ u i ns f ei vs q fi ni hr z3. known_nothing (holder_of_law u ei) eh (λ eo.
+            is_no_function refl refl (ap (λ (o : M (Option Value)). (o q).value) (look_lost (find_of e u) i (λ o. call (given vs (named_texts ns)) o) eo))))

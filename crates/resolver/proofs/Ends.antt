@@ -20,11 +20,11 @@ use Rattle.records.specs.Errors.{enc_errors, list_header}
 use Rattle.growth.specs.Items.{at_front}
 use Rattle.resolution.specs.Effect.{Bytes}
 use Rattle.resolution.specs.Exec.{Machine, Ran, ran, refused, start}
-use Rattle.resolution.specs.Format.{Answer, finished, refusedBefore, refusedRunning, Buffers, Formatted, zeros, refuse, or_refuse, ended, format_with, format_arguments, format, limits_of, run_pattern, values_of}
+use Rattle.resolution.specs.Format.{Answer, finished, refused_before, refused_running, Buffers, Formatted, zeros, refuse, or_refuse, ended, format_with, format_arguments, format, limits_of, run_pattern, values_of}
 use Rattle.layout.specs.Exact.{Octets}
 use Rattle.theorems.specs.HighestUse.{highest_use}
 use Rattle.theorems.specs.Figures.{FigureIs}
-use Rattle.theorems.proofs.Formattings.{few-unfound}
+use Rattle.theorems.proofs.Formattings.{few_unfound}
 use Rattle.theorems.proofs.Figures.{answers_highest}
 use Rattle.state.specs.Progress.{Progress}
 use Rattle.resolver.specs.Relations.Meets.{lent, env, Setup, setting_of, find_of}
@@ -42,8 +42,8 @@ use Rattle.resolver.proofs.Finish.{closes}
 answer_is : (x : Answer) → ((t e b u w : ℕ) → x ≡ finished t e b u w → u ≤ max_unfound) → stopped_of x ≡ x
 unfolding stopped_of
 answer_is (finished t e b u w) h = let m : min u max_unfound ≡ u = omega (arith, h t e b u w refl) in ap (λ (j : ℕ). finished t e b j w) m
-answer_is (refusedBefore n) h = refl
-answer_is (refusedRunning n) h = refl
+answer_is (refused_before n) h = refl
+answer_is (refused_running n) h = refl
 
 pub stopped_is : (f : Formatted) → ((t e b u w : ℕ) → f.answer ≡ finished t e b u w → u ≤ max_unfound) → stopped f ≡ f
 unfolding stopped
@@ -57,44 +57,44 @@ refused_is s id a image x l w n e er = ap (λ (c : CodeAnswer.Answer). gave c x 
 
 module _ (s id : Bytes) (a : Option Bytes) (image x l w : Bytes) {p : CodePart.Part} (h : PatternFound s id a p) where
   -- 4, 8, 11, 12
-  pub format-refused : {n : ℕ} {r : CodeAnswer.Answer} → p ≡ PartAnswer.Refused n → r ≡ ans.Refused n → gave r x l w ≡ format s id a image (buffers x l w)
-  format-refused {n} {r} e er = go h
+  pub format_refused : {n : ℕ} {r : CodeAnswer.Answer} → p ≡ PartAnswer.Refused n → r ≡ ans.Refused n → gave r x l w ≡ format s id a image (buffers x l w)
+  format_refused {n} {r} e er = go h
     where
       go : PatternFound s id a p → gave r x l w ≡ format s id a image (buffers x l w)
       go (refuses m e' f) = let q : m ≡ n = cc in refused_is s id a image x l w n (f image (buffers x l w) ∙ ap (λ (i : ℕ). refuse i (buffers x l w)) q) er
       go (finds q st used pt f e' hs hp k) = let z : ◌≡◌ {A = ℕ} 0 1 = cc in absurd (omega arith)
 
   module _ (q : ℕ) (e : p ≡ PartAnswer.At q) where
-    found-elim : {C : Type 0} → ((st : Store) (used : ℕ) (pt : Pattern) (f : ℕ) → store_of s ≡ got st used → entry_pattern_at s q ≡ got pt f → format s id a image (buffers x l w) ≡ format_arguments st pt (judge image) (buffers x l w) → C) → C
-    found-elim {C} c = go h
+    found_elim : {C : Type 0} → ((st : Store) (used : ℕ) (pt : Pattern) (f : ℕ) → store_of s ≡ got st used → entry_pattern_at s q ≡ got pt f → format s id a image (buffers x l w) ≡ format_arguments st pt (judge image) (buffers x l w) → C) → C
+    found_elim {C} c = go h
       where
         go : PatternFound s id a p → C
         go (refuses m e' f) = let z : ◌≡◌ {A = ℕ} 0 1 = cc in absurd (omega arith)
         go (finds q' st used pt f e' hs hp k) = let eq : q' ≡ q = cc in c st used pt f hs (subst (λ (j : ℕ). entry_pattern_at s j ≡ got pt f) eq hp) (k image (buffers x l w))
 
     -- 13, 19
-    pub format-arguments : {n : ℕ} {r : CodeAnswer.Answer} → n ≡ refusal_of (judge image) → (n ≡ 0 → ⊥) → r ≡ ans.Refused n → gave r x l w ≡ format s id a image (buffers x l w)
+    pub format_arguments_law : {n : ℕ} {r : CodeAnswer.Answer} → n ≡ refusal_of (judge image) → (n ≡ 0 → ⊥) → r ≡ ans.Refused n → gave r x l w ≡ format s id a image (buffers x l w)
     unfolding format_arguments
-    format-arguments {n} e ne er = found-elim (λ st used pt f hs hp k. refused_is s id a image x l w n (k ∙ rw (judged_refused image e ne)) er)
+    format_arguments_law {n} e ne er = found_elim (λ st used pt f hs hp k. refused_is s id a image x l w n (k ∙ rw (judged_refused image e ne)) er)
 
     module _ {args : List (Bytes × Argument)} (ha : judge image ≡ accepted args) where
       -- 7, of a list buffer that has no room for a header
-      pub format-header : {r : CodeAnswer.Answer} → length l < 5 → r ≡ ans.Refused 7 → gave r x l w ≡ format s id a image (buffers x l w)
+      pub format_header : {r : CodeAnswer.Answer} → length l < 5 → r ≡ ans.Refused 7 → gave r x l w ≡ format s id a image (buffers x l w)
       unfolding format_arguments format_with or_refuse list_header
-      format-header small er = found-elim (λ st used pt f hs hp k. refused_is s id a image x l w 7 (k ∙ rw (ha, lt-leb 5 (length l) small)) er)
+      format_header small er = found_elim (λ st used pt f hs hp k. refused_is s id a image x l w 7 (k ∙ rw (ha, lt-leb 5 (length l) small)) er)
 
       -- the run
-      pub format-run : {places x₁ l₁ w₁ : Bytes} {p sc : Progress} {n : ℕ} {given : Formatted} → Noted image places → Octets s → 5 ≤ length l → p ≡ new_s (length w) → RunOn (env s (lent image places)) q x l w p x₁ l₁ w₁ sc → n ≡ sc.begun
+      pub format_run : {places x₁ l₁ w₁ : Bytes} {p sc : Progress} {n : ℕ} {given : Formatted} → Noted image places → Octets s → 5 ≤ length l → p ≡ new_s (length w) → RunOn (env s (lent image places)) q x l w p x₁ l₁ w₁ sc → n ≡ sc.begun
           → given ≡ closed sc n (buffers x₁ l₁ w₁) → given ≡ format s id a image (buffers x l w)
       unfolding format_arguments format_with or_refuse list_header run_pattern
-      format-run {places} {x₁} {l₁} {w₁} {p = p} {sc = sc} {n = n} nt oct big ep ru en g = found-elim (λ st used pt f hs hp k.
+      format_run {places} {x₁} {l₁} {w₁} {p = p} {sc = sc} {n = n} nt oct big ep ru en g = found_elim (λ st used pt f hs hp k.
           let u : Setup (env s (lent image places)) = record { held = st; used = used; held_at = hs; given = args; given_at = ha; noted = nt } in
           let o : Ran = run_pattern (setting_of (env s (lent image places)) u) (find_of (env s (lent image places)) u) (limits_of (buffers x l w)) pt in
           let begins : Rests x l w p start = subst (λ (y : Progress). Rests x l w y start) (sym ep) (rests_start x l w big) in
           let ran : RanAs o x l p x₁ l₁ w₁ sc sc.begun = (ru.runs u pt f hp start (unfold start in refl) begins).0 in
           let c : closed sc n (buffers x₁ l₁ w₁) ≡ stopped (ended o (buffers x l w)) = closes x l w p x₁ l₁ w₁ sc n ru.text_size ru.list_size ru.work_size o (subst (λ (j : ℕ). RanAs o x l p x₁ l₁ w₁ sc j) (sym en) ran) in
           let d : format s id a image (buffers x l w) ≡ ended o (buffers x l w) = k ∙ rw (ha, le-leb 5 (length l) big) in
-          g ∙ c ∙ sym (ap stopped d) ∙ stopped_is (format s id a image (buffers x l w)) (λ t e b u v h. omega (arith, few-unfound s id a image (buffers x l w) oct t e b u v h)))
+          g ∙ c ∙ sym (ap stopped d) ∙ stopped_is (format s id a image (buffers x l w)) (λ t e b u v h. omega (arith, few_unfound s id a image (buffers x l w) oct t e b u v h)))
 
 -- what gives the definition's answer gives its figure
 pub figured : (r : CodeAnswer.Answer) (x l w : Bytes) (o : Formatted) (n : ℕ) → gave r x l w ≡ o → FigureIs o.answer n → FigureIs (answer_of r) n

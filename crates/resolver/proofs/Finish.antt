@@ -14,12 +14,12 @@ use Rattle.records.specs.Encode.{enc_all}
 use Rattle.records.specs.Errors.{Error, enc_error, enc_errors}
 use Rattle.buffers.specs.Relations.Append.{over}
 use Rattle.texts.specs.Relations.Report.{header, headed}
-use Rattle.buffers.proofs.Place.{drop-over}
-use Rattle.texts.proofs.Recording.{headed-done, headed_errors}
+use Rattle.buffers.proofs.Place.{drop_over}
+use Rattle.texts.proofs.Recording.{headed_done, headed_errors}
 use Rattle.growth.specs.Items.{at_front}
 use Rattle.resolution.specs.Effect.{Bytes}
 use Rattle.resolution.specs.Exec.{Machine, Ran, ran, refused}
-use Rattle.resolution.specs.Format.{Answer, finished, refusedRunning, Buffers, Formatted, zeros, ended}
+use Rattle.resolution.specs.Format.{Answer, finished, refused_running, Buffers, Formatted, zeros, ended}
 use Rattle.state.specs.Progress.{Progress}
 use Rattle.state.specs.Setters.{max_unfound}
 use Rattle.resolver.proofs.Single.Puts.{errors_length}
@@ -35,13 +35,13 @@ header_size n = refl
 
 -- a header leaves what stands behind it
 header_drop : (d : List ℕ) (k : ℕ) → 5 + k ≤ length d → 5 + k < 4294967296 → drop (5 + k) (headed d (5 + k)) ≡ drop (5 + k) d
-header_drop d k h g = ap (drop (5 + k)) (headed-done d (5 + k) (omega arith) g) ∙ sym (drop-drop k 5 _) ∙ ap (drop k) five ∙ drop-drop k 5 d
+header_drop d k h g = ap (drop (5 + k)) (headed_done d (5 + k) (omega arith) g) ∙ sym (drop-drop k 5 _) ∙ ap (drop k) five ∙ drop-drop k 5 d
   where
     size : length (header (5 + k)) ≡ 5
     size = header_size (5 + k)
 
     five : drop 5 (over d 0 (header (5 + k))) ≡ drop 5 d
-    five = subst (λ (i : ℕ). drop (0 + i) (over d 0 (header (5 + k))) ≡ drop (0 + i) d) size (drop-over d 0 (header (5 + k)) (omega arith))
+    five = subst (λ (i : ℕ). drop (0 + i) (over d 0 (header (5 + k))) ≡ drop (0 + i) d) size (drop_over d 0 (header (5 + k)) (omega arith))
 
 front_is : (x y b : List ℕ) (n : ℕ) → n ≡ length b → take n y ≡ b → drop n y ≡ drop n x → y ≡ at_front b x
 unfolding at_front
@@ -79,15 +79,15 @@ module _ (x l w : Bytes) (p : Progress) (x₁ l₁ w₁ : Bytes) (sc : Progress)
       rw (eq-eqb sc.refused 0 r.go, eq) (same_formatted answer (front_is x x₁ m.written sc.text_at (sym tl) (sym r.written) g.text_rest) (list_is m.errors l l₁ sc.list_at en r.list_u32 li (sym r.listed) g.list_rest) (zeroed w₁ w lw))
   closes o (refused_as c eq z few en) =
       let nz : eqb sc.refused 0 ≡ false = ne_eqb sc.refused 0 (λ k. z (sym en ∙ k)) in
-      rw (nz, eq) (same_formatted (ap refusedRunning (ap (λ (k : ℕ). k % 256) en ∙ mod-eq_of_lt few)) (zeroed x₁ x lx) (zeroed l₁ l ll) (zeroed w₁ w lw))
+      rw (nz, eq) (same_formatted (ap refused_running (ap (λ (k : ℕ). k % 256) en ∙ mod-eq_of_lt few)) (zeroed x₁ x lx) (zeroed l₁ l ll) (zeroed w₁ w lw))
 
 -- the two ways in which the code ends
 module _ (sc : Progress) (n : ℕ) (x₁ l₁ w₁ : Bytes) {x₂ l₂ w₂ : Bytes} where
-  pub closed-cleared : {c : ℕ} → (sc.refused ≡ 0 → ⊥) → x₂ ≡ replicate (length x₁) 0 → l₂ ≡ replicate (length l₁) 0 → w₂ ≡ replicate (length w₁) 0 → c ≡ sc.refused % 256 → gave (ans.Cleared c) x₂ l₂ w₂ ≡ closed sc n (buffers x₁ l₁ w₁)
+  pub closed_cleared : {c : ℕ} → (sc.refused ≡ 0 → ⊥) → x₂ ≡ replicate (length x₁) 0 → l₂ ≡ replicate (length l₁) 0 → w₂ ≡ replicate (length w₁) 0 → c ≡ sc.refused % 256 → gave (ans.Cleared c) x₂ l₂ w₂ ≡ closed sc n (buffers x₁ l₁ w₁)
   unfolding gave answer_of closed closed_if zeros
-  closed-cleared z ex el ew ec = rw (ne_eqb sc.refused 0 z) (same_formatted (ap refusedRunning ec) ex el ew)
+  closed_cleared z ex el ew ec = rw (ne_eqb sc.refused 0 z) (same_formatted (ap refused_running ec) ex el ew)
 
-  pub closed-finished : {u : ℕ} → sc.refused ≡ 0 → x₂ ≡ x₁ → l₂ ≡ headed l₁ sc.list_at → w₂ ≡ replicate (length w₁) 0 → u ≡ sc.unfound
+  pub closed_finished : {u : ℕ} → sc.refused ≡ 0 → x₂ ≡ x₁ → l₂ ≡ headed l₁ sc.list_at → w₂ ≡ replicate (length w₁) 0 → u ≡ sc.unfound
       → gave (ans.Finished (record { text = sc.text_at; errors = sc.errors; begun = n; unfound = u; work = sc.high })) x₂ l₂ w₂ ≡ closed sc n (buffers x₁ l₁ w₁)
   unfolding gave answer_of closed closed_if zeros
-  closed-finished z ex el ew eu = rw (eq-eqb sc.refused 0 z) (same_formatted (ap (λ (j : ℕ). finished sc.text_at sc.errors n j sc.high) eu) ex el ew)
+  closed_finished z ex el ew eu = rw (eq-eqb sc.refused 0 z) (same_formatted (ap (λ (j : ℕ). finished sc.text_at sc.errors n j sc.high) eu) ex el ew)

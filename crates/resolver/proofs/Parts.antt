@@ -8,7 +8,7 @@ use Rattle.records.specs.Got.{got}
 use Rattle.records.specs.Bytes.{byte_at, number_at}
 use Rattle.records.specs.declared.Num.{Num}
 use Rattle.records.specs.declared.Num.TheVariants as num
-use Rattle.records.proofs.Views.{both, inline-elim}
+use Rattle.records.proofs.Views.{both, inline_elim}
 use Rattle.heads.specs.Tags.{text_tag}
 use Rattle.heads.proofs.Heads.{no_text_tag}
 use Rattle.state.specs.Progress.{Progress}
@@ -21,7 +21,7 @@ use Rattle.resolver.specs.Relations.Meets.{Lent, World, world, Env, env}
 use Rattle.resolver.specs.Relations.Leaves.{ReferenceIs}
 use Rattle.resolver.specs.Relations.Members.{PositionalAt, TermAt, TextValueAt, ValueAt}
 use Rattle.resolver.specs.Relations.Parts.{Lone, TermFlag, flagged, unflagged}
-use Rattle.resolver.proofs.Calls.{InlinesAt, Taken, none_yet, one_is, taken-first, taken-later}
+use Rattle.resolver.proofs.Calls.{InlinesAt, Taken, none_yet, one_is, taken_first, taken_later}
 
 -- a variable holds no other expression; nor does what is no call and gives no text
 pub lone_variable : {tag : ℕ} → tag ≡ 6 → Lone tag
@@ -47,20 +47,20 @@ flag_none (unflagged e h) er' = h
 pub text_deep : (e : Env) (left at : ℕ) (x l w t : List ℕ) (st : Progress) {s1 : Progress} (c : CodeValue.Value) → s1 ≡ aside_s true st → left ≡ 0 → TextValueAt e left at (world e.store x l w t st) (world e.store x l w t s1) c
 text_deep e left at x l w t st c es h = record {
   kept = record { begun = (let o = ap (λ (q : Progress). q.begun) es in omega arith); over = λ f. ap (λ (q : Progress). q.refused) es };
-  runs = λ u y f k. inline-elim e.store at left k (λ tag p hb z b. absurd (omega arith));
-  holds = λ u y f k n t here L s m lv z. inline-elim e.store at left k (λ tag p hb z b. absurd (omega arith));
+  runs = λ u y f k. inline_elim e.store at left k (λ tag p hb z b. absurd (omega arith));
+  holds = λ u y f k n t here L s m lv z. inline_elim e.store at left k (λ tag p hb z b. absurd (omega arith));
 }
 
 -- one argument more, and some first value
 pub taken_next : {e : Env} {left n start : ℕ} {w : World} {i p : ℕ} {first : CodeValue.Value} {now u : World} {x : CodeValue.Value} (q : ℕ) → 0 < i → Taken e left n start w i p first now → ValueAt e left p now u x
     → (c : CodeValue.Value) × Taken e left n start w (i - 1) q c u
-taken_next {x = x} q z (none_yet ei ep ew ef) h = (x, taken-first q z ei (none_yet ei ep ew ef) h)
-taken_next {first = first} q z (one_is lt v k kp) h = (first, taken-later q z (λ ei. omega arith) (one_is lt v k kp) h)
+taken_next {x = x} q z (none_yet ei ep ew ef) h = (x, taken_first q z ei (none_yet ei ep ew ef) h)
+taken_next {first = first} q z (one_is lt v k kp) h = (first, taken_later q z (λ ei. omega arith) (one_is lt v k kp) h)
 
 module _ (e : Env) (left at : ℕ) where
   -- arguments that end nowhere: never
-  pub positional-stop : {n start : ℕ} {w v : World} → number_at 2 e.store at ≡ got n start → ((end : ℕ) → InlinesAt e left n start w v end) → (c : CodeValue.Value) (q : ℕ) → PositionalAt e left at w v c q
-  positional-stop {n} {start} hn g c q = record {
+  pub positional_stop : {n start : ℕ} {w v : World} → number_at 2 e.store at ≡ got n start → ((end : ℕ) → InlinesAt e left n start w v end) → (c : CodeValue.Value) (q : ℕ) → PositionalAt e left at w v c q
+  positional_stop {n} {start} hn g c q = record {
     kept = (g 0).kept;
     runs = λ u k b xs f hk hx m t here. both hn hk (λ ek eb. (g 0).runs u xs f (rw (ek, eb) hx) m t here);
     ends = λ k b xs f hk hx. both hn hk (λ ek eb. let o = (g (suc f)).ends xs f (rw (ek, eb) hx) in absurd (omega arith));
@@ -68,5 +68,5 @@ module _ (e : Env) (left at : ℕ) where
   }
 
   -- the same arguments, their first value and their end under other names
-  pub positional-as : {w v : World} {first c : CodeValue.Value} {q end : ℕ} → c ≡ first → end ≡ q → PositionalAt e left at w v first q → PositionalAt e left at w v c end
-  positional-as {w} {v} {first} {c} {q} {end} ec ee h = subst (λ (o : CodeValue.Value). PositionalAt e left at w v o end) (sym ec) (subst (λ (o : ℕ). PositionalAt e left at w v first o) (sym ee) h)
+  pub positional_as : {w v : World} {first c : CodeValue.Value} {q end : ℕ} → c ≡ first → end ≡ q → PositionalAt e left at w v first q → PositionalAt e left at w v c end
+  positional_as {w} {v} {first} {c} {q} {end} ec ee h = subst (λ (o : CodeValue.Value). PositionalAt e left at w v o end) (sym ec) (subst (λ (o : ℕ). PositionalAt e left at w v first o) (sym ee) h)

@@ -16,8 +16,8 @@ use Rattle.entries.specs.Relations.Meets.{found_of, held_by, at_position, Holder
 use Rattle.entries.specs.declared.Found.{Found}
 use Rattle.entries.specs.declared.Found.TheVariants as found
 use Rattle.entries.proofs.Held.{held_found, says_held}
-use Rattle.entries.proofs.Located.{holder-at}
-use Rattle.entries.proofs.Parts.{part-at-place}
+use Rattle.entries.proofs.Located.{holder_at}
+use Rattle.entries.proofs.Parts.{part_at_place}
 use Rattle.resolution.specs.Effect.{Bytes}
 use Rattle.resolution.specs.Resolve.{as_message, message_only}
 use Rattle.resolution.specs.Format.{Buffers, refuse, or_refuse, is_id_or_none, format_part, format_entry, format_store, format}
@@ -32,13 +32,13 @@ pattern_no_store s id a h er = refuses 4 er (λ image b. rw h refl)
 
 module _ (s id : Bytes) (a : Option Bytes) {st : Store} {used : ℕ} (h : store_of s ≡ got st used) where
   -- 8: no Id
-  pub pattern-no-id : {r : CodePart.Part} → is_id id ≡ false → r ≡ PartAnswer.Refused 8 → PatternFound s id a r
+  pub pattern_no_id : {r : CodePart.Part} → is_id id ≡ false → r ≡ PartAnswer.Refused 8 → PatternFound s id a r
   unfolding format format_store or_refuse
-  pattern-no-id e er = refuses 8 er (λ image b. rw (h, e) refl)
+  pattern_no_id e er = refuses 8 er (λ image b. rw (h, e) refl)
 
-  pub pattern-no-attribute-id : {r : CodePart.Part} → is_id id ≡ true → is_id_or_none a ≡ false → r ≡ PartAnswer.Refused 8 → PatternFound s id a r
+  pub pattern_no_attribute_id : {r : CodePart.Part} → is_id id ≡ true → is_id_or_none a ≡ false → r ≡ PartAnswer.Refused 8 → PatternFound s id a r
   unfolding format format_store or_refuse
-  pattern-no-attribute-id e e' er = refuses 8 er (λ image b. rw (h, e, e') refl)
+  pattern_no_attribute_id e e' er = refuses 8 er (λ image b. rw (h, e, e') refl)
 
   module _ (e : is_id id ≡ true) (e' : is_id_or_none a ≡ true) where
     entered : (image : Bytes) (b : Buffers) → format s id a image b ≡ format_entry st (as_message (find_in st.items id)) a image b
@@ -46,72 +46,72 @@ module _ (s id : Bytes) (a : Option Bytes) {st : Store} {used : ℕ} (h : store_
     entered image b = rw (h, e, e') refl
 
     -- 11, 12, or the pattern
-    pub pattern-of : {r : CodePart.Part} → MessageFound s st id a r → PatternFound s id a r
+    pub pattern_of_law : {r : CodePart.Part} → MessageFound s st id a r → PatternFound s id a r
     unfolding format_entry format_part
-    pattern-of (no_message er o) = refuses 11 er (λ image b. entered image b ∙ rw o refl)
-    pattern-of (no_such_part e er o n) = refuses 12 er (λ image b. entered image b ∙ rw (o, n) refl)
-    pattern-of (pattern_found e q p f er o n hp) = finds q st used p f er h hp (λ image b. entered image b ∙ rw (o, n) refl)
+    pattern_of_law (no_message er o) = refuses 11 er (λ image b. entered image b ∙ rw o refl)
+    pattern_of_law (no_such_part e er o n) = refuses 12 er (λ image b. entered image b ∙ rw (o, n) refl)
+    pattern_of_law (pattern_found e q p f er o n hp) = finds q st used p f er h hp (λ image b. entered image b ∙ rw (o, n) refl)
 
 -- what stands at the places of the outline is what the store's reading says
 module _ (s id : Bytes) (a : Option Bytes) {v : Store} {used : ℕ} (h : store_of s ≡ got v used) where
-  part-of : (o : Option ℕ) (e : Entry) → as_message (find_in v.items id) ≡ some e → PartAt s (part_of a e) (at_position o) → MessageFound s v id a (part_answer o)
+  part_of_law : (o : Option ℕ) (e : Entry) → as_message (find_in v.items id) ≡ some e → PartAt s (part_of a e) (at_position o) → MessageFound s v id a (part_answer o)
   unfolding part_answer at_position
-  part-of none e he (no_part _ n) = no_such_part e refl he n
-  part-of none e he (part_at _ _ _ g _ _) = let z : ◌≡◌ {A = ℕ} 0 1 = cc in absurd (omega arith)
-  part-of (some q) e he (part_at q' p f g n hp) =
+  part_of_law none e he (no_part _ n) = no_such_part e refl he n
+  part_of_law none e he (part_at _ _ _ g _ _) = let z : ◌≡◌ {A = ℕ} 0 1 = cc in absurd (omega arith)
+  part_of_law (some q) e he (part_at q' p f g n hp) =
       let eq : q' ≡ q = cc in
       pattern_found e q p f refl he n (subst (λ (i : ℕ). entry_pattern_at s i ≡ got p f) eq hp)
-  part-of (some q) e he (no_part g _) = let z : ◌≡◌ {A = ℕ} 0 1 = cc in absurd (omega arith)
+  part_of_law (some q) e he (no_part g _) = let z : ◌≡◌ {A = ℕ} 0 1 = cc in absurd (omega arith)
 
-  holder-found : (o : Option Location) → HolderAt s (find_in v.items id) (found_of o) → MessageFound s v id a (message_at o s a)
+  holder_found : (o : Option Location) → HolderAt s (find_in v.items id) (found_of o) → MessageFound s v id a (message_at o s a)
   unfolding as_message message_only held_by message_at
-  holder-found o (is_message_at q e f g oe k at) =
+  holder_found o (is_message_at q e f g oe k at) =
       let eo : o ≡ some (Location.message q) = sym (held_found o) ∙ ap held_by g in
       let he : as_message (find_in v.items id) ≡ some e = rw (oe, k) refl in
-      rw eo (part-of (part_in a s q) e he (part-at-place s q a refl e f at))
-  holder-found o (term_at q e f g oe k at) =
+      rw eo (part_of_law (part_in a s q) e he (part_at_place s q a refl e f at))
+  holder_found o (term_at q e f g oe k at) =
       let eo : o ≡ some (Location.term q) = sym (held_found o) ∙ ap held_by g in
       rw eo (no_message refl (rw (oe, k) refl))
-  holder-found o (is_function_at g oe) =
+  holder_found o (is_function_at g oe) =
       let eo : o ≡ some Location.function = sym (held_found o) ∙ ap held_by g in
       rw eo (no_message refl (rw oe refl))
-  holder-found o (nothing_at g oe) =
+  holder_found o (nothing_at g oe) =
       let eo : o ≡ none = sym (held_found o) ∙ ap held_by g in
       rw eo (no_message refl (rw oe refl))
 
-  pub message-found : {r : CodePart.Part} → r ≡ message_in s id a → MessageFound s v id a r
+  pub message_found_law : {r : CodePart.Part} → r ≡ message_in s id a → MessageFound s v id a r
   unfolding message_in
-  message-found e = rw e (holder-found (locate s id) (holder-at s id refl v used h))
+  message_found_law e = rw e (holder_found (locate s id) (holder_at s id refl v used h))
 
 -- the code's steps: what holds the id, and then the part
 module _ (s id : Bytes) (a : Option Bytes) {f : Found} (is : f ≡ found_of (locate s id)) where
   located : {x : Found} → f ≡ x → locate s id ≡ held_by x
   located e = sym (says_held is) ∙ ap held_by e
 
-  pub found-term : {q : ℕ} → f ≡ found.Term q → PartAnswer.Refused 11 ≡ message_in s id a
+  pub found_term_law : {q : ℕ} → f ≡ found.Term q → PartAnswer.Refused 11 ≡ message_in s id a
   unfolding message_in message_at held_by
-  found-term e = rw (located e) refl
+  found_term_law e = rw (located e) refl
 
-  pub found-function : f ≡ found.Function → PartAnswer.Refused 11 ≡ message_in s id a
+  pub found_function : f ≡ found.Function → PartAnswer.Refused 11 ≡ message_in s id a
   unfolding message_in message_at held_by
-  found-function e = rw (located e) refl
+  found_function e = rw (located e) refl
 
   pub found_nothing : f ≡ found.Nothing → PartAnswer.Refused 11 ≡ message_in s id a
   unfolding message_in message_at held_by
   found_nothing e = rw (located e) refl
 
   module _ {q : ℕ} (e : f ≡ found.Message q) {n : Next} (ip : n ≡ at_position (part_in a s q)) where
-    in-message : message_in s id a ≡ part_answer (part_in a s q)
+    in_message : message_in s id a ≡ part_answer (part_in a s q)
     unfolding message_in message_at held_by
-    in-message = rw (located e) refl
+    in_message = rw (located e) refl
 
     answered : (o : Option ℕ) → n ≡ at_position o → (n ≡ next.Bad → PartAnswer.Refused 12 ≡ part_answer o) × ((j : ℕ) → n ≡ next.At j → PartAnswer.At j ≡ part_answer o)
     unfolding at_position part_answer
     answered none h = (λ _. refl, λ j k. let z : ◌≡◌ {A = ℕ} 0 1 = cc in absurd (omega arith))
     answered (some i) h = (λ k. let z : ◌≡◌ {A = ℕ} 0 1 = cc in absurd (omega arith), λ j k. let eq : j ≡ i = cc in ap PartAnswer.At eq)
 
-    pub found-no-part : n ≡ next.Bad → PartAnswer.Refused 12 ≡ message_in s id a
-    found-no-part k = (answered (part_in a s q) ip).0 k ∙ sym in-message
+    pub found_no_part : n ≡ next.Bad → PartAnswer.Refused 12 ≡ message_in s id a
+    found_no_part k = (answered (part_in a s q) ip).0 k ∙ sym in_message
 
     pub found_part : {j : ℕ} → n ≡ next.At j → PartAnswer.At j ≡ message_in s id a
-    found_part {j} k = (answered (part_in a s q) ip).1 j k ∙ sym in-message
+    found_part {j} k = (answered (part_in a s q) ip).1 j k ∙ sym in_message

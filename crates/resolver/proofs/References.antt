@@ -11,11 +11,11 @@ use Rattle.records.specs.declared.Next.TheVariants as next
 use Rattle.records.specs.Got.{Got, got, bad}
 use Rattle.records.specs.Bytes.{part, byte_at, number_at, span_at}
 use Rattle.records.specs.Tree.{Pattern, Inline, Arguments}
-use Rattle.records.specs.Decode.{id_at, optional_at, termAt, termArgumentsAt, entry_pattern_at, expression, inline}
+use Rattle.records.specs.Decode.{id_at, optional_at, term_reference_at, term_arguments_at, entry_pattern_at, expression, inline}
 use Rattle.records.specs.Images.{Kind, Entry, Store, store_of, entry_at}
 use Rattle.records.specs.Errors.{Error, Referred, reference, no_value}
-use Rattle.records.proofs.Laws.{after-elim, number_inv, byte_inv}
-use Rattle.records.proofs.Views.{both, never, id_elim, term-elim, Body, a_string, a_number, is-function, is-message, is-term, is-variable, is-nested, inline-elim}
+use Rattle.records.proofs.Laws.{after_elim, number_inv, byte_inv}
+use Rattle.records.proofs.Views.{both, never, id_elim, term_elim, Body, a_string, a_number, is_function, is_message, is_term, is_variable, is_nested, inline_elim}
 use Rattle.records.specs.Optional.{option_of}
 use Rattle.texts.specs.Relations.Report.{referred_of}
 use Rattle.texts.specs.declared.errors.Referred.TheVariants as referred
@@ -24,7 +24,7 @@ use Rattle.entries.specs.Relations.Meets.{HolderAt, is_message_at, term_at, is_f
 use Rattle.entries.specs.declared.Found.{Found}
 use Rattle.entries.specs.declared.Found.TheVariants as found
 use Rattle.resolution.specs.Effect.{Bytes, report, unfound, M, Done, emit, write, ◌>>=◌, ◌>>◌}
-use Rattle.resolution.specs.Resolve.{Trail, dotted, error_text, braced, write_ref_error, look_up, message_only, term_only, as_message, as_term, track, onPart, missingPart, messageFound, termFound, writeMessage}
+use Rattle.resolution.specs.Resolve.{Trail, dotted, error_text, braced, write_ref_error, look_up, message_only, term_only, as_message, as_term, track, on_part, missing_piece, message_found, term_found, write_message}
 use Rattle.state.specs.Progress.{Progress}
 use Rattle.state.specs.declared.Reference.{Reference}
 use Rattle.state.specs.declared.Referring.{Referring}
@@ -34,49 +34,49 @@ use Rattle.resolver.specs.Relations.Leaves.{ErrorAt, RefErrorAt, ReferenceIs, re
 use Rattle.resolver.specs.Relations.Members.{Here, TrackAt, MessageAt, FoundTermAt}
 use Rattle.resolver.proofs.Single.Laws.{kept_same, kept_then, runs_then}
 use Rattle.resolver.proofs.Single.Steps.{runs_as, runs_over}
-use Rattle.resolver.proofs.Binds.{look-found, look-lost}
+use Rattle.resolver.proofs.Binds.{look_found, look_lost}
 
 -- a reference that was read: its Id and its attribute stand past its tag
 module _ (s : List ℕ) (at d : ℕ) {i : Bytes} {a : Option Bytes} {f : ℕ} {C : Type 0} where
-  pub message-read : inline d s at ≡ got (Inline.message i a) f → ((q : ℕ) → id_at s (at + 1) ≡ got i q → optional_at id_at s q ≡ got a f → C) → C
-  message-read h c = inline-elim s at d h (λ tag p hb z v. go tag p (byte_inv s at hb).2 v)
+  pub message_read : inline d s at ≡ got (Inline.message i a) f → ((q : ℕ) → id_at s (at + 1) ≡ got i q → optional_at id_at s q ≡ got a f → C) → C
+  message_read h c = inline_elim s at d h (λ tag p hb z v. go tag p (byte_inv s at hb).2 v)
     where
       go : (tag p : ℕ) → p ≡ at + 1 → Body (expression (d - 1)) (inline (d - 1)) s p tag (Inline.message i a) f → C
       go tag p ep (a_string b e q ew) = let z : ◌≡◌ {A = ℕ} 0 1 = cc in absurd (omega arith)
       go tag p ep (a_number b e q ew) = let z : ◌≡◌ {A = ℕ} 0 1 = cc in absurd (omega arith)
-      go tag p ep (is-function n q b e hn ha ew) = let z : ◌≡◌ {A = ℕ} 0 1 = cc in absurd (omega arith)
-      go tag p ep (is-message n q b e hn ha ew) =
+      go tag p ep (is_function n q b e hn ha ew) = let z : ◌≡◌ {A = ℕ} 0 1 = cc in absurd (omega arith)
+      go tag p ep (is_message n q b e hn ha ew) =
           let en : n ≡ i = cc in let ea : b ≡ a = cc in
           c q (rw (← ep, ← en) hn) (rw (← ea) ha)
-      go tag p ep (is-term e q) = term-elim (inline (d - 1)) s p q (λ n q' b g r hn ha hr ew. let z : ◌≡◌ {A = ℕ} 0 1 = cc in absurd (omega arith))
-      go tag p ep (is-variable n e q ew) = let z : ◌≡◌ {A = ℕ} 0 1 = cc in absurd (omega arith)
-      go tag p ep (is-nested y e q ew) = let z : ◌≡◌ {A = ℕ} 0 1 = cc in absurd (omega arith)
+      go tag p ep (is_term e q) = term_elim (inline (d - 1)) s p q (λ n q' b g r hn ha hr ew. let z : ◌≡◌ {A = ℕ} 0 1 = cc in absurd (omega arith))
+      go tag p ep (is_variable n e q ew) = let z : ◌≡◌ {A = ℕ} 0 1 = cc in absurd (omega arith)
+      go tag p ep (is_nested y e q ew) = let z : ◌≡◌ {A = ℕ} 0 1 = cc in absurd (omega arith)
 
-  pub term-read : {r : Arguments} → inline d s at ≡ got (Inline.term i a r) f
-      → ((q g : ℕ) → id_at s (at + 1) ≡ got i q → optional_at id_at s q ≡ got a g → termArgumentsAt (inline (d - 1)) s g ≡ got r f → C) → C
-  term-read {r} h c = inline-elim s at d h (λ tag p hb z v. go tag p (byte_inv s at hb).2 v)
+  pub term_read : {r : Arguments} → inline d s at ≡ got (Inline.term i a r) f
+      → ((q g : ℕ) → id_at s (at + 1) ≡ got i q → optional_at id_at s q ≡ got a g → term_arguments_at (inline (d - 1)) s g ≡ got r f → C) → C
+  term_read {r} h c = inline_elim s at d h (λ tag p hb z v. go tag p (byte_inv s at hb).2 v)
     where
       go : (tag p : ℕ) → p ≡ at + 1 → Body (expression (d - 1)) (inline (d - 1)) s p tag (Inline.term i a r) f → C
       go tag p ep (a_string b e q ew) = let z : ◌≡◌ {A = ℕ} 0 1 = cc in absurd (omega arith)
       go tag p ep (a_number b e q ew) = let z : ◌≡◌ {A = ℕ} 0 1 = cc in absurd (omega arith)
-      go tag p ep (is-function n q b e hn ha ew) = let z : ◌≡◌ {A = ℕ} 0 1 = cc in absurd (omega arith)
-      go tag p ep (is-message n q b e hn ha ew) = let z : ◌≡◌ {A = ℕ} 0 1 = cc in absurd (omega arith)
-      go tag p ep (is-term e q) = term-elim (inline (d - 1)) s p q (λ n q' b g r' hn ha hr ew.
+      go tag p ep (is_function n q b e hn ha ew) = let z : ◌≡◌ {A = ℕ} 0 1 = cc in absurd (omega arith)
+      go tag p ep (is_message n q b e hn ha ew) = let z : ◌≡◌ {A = ℕ} 0 1 = cc in absurd (omega arith)
+      go tag p ep (is_term e q) = term_elim (inline (d - 1)) s p q (λ n q' b g r' hn ha hr ew.
           let en : n ≡ i = cc in let ea : b ≡ a = cc in let eq : r' ≡ r = cc in
           c q' g (rw (← ep, ← en) hn) (rw (← ea) ha) (rw (← eq) hr))
-      go tag p ep (is-variable n e q ew) = let z : ◌≡◌ {A = ℕ} 0 1 = cc in absurd (omega arith)
-      go tag p ep (is-nested y e q ew) = let z : ◌≡◌ {A = ℕ} 0 1 = cc in absurd (omega arith)
+      go tag p ep (is_variable n e q ew) = let z : ◌≡◌ {A = ℕ} 0 1 = cc in absurd (omega arith)
+      go tag p ep (is_nested y e q ew) = let z : ◌≡◌ {A = ℕ} 0 1 = cc in absurd (omega arith)
 
 -- past the end nothing is read
 pub reference_past : (s : List ℕ) (at : ℕ) → length s ≤ at → ReferenceIs s (at + 1) ref.Bad
 unfolding span_at
-reference_past s at h = unread refl (λ n p a f hn ha. id_elim s (at + 1) hn (λ q hs et ei. after-elim (number_at 2 s (at + 1)) _ hs (λ k c hk _. absurd (let z = number_inv s 2 (at + 1) hk in omega arith))))
+reference_past s at h = unread refl (λ n p a f hn ha. id_elim s (at + 1) hn (λ q hs et ei. after_elim (number_at 2 s (at + 1)) _ hs (λ k c hk _. absurd (let z = number_inv s 2 (at + 1) hk in omega arith))))
 
 -- what the code read of a reference
 module _ (s : List ℕ) (at : ℕ) {r : Reference} (rd : ReferenceIs s at r) where
   -- nothing was read: never
-  pub reference-none : {C : Type 0} {n : Bytes} {p : ℕ} {a : Option Bytes} {f : ℕ} → r ≡ ref.Bad → id_at s at ≡ got n p → optional_at id_at s p ≡ got a f → C
-  reference-none {C} {n} {p} {a} {f} er hn ha = go rd
+  pub reference_none : {C : Type 0} {n : Bytes} {p : ℕ} {a : Option Bytes} {f : ℕ} → r ≡ ref.Bad → id_at s at ≡ got n p → optional_at id_at s p ≡ got a f → C
+  reference_none {C} {n} {p} {a} {f} er hn ha = go rd
     where
       go : ReferenceIs s at r → C
       go (reads from to has start end e h₀ h₁ h₂ h₃ h) = let z : ◌≡◌ {A = ℕ} 0 1 = cc in absurd (omega arith)
@@ -89,8 +89,8 @@ module _ (s : List ℕ) (at : ℕ) {r : Reference} (rd : ReferenceIs s at r) whe
     abbrev pub attribute_of : Bytes
     attribute_of = part s x.start (x.end - x.start)
 
-    pub reference-in : (x.from ≤ x.to) × (x.to ≤ length s) × (x.start ≤ x.end) × (x.end ≤ length s)
-    reference-in = go rd
+    pub reference_in : (x.from ≤ x.to) × (x.to ≤ length s) × (x.start ≤ x.end) × (x.end ≤ length s)
+    reference_in = go rd
       where
         go : ReferenceIs s at r → (x.from ≤ x.to) × (x.to ≤ length s) × (x.start ≤ x.end) × (x.end ≤ length s)
         go (reads from to has start end e h₀ h₁ h₂ h₃ h) =
@@ -110,29 +110,29 @@ module _ (s : List ℕ) (at : ℕ) {r : Reference} (rd : ReferenceIs s at r) whe
 
 -- what holds an Id, by the code's answer
 module _ {s : List ℕ} {o : Option Holder} {h : Found} {C : Type 0} where
-  pub known-message : {q : ℕ} → HolderAt s o h → h ≡ found.Message q → ((x : Entry) (f : ℕ) → o ≡ some (Holder.entry x) → x.kind ≡ Kind.message → entry_at s q ≡ got x f → C) → C
-  known-message {q} (is_message_at q' x f e eo ek hx) eh c = let eq : q' ≡ q = cc in c x f eo ek (rw (← eq) hx)
-  known-message (term_at q' x f e eo ek hx) eh c = let z : ◌≡◌ {A = ℕ} 0 1 = cc in absurd (omega arith)
-  known-message (is_function_at e eo) eh c = let z : ◌≡◌ {A = ℕ} 0 1 = cc in absurd (omega arith)
-  known-message (nothing_at e eo) eh c = let z : ◌≡◌ {A = ℕ} 0 1 = cc in absurd (omega arith)
+  pub known_message : {q : ℕ} → HolderAt s o h → h ≡ found.Message q → ((x : Entry) (f : ℕ) → o ≡ some (Holder.entry x) → x.kind ≡ Kind.message → entry_at s q ≡ got x f → C) → C
+  known_message {q} (is_message_at q' x f e eo ek hx) eh c = let eq : q' ≡ q = cc in c x f eo ek (rw (← eq) hx)
+  known_message (term_at q' x f e eo ek hx) eh c = let z : ◌≡◌ {A = ℕ} 0 1 = cc in absurd (omega arith)
+  known_message (is_function_at e eo) eh c = let z : ◌≡◌ {A = ℕ} 0 1 = cc in absurd (omega arith)
+  known_message (nothing_at e eo) eh c = let z : ◌≡◌ {A = ℕ} 0 1 = cc in absurd (omega arith)
 
-  pub known-term : {q : ℕ} → HolderAt s o h → h ≡ found.Term q → ((x : Entry) (f : ℕ) → o ≡ some (Holder.entry x) → x.kind ≡ Kind.term → entry_at s q ≡ got x f → C) → C
-  known-term {q} (term_at q' x f e eo ek hx) eh c = let eq : q' ≡ q = cc in c x f eo ek (rw (← eq) hx)
-  known-term (is_message_at q' x f e eo ek hx) eh c = let z : ◌≡◌ {A = ℕ} 0 1 = cc in absurd (omega arith)
-  known-term (is_function_at e eo) eh c = let z : ◌≡◌ {A = ℕ} 0 1 = cc in absurd (omega arith)
-  known-term (nothing_at e eo) eh c = let z : ◌≡◌ {A = ℕ} 0 1 = cc in absurd (omega arith)
+  pub known_term : {q : ℕ} → HolderAt s o h → h ≡ found.Term q → ((x : Entry) (f : ℕ) → o ≡ some (Holder.entry x) → x.kind ≡ Kind.term → entry_at s q ≡ got x f → C) → C
+  known_term {q} (term_at q' x f e eo ek hx) eh c = let eq : q' ≡ q = cc in c x f eo ek (rw (← eq) hx)
+  known_term (is_message_at q' x f e eo ek hx) eh c = let z : ◌≡◌ {A = ℕ} 0 1 = cc in absurd (omega arith)
+  known_term (is_function_at e eo) eh c = let z : ◌≡◌ {A = ℕ} 0 1 = cc in absurd (omega arith)
+  known_term (nothing_at e eo) eh c = let z : ◌≡◌ {A = ℕ} 0 1 = cc in absurd (omega arith)
 
-  pub known-function : HolderAt s o h → h ≡ found.Function → (o ≡ some Holder.function → C) → C
-  known-function (is_message_at q' x f e eo ek hx) eh c = let z : ◌≡◌ {A = ℕ} 0 1 = cc in absurd (omega arith)
-  known-function (term_at q' x f e eo ek hx) eh c = let z : ◌≡◌ {A = ℕ} 0 1 = cc in absurd (omega arith)
-  known-function (is_function_at e eo) eh c = c eo
-  known-function (nothing_at e eo) eh c = let z : ◌≡◌ {A = ℕ} 0 1 = cc in absurd (omega arith)
+  pub known_function : HolderAt s o h → h ≡ found.Function → (o ≡ some Holder.function → C) → C
+  known_function (is_message_at q' x f e eo ek hx) eh c = let z : ◌≡◌ {A = ℕ} 0 1 = cc in absurd (omega arith)
+  known_function (term_at q' x f e eo ek hx) eh c = let z : ◌≡◌ {A = ℕ} 0 1 = cc in absurd (omega arith)
+  known_function (is_function_at e eo) eh c = c eo
+  known_function (nothing_at e eo) eh c = let z : ◌≡◌ {A = ℕ} 0 1 = cc in absurd (omega arith)
 
-  pub known-nothing : HolderAt s o h → h ≡ found.Nothing → (o ≡ none → C) → C
-  known-nothing (is_message_at q' x f e eo ek hx) eh c = let z : ◌≡◌ {A = ℕ} 0 1 = cc in absurd (omega arith)
-  known-nothing (term_at q' x f e eo ek hx) eh c = let z : ◌≡◌ {A = ℕ} 0 1 = cc in absurd (omega arith)
-  known-nothing (is_function_at e eo) eh c = let z : ◌≡◌ {A = ℕ} 0 1 = cc in absurd (omega arith)
-  known-nothing (nothing_at e eo) eh c = c eo
+  pub known_nothing : HolderAt s o h → h ≡ found.Nothing → (o ≡ none → C) → C
+  known_nothing (is_message_at q' x f e eo ek hx) eh c = let z : ◌≡◌ {A = ℕ} 0 1 = cc in absurd (omega arith)
+  known_nothing (term_at q' x f e eo ek hx) eh c = let z : ◌≡◌ {A = ℕ} 0 1 = cc in absurd (omega arith)
+  known_nothing (is_function_at e eo) eh c = let z : ◌≡◌ {A = ℕ} 0 1 = cc in absurd (omega arith)
+  known_nothing (nothing_at e eo) eh c = c eo
 
 known_part : {s : List ℕ} {o : Option Pattern} {r : Next} {q : ℕ} {C : Type 0} → PartAt s o r → r ≡ next.At q → ((p : Pattern) (f : ℕ) → o ≡ some p → entry_pattern_at s q ≡ got p f → C) → C
 known_part {q = q} (part_at q' p f e eo hp) er c = let eq : q' ≡ q = cc in c p f eo (rw (← eq) hp)
@@ -144,17 +144,17 @@ missing_part (no_part e eo) er c = c eo
 
 -- an entry by its kind
 module _ (x : Entry) where
-  as-message : x.kind ≡ Kind.message → as_message (some (Holder.entry x)) ≡ some x
+  as_message_law : x.kind ≡ Kind.message → as_message (some (Holder.entry x)) ≡ some x
   unfolding as_message message_only
-  as-message h = ap (λ (k : Kind). message_only k x) h
+  as_message_law h = ap (λ (k : Kind). message_only k x) h
 
   no_message : x.kind ≡ Kind.term → as_message (some (Holder.entry x)) ≡ none
   unfolding as_message message_only
   no_message h = ap (λ (k : Kind). message_only k x) h
 
-  as-term : x.kind ≡ Kind.term → as_term (some (Holder.entry x)) ≡ some x
+  as_term_law : x.kind ≡ Kind.term → as_term (some (Holder.entry x)) ≡ some x
   unfolding as_term term_only
-  as-term h = ap (λ (k : Kind). term_only k x) h
+  as_term_law h = ap (λ (k : Kind). term_only k x) h
 
   no_term : x.kind ≡ Kind.message → as_term (some (Holder.entry x)) ≡ none
   unfolding as_term term_only
@@ -162,28 +162,28 @@ module _ (x : Entry) where
 
 -- the writing of a message or term that was found
 module _ (cross : Pattern → Trail → M Done) (t : Trail) (i : Bytes) (a : Option Bytes) (x : Entry) where
-  of-message : {o : Option Pattern} → x.kind ≡ Kind.message → part_of a x ≡ o → messageFound cross t i a (as_message (some (Holder.entry x))) ≡ onPart cross t (missingPart cross t i a) (dotted i a) o
-  unfolding messageFound
-  of-message h p = ap (messageFound cross t i a) (as-message x h) ∙ ap (onPart cross t (missingPart cross t i a) (dotted i a)) p
+  of_message : {o : Option Pattern} → x.kind ≡ Kind.message → part_of a x ≡ o → message_found cross t i a (as_message (some (Holder.entry x))) ≡ on_part cross t (missing_piece cross t i a) (dotted i a) o
+  unfolding message_found
+  of_message h p = ap (message_found cross t i a) (as_message_law x h) ∙ ap (on_part cross t (missing_piece cross t i a) (dotted i a)) p
 
-  of-term : {o : Option Pattern} → x.kind ≡ Kind.term → part_of a x ≡ o → termFound cross t i a (as_term (some (Holder.entry x))) ≡ onPart cross t (reference Referred.term i a) (45 ∷ dotted i a) o
-  unfolding termFound
-  of-term h p = ap (termFound cross t i a) (as-term x h) ∙ ap (onPart cross t (reference Referred.term i a) (45 ∷ dotted i a)) p
+  of_term : {o : Option Pattern} → x.kind ≡ Kind.term → part_of a x ≡ o → term_found cross t i a (as_term (some (Holder.entry x))) ≡ on_part cross t (reference Referred.term i a) (45 ∷ dotted i a) o
+  unfolding term_found
+  of_term h p = ap (term_found cross t i a) (as_term_law x h) ∙ ap (on_part cross t (reference Referred.term i a) (45 ∷ dotted i a)) p
 
 -- a message reference
 module _ (e : Env) (at : ℕ) where
-  pub message-over : (w : World) → (w.st.refused ≡ 0 → ⊥) → MessageAt e at w w
-  message-over w h = record { kept = kept_same w; runs = λ u d i a f k n t here. runs_over _ w h }
+  pub message_over : (w : World) → (w.st.refused ≡ 0 → ⊥) → MessageAt e at w w
+  message_over w h = record { kept = kept_same w; runs = λ u d i a f k n t here. runs_over _ w h }
 
-  pub found-term-over : (w : World) → (w.st.refused ≡ 0 → ⊥) → FoundTermAt e at w w
-  found-term-over w h = record { kept = kept_same w; runs = λ u d i a r f k n t here. runs_over _ w h }
+  pub found_term_over : (w : World) → (w.st.refused ≡ 0 → ⊥) → FoundTermAt e at w w
+  found_term_over w h = record { kept = kept_same w; runs = λ u d i a r f k n t here. runs_over _ w h }
 
   module _ {r : Reference} (rd : ReferenceIs e.store (at + 1) r) where
-    pub message-unread : (w : World) → r ≡ ref.Bad → MessageAt e at w w
-    message-unread w er = record { kept = kept_same w; runs = λ u d i a f k n t here. message-read e.store at d k (λ q hn ha. reference-none e.store (at + 1) rd er hn ha) }
+    pub message_unread : (w : World) → r ≡ ref.Bad → MessageAt e at w w
+    message_unread w er = record { kept = kept_same w; runs = λ u d i a f k n t here. message_read e.store at d k (λ q hn ha. reference_none e.store (at + 1) rd er hn ha) }
 
-    pub found-term-unread : (w : World) → r ≡ ref.Bad → FoundTermAt e at w w
-    found-term-unread w er = record { kept = kept_same w; runs = λ u d i a r f k n t here. term-read e.store at d k (λ q g hn ha hr. reference-none e.store (at + 1) rd er hn ha) }
+    pub found_term_unread : (w : World) → r ≡ ref.Bad → FoundTermAt e at w w
+    found_term_unread w er = record { kept = kept_same w; runs = λ u d i a r f k n t here. term_read e.store at d k (λ q g hn ha hr. reference_none e.store (at + 1) rd er hn ha) }
 
     module _ (y : Referring) (er : r ≡ ref.Is y) {h : Found}
         (hold : (st : Store) (f : ℕ) → store_of e.store ≡ got st f → HolderAt e.store (find_in st.items (part e.store y.from (y.to - y.from))) h) where
@@ -197,122 +197,122 @@ module _ (e : Env) (at : ℕ) where
       -- the error of a reference
       module _ {x l w x' l' w' : List ℕ} {st s' : Progress} (t : List ℕ) where
         module _ (re : RefErrorAt e.store at (referred_of referred.Message) x l w st x' l' w' s') where
-          message-error : (d : ℕ) {i : Bytes} {a : Option Bytes} {f : ℕ} → inline d e.store at ≡ got (Inline.message i a) f → Runs (write_ref_error (reference Referred.message i a) (dotted i a)) (world e.store x l w t st) (world e.store x' l' w' t s')
+          message_error : (d : ℕ) {i : Bytes} {a : Option Bytes} {f : ℕ} → inline d e.store at ≡ got (Inline.message i a) f → Runs (write_ref_error (reference Referred.message i a) (dotted i a)) (world e.store x l w t st) (world e.store x' l' w' t s')
           unfolding referred_of
-          message-error d {i} {a} {f} k = re.message refl t d i a f k
+          message_error d {i} {a} {f} k = re.message refl t d i a f k
 
-          pub message-term : {q : ℕ} → h ≡ found.Term q → MessageAt e at (world e.store x l w t st) (world e.store x' l' w' t s')
-          unfolding writeMessage messageFound
-          message-term eh = record {
+          pub message_term : {q : ℕ} → h ≡ found.Term q → MessageAt e at (world e.store x l w t st) (world e.store x' l' w' t s')
+          unfolding write_message message_found
+          message_term eh = record {
             kept = re.kept t;
-            runs = λ u d i a f k n tr here. message-read e.store at d k (λ q hn ha. known-term (holder u hn ha) eh (λ z g eo ek hz.
-                runs_as (look-found (find_of e u) i _ (Holder.entry z) eo ∙ ap (messageFound (cross_of e u n) tr i a) (no_message z ek)) (message-error d k)));
+            runs = λ u d i a f k n tr here. message_read e.store at d k (λ q hn ha. known_term (holder u hn ha) eh (λ z g eo ek hz.
+                runs_as (look_found (find_of e u) i _ (Holder.entry z) eo ∙ ap (message_found (cross_of e u n) tr i a) (no_message z ek)) (message_error d k)));
           }
 
-          pub message-function : h ≡ found.Function → MessageAt e at (world e.store x l w t st) (world e.store x' l' w' t s')
-          unfolding writeMessage messageFound as_message
-          message-function eh = record {
+          pub message_function : h ≡ found.Function → MessageAt e at (world e.store x l w t st) (world e.store x' l' w' t s')
+          unfolding write_message message_found as_message
+          message_function eh = record {
             kept = re.kept t;
-            runs = λ u d i a f k n tr here. message-read e.store at d k (λ q hn ha. known-function (holder u hn ha) eh (λ eo.
-                runs_as (look-found (find_of e u) i _ Holder.function eo) (message-error d k)));
+            runs = λ u d i a f k n tr here. message_read e.store at d k (λ q hn ha. known_function (holder u hn ha) eh (λ eo.
+                runs_as (look_found (find_of e u) i _ Holder.function eo) (message_error d k)));
           }
 
-          pub message-lost : {s0 : Progress} → h ≡ found.Nothing → ((i x l w t : List ℕ) → Acts (emit unfound) (world i x l w t s0) (world i x l w t st)) → MessageAt e at (world e.store x l w t s0) (world e.store x' l' w' t s')
-          unfolding writeMessage messageFound as_message
-          message-lost {s0} eh c =
+          pub message_lost : {s0 : Progress} → h ≡ found.Nothing → ((i x l w t : List ℕ) → Acts (emit unfound) (world i x l w t s0) (world i x l w t st)) → MessageAt e at (world e.store x l w t s0) (world e.store x' l' w' t s')
+          unfolding write_message message_found as_message
+          message_lost {s0} eh c =
               let c1 = c e.store x l w t in
               record {
                 kept = kept_then c1.kept (re.kept t);
-                runs = λ u d i a f k n tr here. message-read e.store at d k (λ q hn ha. known-nothing (holder u hn ha) eh (λ eo.
-                    runs_as (look-lost (find_of e u) i _ eo) (runs_then c1.runs (re.kept t) (λ _. message-error d k))));
+                runs = λ u d i a f k n tr here. message_read e.store at d k (λ q hn ha. known_nothing (holder u hn ha) eh (λ eo.
+                    runs_as (look_lost (find_of e u) i _ eo) (runs_then c1.runs (re.kept t) (λ _. message_error d k))));
               }
 
         module _ (re : RefErrorAt e.store at (referred_of referred.Term) x l w st x' l' w' s') where
-          term-error : (d : ℕ) {i : Bytes} {a : Option Bytes} {r : Arguments} {f : ℕ} → inline d e.store at ≡ got (Inline.term i a r) f → Runs (write_ref_error (reference Referred.term i a) (45 ∷ dotted i a)) (world e.store x l w t st) (world e.store x' l' w' t s')
+          term_error : (d : ℕ) {i : Bytes} {a : Option Bytes} {r : Arguments} {f : ℕ} → inline d e.store at ≡ got (Inline.term i a r) f → Runs (write_ref_error (reference Referred.term i a) (45 ∷ dotted i a)) (world e.store x l w t st) (world e.store x' l' w' t s')
           unfolding referred_of
-          term-error d {i} {a} {r} {f} k = re.term refl t d i a r f k
+          term_error d {i} {a} {r} {f} k = re.term refl t d i a r f k
 
-          pub found-term-message : {q : ℕ} → h ≡ found.Message q → FoundTermAt e at (world e.store x l w t st) (world e.store x' l' w' t s')
-          unfolding termFound
-          found-term-message eh = record {
+          pub found_term_message : {q : ℕ} → h ≡ found.Message q → FoundTermAt e at (world e.store x l w t st) (world e.store x' l' w' t s')
+          unfolding term_found
+          found_term_message eh = record {
             kept = re.kept t;
-            runs = λ u d i a r f k n tr here. term-read e.store at d k (λ q g hn ha hr. known-message (holder u hn ha) eh (λ z g' eo ek hz.
-                runs_as (look-found (find_of e u) i _ (Holder.entry z) eo ∙ ap (termFound (cross_of e u n) tr i a) (no_term z ek)) (term-error d k)));
+            runs = λ u d i a r f k n tr here. term_read e.store at d k (λ q g hn ha hr. known_message (holder u hn ha) eh (λ z g' eo ek hz.
+                runs_as (look_found (find_of e u) i _ (Holder.entry z) eo ∙ ap (term_found (cross_of e u n) tr i a) (no_term z ek)) (term_error d k)));
           }
 
-          pub found-term-function : h ≡ found.Function → FoundTermAt e at (world e.store x l w t st) (world e.store x' l' w' t s')
-          unfolding termFound as_term
-          found-term-function eh = record {
+          pub found_term_function : h ≡ found.Function → FoundTermAt e at (world e.store x l w t st) (world e.store x' l' w' t s')
+          unfolding term_found as_term
+          found_term_function eh = record {
             kept = re.kept t;
-            runs = λ u d i a r f k n tr here. term-read e.store at d k (λ q g hn ha hr. known-function (holder u hn ha) eh (λ eo.
-                runs_as (look-found (find_of e u) i _ Holder.function eo) (term-error d k)));
+            runs = λ u d i a r f k n tr here. term_read e.store at d k (λ q g hn ha hr. known_function (holder u hn ha) eh (λ eo.
+                runs_as (look_found (find_of e u) i _ Holder.function eo) (term_error d k)));
           }
 
-          pub found-term-lost : {s0 : Progress} → h ≡ found.Nothing → ((i x l w t : List ℕ) → Acts (emit unfound) (world i x l w t s0) (world i x l w t st)) → FoundTermAt e at (world e.store x l w t s0) (world e.store x' l' w' t s')
-          unfolding termFound as_term
-          found-term-lost {s0} eh c =
+          pub found_term_lost : {s0 : Progress} → h ≡ found.Nothing → ((i x l w t : List ℕ) → Acts (emit unfound) (world i x l w t s0) (world i x l w t st)) → FoundTermAt e at (world e.store x l w t s0) (world e.store x' l' w' t s')
+          unfolding term_found as_term
+          found_term_lost {s0} eh c =
               let c1 = c e.store x l w t in
               record {
                 kept = kept_then c1.kept (re.kept t);
-                runs = λ u d i a r f k n tr here. term-read e.store at d k (λ q g hn ha hr. known-nothing (holder u hn ha) eh (λ eo.
-                    runs_as (look-lost (find_of e u) i _ eo) (runs_then c1.runs (re.kept t) (λ _. term-error d k))));
+                runs = λ u d i a r f k n tr here. term_read e.store at d k (λ q g hn ha hr. known_nothing (holder u hn ha) eh (λ eo.
+                    runs_as (look_lost (find_of e u) i _ eo) (runs_then c1.runs (re.kept t) (λ _. term_error d k))));
               }
 
       -- the part that a reference to a message names
       module _ (entry : ℕ) {rn : Next} (pt : (x : Entry) (f : ℕ) → entry_at e.store entry ≡ got x f → PartAt e.store (part_of (option_of y.has (part e.store y.start (y.end - y.start))) x) rn) where
-        named-part : {i : Bytes} {p : ℕ} {a : Option Bytes} {g : ℕ} → id_at e.store (at + 1) ≡ got i p → optional_at id_at e.store p ≡ got a g
+        named_part : {i : Bytes} {p : ℕ} {a : Option Bytes} {g : ℕ} → id_at e.store (at + 1) ≡ got i p → optional_at id_at e.store p ≡ got a g
             → (x : Entry) (f : ℕ) → entry_at e.store entry ≡ got x f → PartAt e.store (part_of a x) rn
-        named-part hn ha x f hx = rw (asks hn ha) (pt x f hx)
+        named_part hn ha x f hx = rw (asks hn ha) (pt x f hx)
 
-        pub message-track : {q : ℕ} {w v : World} → h ≡ found.Message entry → rn ≡ next.At q → TrackAt e at q w v → MessageAt e at w v
-        unfolding writeMessage onPart error_text
-        message-track eh en g = record {
+        pub message_track : {q : ℕ} {w v : World} → h ≡ found.Message entry → rn ≡ next.At q → TrackAt e at q w v → MessageAt e at w v
+        unfolding write_message on_part error_text
+        message_track eh en g = record {
           kept = g.kept;
-          runs = λ u d i a f k n t here. message-read e.store at d k (λ q hn ha. known-message (holder u hn ha) eh (λ z j eo ek hz. known_part (named-part hn ha z j hz) en (λ p j' ep hp.
-              runs_as (look-found (find_of e u) i _ (Holder.entry z) eo ∙ of-message (cross_of e u n) t i a z ek ep) (g.runs u d (Inline.message i a) f k p j' hp n t here))));
+          runs = λ u d i a f k n t here. message_read e.store at d k (λ q hn ha. known_message (holder u hn ha) eh (λ z j eo ek hz. known_part (named_part hn ha z j hz) en (λ p j' ep hp.
+              runs_as (look_found (find_of e u) i _ (Holder.entry z) eo ∙ of_message (cross_of e u n) t i a z ek ep) (g.runs u d (Inline.message i a) f k p j' hp n t here))));
         }
 
-        pub found-term-track : {q : ℕ} {w v : World} → h ≡ found.Term entry → rn ≡ next.At q → TrackAt e at q w v → FoundTermAt e at w v
-        unfolding onPart error_text
-        found-term-track eh en g = record {
+        pub found_term_track : {q : ℕ} {w v : World} → h ≡ found.Term entry → rn ≡ next.At q → TrackAt e at q w v → FoundTermAt e at w v
+        unfolding on_part error_text
+        found_term_track eh en g = record {
           kept = g.kept;
-          runs = λ u d i a r f k n t here. term-read e.store at d k (λ q g' hn ha hr. known-term (holder u hn ha) eh (λ z j eo ek hz. known_part (named-part hn ha z j hz) en (λ p j' ep hp.
-              runs_as (look-found (find_of e u) i _ (Holder.entry z) eo ∙ of-term (cross_of e u n) t i a z ek ep) (g.runs u d (Inline.term i a r) f k p j' hp n t here))));
+          runs = λ u d i a r f k n t here. term_read e.store at d k (λ q g' hn ha hr. known_term (holder u hn ha) eh (λ z j eo ek hz. known_part (named_part hn ha z j hz) en (λ p j' ep hp.
+              runs_as (look_found (find_of e u) i _ (Holder.entry z) eo ∙ of_term (cross_of e u n) t i a z ek ep) (g.runs u d (Inline.term i a r) f k p j' hp n t here))));
         }
 
         module _ {x l w x' l' w' : List ℕ} {st s' : Progress} (t : List ℕ) where
-          pub found-term-no-part : h ≡ found.Term entry → rn ≡ next.Bad → RefErrorAt e.store at (referred_of referred.Term) x l w st x' l' w' s' → FoundTermAt e at (world e.store x l w t st) (world e.store x' l' w' t s')
-          unfolding onPart
-          found-term-no-part eh en re = record {
+          pub found_term_no_part : h ≡ found.Term entry → rn ≡ next.Bad → RefErrorAt e.store at (referred_of referred.Term) x l w st x' l' w' s' → FoundTermAt e at (world e.store x l w t st) (world e.store x' l' w' t s')
+          unfolding on_part
+          found_term_no_part eh en re = record {
             kept = re.kept t;
-            runs = λ u d i a r f k n tr here. term-read e.store at d k (λ q g hn ha hr. known-term (holder u hn ha) eh (λ z j eo ek hz. missing_part (named-part hn ha z j hz) en (λ ep.
-                runs_as (look-found (find_of e u) i _ (Holder.entry z) eo ∙ of-term (cross_of e u n) tr i a z ek ep) (term-error t re d k))));
+            runs = λ u d i a r f k n tr here. term_read e.store at d k (λ q g hn ha hr. known_term (holder u hn ha) eh (λ z j eo ek hz. missing_part (named_part hn ha z j hz) en (λ ep.
+                runs_as (look_found (find_of e u) i _ (Holder.entry z) eo ∙ of_term (cross_of e u n) tr i a z ek ep) (term_error t re d k))));
           }
 
-          pub message-no-attribute : h ≡ found.Message entry → rn ≡ next.Bad → y.has ≡ true → RefErrorAt e.store at (referred_of referred.Message) x l w st x' l' w' s' → MessageAt e at (world e.store x l w t st) (world e.store x' l' w' t s')
-          unfolding writeMessage onPart missingPart option_of
-          message-no-attribute eh en has re = record {
+          pub message_no_attribute : h ≡ found.Message entry → rn ≡ next.Bad → y.has ≡ true → RefErrorAt e.store at (referred_of referred.Message) x l w st x' l' w' s' → MessageAt e at (world e.store x l w t st) (world e.store x' l' w' t s')
+          unfolding write_message on_part missing_piece option_of
+          message_no_attribute eh en has re = record {
             kept = re.kept t;
-            runs = λ u d i a f k n tr here. message-read e.store at d k (λ q hn ha. known-message (holder u hn ha) eh (λ z j eo ek hz. missing_part (named-part hn ha z j hz) en (λ ep.
+            runs = λ u d i a f k n tr here. message_read e.store at d k (λ q hn ha. known_message (holder u hn ha) eh (λ z j eo ek hz. missing_part (named_part hn ha z j hz) en (λ ep.
                 let ea : a ≡ some (part e.store y.start (y.end - y.start)) = asks hn ha ∙ rw has in
-                let ei : missingPart (cross_of e u n) tr i a ≡ reference Referred.message i a = rw ea in
-                runs_as (look-found (find_of e u) i _ (Holder.entry z) eo ∙ of-message (cross_of e u n) tr i a z ek ep ∙ ap (λ (o : Error). write_ref_error o (dotted i a)) ei) (message-error t re d k))));
+                let ei : missing_piece (cross_of e u n) tr i a ≡ reference Referred.message i a = rw ea in
+                runs_as (look_found (find_of e u) i _ (Holder.entry z) eo ∙ of_message (cross_of e u n) tr i a z ek ep ∙ ap (λ (o : Error). write_ref_error o (dotted i a)) ei) (message_error t re d k))));
           }
 
-        pub message-no-value : {x l w l1 x' w' : List ℕ} {st s1 s' : Progress} (t : List ℕ) → h ≡ found.Message entry → rn ≡ next.Bad → y.has ≡ false
+        pub message_no_value : {x l w l1 x' w' : List ℕ} {st s1 s' : Progress} (t : List ℕ) → h ≡ found.Message entry → rn ≡ next.Bad → y.has ≡ false
             → ((i x w t : List ℕ) → Kept (world i x l w t st) (world i x l1 w t s1)) × (length (part e.store y.from (y.to - y.from)) ≤ 255
             → (i x w t : List ℕ) → Acts (emit (report (no_value (part e.store y.from (y.to - y.from))))) (world i x l w t st) (world i x l1 w t s1))
             → ErrorAt e.store at x w s1 x' w' s' → MessageAt e at (world e.store x l w t st) (world e.store x' l1 w' t s')
-        unfolding writeMessage onPart missingPart option_of error_text write_ref_error
-        message-no-value {x} {l} {w} {l1} {x'} {w'} {st} {s1} {s'} t eh en has lst b =
+        unfolding write_message on_part missing_piece option_of error_text write_ref_error
+        message_no_value {x} {l} {w} {l1} {x'} {w'} {st} {s1} {s'} t eh en has lst b =
             record {
               kept = kept_then (lst.0 e.store x w t) (b.kept l1 t);
-              runs = λ u d i a f k n tr here. message-read e.store at d k (λ q hn ha. known-message (holder u hn ha) eh (λ z j eo ek hz. missing_part (named-part hn ha z j hz) en (λ ep.
+              runs = λ u d i a f k n tr here. message_read e.store at d k (λ q hn ha. known_message (holder u hn ha) eh (λ z j eo ek hz. missing_part (named_part hn ha z j hz) en (λ ep.
                   let is = reference_is e.store (at + 1) rd y er hn ha in
                   let ea : a ≡ none = asks hn ha ∙ rw has in
                   let short = is.1 in
                   let len : length (part e.store y.from (y.to - y.from)) ≤ 255 = (let m = length-take (y.to - y.from) (drop y.from e.store) in omega arith) in
-                  let ei : missingPart (cross_of e u n) tr i a ≡ no_value (part e.store y.from (y.to - y.from)) = rw ea (ap no_value is.0) in
-                  runs_as (look-found (find_of e u) i _ (Holder.entry z) eo ∙ of-message (cross_of e u n) tr i a z ek ep ∙ ap (λ (o : Error). write_ref_error o (dotted i a)) ei)
+                  let ei : missing_piece (cross_of e u n) tr i a ≡ no_value (part e.store y.from (y.to - y.from)) = rw ea (ap no_value is.0) in
+                  runs_as (look_found (find_of e u) i _ (Holder.entry z) eo ∙ of_message (cross_of e u n) tr i a z ek ep ∙ ap (λ (o : Error). write_ref_error o (dotted i a)) ei)
                   (runs_then (lst.1 len e.store x w t).runs (b.kept l1 t) (λ _. b.runs l1 t d (Inline.message i a) f k)))));
             }

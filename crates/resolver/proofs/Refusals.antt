@@ -4,7 +4,7 @@ use mathlib.Core.List.{[], ◌∷◌}
 use mathlib.Core.Bool.{Bool, true, false}
 use Prim.Native.Nat.{ℕ, zero, suc, ◌<◌}
 use native.Mathlib.Omega.{arith}
-use Rattle.resolution.specs.Effect.{Bytes, Effect, put, report, begin, expand, unfound, open-text, keep-text, free, merged, Trace}
+use Rattle.resolution.specs.Effect.{Bytes, Effect, put, report, begin, expand, unfound, open_text, keep_text, free, merged, Trace}
 use Rattle.resolution.specs.Exec.{Machine, Limits, Ran, ran, refused, allow_if, allow, put_text, put_work, put_at, step, and_then, exec}
 
 -- the number of a refusal fits a byte
@@ -29,8 +29,8 @@ stepped L (report e) m = allowed _ 7 _ (omega arith)
 stepped L begin m = runs _
 stepped L expand m = runs _
 stepped L unfound m = runs _
-stepped L open-text m = runs _
-stepped L keep-text m = runs _
+stepped L open_text m = runs _
+stepped L keep_text m = runs _
 stepped L (free n) m = runs _
 stepped L (merged k) m = allowed _ 17 _ (omega arith)
 

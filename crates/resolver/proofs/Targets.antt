@@ -33,7 +33,7 @@ use Rattle.resolver.specs.declared.reference.Holder.TheVariants as holder
 use Rattle.resolver.specs.declared.reference.Target as CodeTarget
 use Rattle.resolver.specs.declared.reference.Target.TheVariants as target
 use Rattle.resolver.specs.Relations.Targets.{count_if, in_order, TargetAt, holder_of, lacking_if, lacking_of, MessageTarget, message_goes, message_lacks, message_misses, message_bad, TermTarget, term_goes, term_misses, term_bad}
-use Rattle.resolver.proofs.References.{reference-in, message-unread, message-term, message-function, message-lost, message-track, message-no-attribute, message-no-value, found-term-unread, found-term-message, found-term-function, found-term-lost, found-term-track, found-term-no-part}
+use Rattle.resolver.proofs.References.{reference_in, message_unread, message_term, message_function, message_lost, message_track, message_no_attribute, message_no_value, found_term_unread, found_term_message, found_term_function, found_term_lost, found_term_track, found_term_no_part}
 
 -- four numbers in order
 pub order_is : (a b c d : ℕ) → in_order a b c d ≡ true → (a ≤ b) × (b ≤ c) × (c ≤ d)
@@ -56,57 +56,57 @@ order_not a b c d h ab bc cd =
 
 -- how each answer comes about
 module _ (s : List ℕ) (at : ℕ) {r : Reference} (rd : ReferenceIs s (at + 1) r) where
-  message-to-bad : r ≡ ref.Bad → MessageTarget s at target.Bad
-  message-to-bad er = message_bad refl (λ image w. message-unread (env s image) at rd w er)
+  message_to_bad : r ≡ ref.Bad → MessageTarget s at target.Bad
+  message_to_bad er = message_bad refl (λ image w. message_unread (env s image) at rd w er)
 
-  term-to-bad : r ≡ ref.Bad → TermTarget s at target.Bad
-  term-to-bad er = term_bad refl (λ image w. found-term-unread (env s image) at rd w er)
+  term_to_bad : r ≡ ref.Bad → TermTarget s at target.Bad
+  term_to_bad er = term_bad refl (λ image w. found_term_unread (env s image) at rd w er)
 
   module _ (y : Referring) (er : r ≡ ref.Is y) {h : Found}
       (hold : (st : Store) (f : ℕ) → store_of s ≡ got st f → HolderAt s (find_in st.items (part s y.from (y.to - y.from))) h) where
-    message-to-term : {q : ℕ} → h ≡ found.Term q → MessageTarget s at (target.Missing false)
+    message_to_term : {q : ℕ} → h ≡ found.Term q → MessageTarget s at (target.Missing false)
     unfolding count_if
-    message-to-term eh = message_misses false refl (λ image x l w x' l' w' t st s' re. message-term (env s image) at rd y er hold t re eh)
+    message_to_term eh = message_misses false refl (λ image x l w x' l' w' t st s' re. message_term (env s image) at rd y er hold t re eh)
 
-    message-to-function : h ≡ found.Function → MessageTarget s at (target.Missing false)
+    message_to_function : h ≡ found.Function → MessageTarget s at (target.Missing false)
     unfolding count_if
-    message-to-function eh = message_misses false refl (λ image x l w x' l' w' t st s' re. message-function (env s image) at rd y er hold t re eh)
+    message_to_function eh = message_misses false refl (λ image x l w x' l' w' t st s' re. message_function (env s image) at rd y er hold t re eh)
 
-    message-to-nothing : h ≡ found.Nothing → MessageTarget s at (target.Missing true)
+    message_to_nothing : h ≡ found.Nothing → MessageTarget s at (target.Missing true)
     unfolding count_if
-    message-to-nothing eh = message_misses true refl (λ image x l w x' l' w' t st s' re. message-lost (env s image) at rd y er hold t re eh (counts refl))
+    message_to_nothing eh = message_misses true refl (λ image x l w x' l' w' t st s' re. message_lost (env s image) at rd y er hold t re eh (counts refl))
 
-    term-to-message : {q : ℕ} → h ≡ found.Message q → TermTarget s at (target.Missing false)
+    term_to_message : {q : ℕ} → h ≡ found.Message q → TermTarget s at (target.Missing false)
     unfolding count_if
-    term-to-message eh = term_misses false refl (λ image x l w x' l' w' t st s' re. found-term-message (env s image) at rd y er hold t re eh)
+    term_to_message eh = term_misses false refl (λ image x l w x' l' w' t st s' re. found_term_message (env s image) at rd y er hold t re eh)
 
-    term-to-function : h ≡ found.Function → TermTarget s at (target.Missing false)
+    term_to_function : h ≡ found.Function → TermTarget s at (target.Missing false)
     unfolding count_if
-    term-to-function eh = term_misses false refl (λ image x l w x' l' w' t st s' re. found-term-function (env s image) at rd y er hold t re eh)
+    term_to_function eh = term_misses false refl (λ image x l w x' l' w' t st s' re. found_term_function (env s image) at rd y er hold t re eh)
 
-    term-to-nothing : h ≡ found.Nothing → TermTarget s at (target.Missing true)
+    term_to_nothing : h ≡ found.Nothing → TermTarget s at (target.Missing true)
     unfolding count_if
-    term-to-nothing eh = term_misses true refl (λ image x l w x' l' w' t st s' re. found-term-lost (env s image) at rd y er hold t re eh (counts refl))
+    term_to_nothing eh = term_misses true refl (λ image x l w x' l' w' t st s' re. found_term_lost (env s image) at rd y er hold t re eh (counts refl))
 
     module _ (entry : ℕ) {rn : Next} (pt : (x : Entry) (f : ℕ) → entry_at s entry ≡ got x f → PartAt s (part_of (option_of y.has (part s y.start (y.end - y.start))) x) rn) where
-      message-to-part : {q : ℕ} → h ≡ found.Message entry → rn ≡ next.At q → MessageTarget s at (target.At q)
-      message-to-part {q} eh en = message_goes q refl (λ image w v g. message-track (env s image) at rd y er hold entry pt eh en g)
+      message_to_part : {q : ℕ} → h ≡ found.Message entry → rn ≡ next.At q → MessageTarget s at (target.At q)
+      message_to_part {q} eh en = message_goes q refl (λ image w v g. message_track (env s image) at rd y er hold entry pt eh en g)
 
-      message-to-attribute : h ≡ found.Message entry → rn ≡ next.Bad → y.has ≡ true → MessageTarget s at (target.Missing false)
+      message_to_attribute : h ≡ found.Message entry → rn ≡ next.Bad → y.has ≡ true → MessageTarget s at (target.Missing false)
       unfolding count_if
-      message-to-attribute eh en has = message_misses false refl (λ image x l w x' l' w' t st s' re. message-no-attribute (env s image) at rd y er hold entry pt t eh en has re)
+      message_to_attribute eh en has = message_misses false refl (λ image x l w x' l' w' t st s' re. message_no_attribute (env s image) at rd y er hold entry pt t eh en has re)
 
-      message-to-value : h ≡ found.Message entry → rn ≡ next.Bad → y.has ≡ false → MessageTarget s at (target.NoValue y.from y.to)
-      message-to-value eh en has =
-          let i = reference-in s (at + 1) rd y er in
-          message_lacks y.from y.to refl i.0 i.1 (λ image x l w l1 x' w' t st s1 s' lst b. message-no-value (env s image) at rd y er hold entry pt t eh en has lst b)
+      message_to_value : h ≡ found.Message entry → rn ≡ next.Bad → y.has ≡ false → MessageTarget s at (target.NoValue y.from y.to)
+      message_to_value eh en has =
+          let i = reference_in s (at + 1) rd y er in
+          message_lacks y.from y.to refl i.0 i.1 (λ image x l w l1 x' w' t st s1 s' lst b. message_no_value (env s image) at rd y er hold entry pt t eh en has lst b)
 
-      term-to-part : {q : ℕ} → h ≡ found.Term entry → rn ≡ next.At q → TermTarget s at (target.At q)
-      term-to-part {q} eh en = term_goes q refl (λ image w v g. found-term-track (env s image) at rd y er hold entry pt eh en g)
+      term_to_part : {q : ℕ} → h ≡ found.Term entry → rn ≡ next.At q → TermTarget s at (target.At q)
+      term_to_part {q} eh en = term_goes q refl (λ image w v g. found_term_track (env s image) at rd y er hold entry pt eh en g)
 
-      term-to-none : h ≡ found.Term entry → rn ≡ next.Bad → TermTarget s at (target.Missing false)
+      term_to_none : h ≡ found.Term entry → rn ≡ next.Bad → TermTarget s at (target.Missing false)
       unfolding count_if
-      term-to-none eh en = term_misses false refl (λ image x l w x' l' w' t st s' re. found-term-no-part (env s image) at rd y er hold entry pt t eh en re)
+      term_to_none eh en = term_misses false refl (λ image x l w x' l' w' t st s' re. found_term_no_part (env s image) at rd y er hold entry pt t eh en re)
 
 -- the holder that is asked for
 unfoldable kind_of : Bool → ℕ → Found
@@ -136,124 +136,124 @@ holder_nothing false e = rw e
 
 -- what stands for a part that an entry lacks
 module _ {term : Bool} (y : Referring) where
-  pub lacking-term : term ≡ true → target.Missing false ≡ lacking_of term y
+  pub lacking_term : term ≡ true → target.Missing false ≡ lacking_of term y
   unfolding lacking_of
-  lacking-term e = ap (λ (b : Bool). lacking_of b y) (sym e)
+  lacking_term e = ap (λ (b : Bool). lacking_of b y) (sym e)
 
-  pub lacking-attribute : term ≡ false → y.has ≡ true → target.Missing false ≡ lacking_of term y
+  pub lacking_attribute : term ≡ false → y.has ≡ true → target.Missing false ≡ lacking_of term y
   unfolding lacking_of lacking_if
-  lacking-attribute e h = ap (λ (b : Bool). lacking_if b y) (sym h) ∙ ap (λ (b : Bool). lacking_of b y) (sym e)
+  lacking_attribute e h = ap (λ (b : Bool). lacking_if b y) (sym h) ∙ ap (λ (b : Bool). lacking_of b y) (sym e)
 
-  pub lacking-value : term ≡ false → y.has ≡ false → target.NoValue y.from y.to ≡ lacking_of term y
+  pub lacking_value : term ≡ false → y.has ≡ false → target.NoValue y.from y.to ≡ lacking_of term y
   unfolding lacking_of lacking_if
-  lacking-value e h = ap (λ (b : Bool). lacking_if b y) (sym h) ∙ ap (λ (b : Bool). lacking_of b y) (sym e)
+  lacking_value e h = ap (λ (b : Bool). lacking_if b y) (sym h) ∙ ap (λ (b : Bool). lacking_of b y) (sym e)
 
 -- how each answer comes about, whichever kind is asked for
 module _ (s : List ℕ) (at : ℕ) {r : Reference} (rd : ReferenceIs s (at + 1) r) where
-  pub target-bad : (term : Bool) → r ≡ ref.Bad → TargetAt term s at target.Bad
-  target-bad true er = term-to-bad s at rd er
-  target-bad false er = message-to-bad s at rd er
+  pub target_bad : (term : Bool) → r ≡ ref.Bad → TargetAt term s at target.Bad
+  target_bad true er = term_to_bad s at rd er
+  target_bad false er = message_to_bad s at rd er
 
   module _ (y : Referring) (er : r ≡ ref.Is y) {h : Found}
       (hold : (st : Store) (f : ℕ) → store_of s ≡ got st f → HolderAt s (find_in st.items (part s y.from (y.to - y.from))) h) where
-    pub target-not : (term : Bool) {lost : Bool} → holder_of term h ≡ holder.Not lost → TargetAt term s at (target.Missing lost)
+    pub target_not : (term : Bool) {lost : Bool} → holder_of term h ≡ holder.Not lost → TargetAt term s at (target.Missing lost)
     unfolding holder_of
-    target-not true {lost} e = go h refl e
+    target_not true {lost} e = go h refl e
       where
         go : (k : Found) → h ≡ k → holder_of true k ≡ holder.Not lost → TermTarget s at (target.Missing lost)
-        go (found.Message q) eh f = let b : false ≡ lost = (cc) in subst (λ (x : Bool). TermTarget s at (target.Missing x)) b (term-to-message s at rd y er hold eh)
+        go (found.Message q) eh f = let b : false ≡ lost = (cc) in subst (λ (x : Bool). TermTarget s at (target.Missing x)) b (term_to_message s at rd y er hold eh)
         go (found.Term q) eh f = let z : ◌≡◌ {A = ℕ} 0 1 = cc in absurd (omega arith)
-        go found.Function eh f = let b : false ≡ lost = (cc) in subst (λ (x : Bool). TermTarget s at (target.Missing x)) b (term-to-function s at rd y er hold eh)
-        go found.Nothing eh f = let b : true ≡ lost = (cc) in subst (λ (x : Bool). TermTarget s at (target.Missing x)) b (term-to-nothing s at rd y er hold eh)
-    target-not false {lost} e = go h refl e
+        go found.Function eh f = let b : false ≡ lost = (cc) in subst (λ (x : Bool). TermTarget s at (target.Missing x)) b (term_to_function s at rd y er hold eh)
+        go found.Nothing eh f = let b : true ≡ lost = (cc) in subst (λ (x : Bool). TermTarget s at (target.Missing x)) b (term_to_nothing s at rd y er hold eh)
+    target_not false {lost} e = go h refl e
       where
         go : (k : Found) → h ≡ k → holder_of false k ≡ holder.Not lost → MessageTarget s at (target.Missing lost)
         go (found.Message q) eh f = let z : ◌≡◌ {A = ℕ} 0 1 = cc in absurd (omega arith)
-        go (found.Term q) eh f = let b : false ≡ lost = (cc) in subst (λ (x : Bool). MessageTarget s at (target.Missing x)) b (message-to-term s at rd y er hold eh)
-        go found.Function eh f = let b : false ≡ lost = (cc) in subst (λ (x : Bool). MessageTarget s at (target.Missing x)) b (message-to-function s at rd y er hold eh)
-        go found.Nothing eh f = let b : true ≡ lost = (cc) in subst (λ (x : Bool). MessageTarget s at (target.Missing x)) b (message-to-nothing s at rd y er hold eh)
+        go (found.Term q) eh f = let b : false ≡ lost = (cc) in subst (λ (x : Bool). MessageTarget s at (target.Missing x)) b (message_to_term s at rd y er hold eh)
+        go found.Function eh f = let b : false ≡ lost = (cc) in subst (λ (x : Bool). MessageTarget s at (target.Missing x)) b (message_to_function s at rd y er hold eh)
+        go found.Nothing eh f = let b : true ≡ lost = (cc) in subst (λ (x : Bool). MessageTarget s at (target.Missing x)) b (message_to_nothing s at rd y er hold eh)
 
     module _ (entry : ℕ) {rn : Next} (pt : (x : Entry) (f : ℕ) → entry_at s entry ≡ got x f → PartAt s (part_of (option_of y.has (part s y.start (y.end - y.start))) x) rn) where
-      pub target-part : (term : Bool) {q : ℕ} → holder_of term h ≡ holder.Is entry → rn ≡ next.At q → TargetAt term s at (target.At q)
+      pub target_part : (term : Bool) {q : ℕ} → holder_of term h ≡ holder.Is entry → rn ≡ next.At q → TargetAt term s at (target.At q)
       unfolding kind_of
-      target-part true e en = term-to-part s at rd y er hold entry pt (held true h e) en
-      target-part false e en = message-to-part s at rd y er hold entry pt (held false h e) en
+      target_part true e en = term_to_part s at rd y er hold entry pt (held true h e) en
+      target_part false e en = message_to_part s at rd y er hold entry pt (held false h e) en
 
-      pub target-lacking : (term : Bool) {v : CodeTarget.Target} → holder_of term h ≡ holder.Is entry → rn ≡ next.Bad → v ≡ lacking_of term y → TargetAt term s at v
+      pub target_lacking : (term : Bool) {v : CodeTarget.Target} → holder_of term h ≡ holder.Is entry → rn ≡ next.Bad → v ≡ lacking_of term y → TargetAt term s at v
       unfolding kind_of lacking_of lacking_if
-      target-lacking true e en ev = subst (λ (x : CodeTarget.Target). TermTarget s at x) (sym ev) (term-to-none s at rd y er hold entry pt (held true h e) en)
-      target-lacking false e en ev = subst (λ (x : CodeTarget.Target). MessageTarget s at x) (sym ev) (go y.has refl)
+      target_lacking true e en ev = subst (λ (x : CodeTarget.Target). TermTarget s at x) (sym ev) (term_to_none s at rd y er hold entry pt (held true h e) en)
+      target_lacking false e en ev = subst (λ (x : CodeTarget.Target). MessageTarget s at x) (sym ev) (go y.has refl)
         where
           go : (b : Bool) → y.has ≡ b → MessageTarget s at (lacking_if y.has y)
-          go true eb = subst (λ (x : Bool). MessageTarget s at (lacking_if x y)) (sym eb) (message-to-attribute s at rd y er hold entry pt (held false h e) en eb)
-          go false eb = subst (λ (x : Bool). MessageTarget s at (lacking_if x y)) (sym eb) (message-to-value s at rd y er hold entry pt (held false h e) en eb)
+          go true eb = subst (λ (x : Bool). MessageTarget s at (lacking_if x y)) (sym eb) (message_to_attribute s at rd y er hold entry pt (held false h e) en eb)
+          go false eb = subst (λ (x : Bool). MessageTarget s at (lacking_if x y)) (sym eb) (message_to_value s at rd y er hold entry pt (held false h e) en eb)
 
 -- what a writer makes of each answer
 module _ {s : List ℕ} {at : ℕ} {r : CodeTarget.Target} where
-  pub message-tracked : {q : ℕ} → MessageTarget s at r → r ≡ target.At q → (image : Lent) {w v : World} → TrackAt (env s image) at q w v → MessageAt (env s image) at w v
-  message-tracked {q} (message_goes q' e f) er image {w} {v} g =
+  pub message_tracked : {q : ℕ} → MessageTarget s at r → r ≡ target.At q → (image : Lent) {w v : World} → TrackAt (env s image) at q w v → MessageAt (env s image) at w v
+  message_tracked {q} (message_goes q' e f) er image {w} {v} g =
       let eq : q ≡ q' = cc in
       f image w v (subst (λ (j : ℕ). TrackAt (env s image) at j w v) eq g)
-  message-tracked (message_lacks from to e i j f) er image g = let z : ◌≡◌ {A = ℕ} 0 1 = cc in absurd (omega arith)
-  message-tracked (message_misses lost e f) er image g = let z : ◌≡◌ {A = ℕ} 0 1 = cc in absurd (omega arith)
-  message-tracked (message_bad e f) er image g = let z : ◌≡◌ {A = ℕ} 0 1 = cc in absurd (omega arith)
+  message_tracked (message_lacks from to e i j f) er image g = let z : ◌≡◌ {A = ℕ} 0 1 = cc in absurd (omega arith)
+  message_tracked (message_misses lost e f) er image g = let z : ◌≡◌ {A = ℕ} 0 1 = cc in absurd (omega arith)
+  message_tracked (message_bad e f) er image g = let z : ◌≡◌ {A = ℕ} 0 1 = cc in absurd (omega arith)
 
-  pub message-inside : {a b : ℕ} → MessageTarget s at r → r ≡ target.NoValue a b → (a ≤ b) × (b ≤ length s)
-  message-inside (message_goes q' e f) er = let z : ◌≡◌ {A = ℕ} 0 1 = cc in absurd (omega arith)
-  message-inside {a} {b} (message_lacks from to e i j f) er = let ea : from ≡ a = cc in let eb : to ≡ b = cc in (omega arith, omega arith)
-  message-inside (message_misses lost e f) er = let z : ◌≡◌ {A = ℕ} 0 1 = cc in absurd (omega arith)
-  message-inside (message_bad e f) er = let z : ◌≡◌ {A = ℕ} 0 1 = cc in absurd (omega arith)
+  pub message_inside : {a b : ℕ} → MessageTarget s at r → r ≡ target.NoValue a b → (a ≤ b) × (b ≤ length s)
+  message_inside (message_goes q' e f) er = let z : ◌≡◌ {A = ℕ} 0 1 = cc in absurd (omega arith)
+  message_inside {a} {b} (message_lacks from to e i j f) er = let ea : from ≡ a = cc in let eb : to ≡ b = cc in (omega arith, omega arith)
+  message_inside (message_misses lost e f) er = let z : ◌≡◌ {A = ℕ} 0 1 = cc in absurd (omega arith)
+  message_inside (message_bad e f) er = let z : ◌≡◌ {A = ℕ} 0 1 = cc in absurd (omega arith)
 
-  pub message-listed : {a b : ℕ} → MessageTarget s at r → r ≡ target.NoValue a b → (image : Lent) {x l w l1 x' w' : List ℕ} (t : List ℕ) {st s1 s' : Progress}
+  pub message_listed : {a b : ℕ} → MessageTarget s at r → r ≡ target.NoValue a b → (image : Lent) {x l w l1 x' w' : List ℕ} (t : List ℕ) {st s1 s' : Progress}
       → ((i x w t : List ℕ) → Kept (world i x l w t st) (world i x l1 w t s1))
       × (length (part s a (b - a)) ≤ 255 → (i x w t : List ℕ) → Acts (emit (report (no_value (part s a (b - a))))) (world i x l w t st) (world i x l1 w t s1))
       → ErrorAt s at x w s1 x' w' s' → MessageAt (env s image) at (world s x l w t st) (world s x' l1 w' t s')
-  message-listed (message_goes q' e f) er image t lst b = let z : ◌≡◌ {A = ℕ} 0 1 = cc in absurd (omega arith)
-  message-listed {a} {b} (message_lacks from to e i j f) er image {x} {l} {w} {l1} {x'} {w'} t {st} {s1} {s'} lst d =
+  message_listed (message_goes q' e f) er image t lst b = let z : ◌≡◌ {A = ℕ} 0 1 = cc in absurd (omega arith)
+  message_listed {a} {b} (message_lacks from to e i j f) er image {x} {l} {w} {l1} {x'} {w'} t {st} {s1} {s'} lst d =
       let ea : from ≡ a = cc in let eb : to ≡ b = cc in
       f image x l w l1 x' w' t st s1 s' (rw (ea, eb) lst) d
-  message-listed (message_misses lost e f) er image t lst b = let z : ◌≡◌ {A = ℕ} 0 1 = cc in absurd (omega arith)
-  message-listed (message_bad e f) er image t lst b = let z : ◌≡◌ {A = ℕ} 0 1 = cc in absurd (omega arith)
+  message_listed (message_misses lost e f) er image t lst b = let z : ◌≡◌ {A = ℕ} 0 1 = cc in absurd (omega arith)
+  message_listed (message_bad e f) er image t lst b = let z : ◌≡◌ {A = ℕ} 0 1 = cc in absurd (omega arith)
 
-  pub message-missed : {b : Bool} → MessageTarget s at r → r ≡ target.Missing b → (image : Lent) {x l w x' l' w' : List ℕ} (t : List ℕ) {st s1 s' : Progress} → s1 ≡ count_if b st
+  pub message_missed : {b : Bool} → MessageTarget s at r → r ≡ target.Missing b → (image : Lent) {x l w x' l' w' : List ℕ} (t : List ℕ) {st s1 s' : Progress} → s1 ≡ count_if b st
       → RefErrorAt s at (referred_of referred.Message) x l w s1 x' l' w' s' → MessageAt (env s image) at (world s x l w t st) (world s x' l' w' t s')
-  message-missed (message_goes q' e f) er image t es re = let z : ◌≡◌ {A = ℕ} 0 1 = cc in absurd (omega arith)
-  message-missed (message_lacks from to e i j f) er image t es re = let z : ◌≡◌ {A = ℕ} 0 1 = cc in absurd (omega arith)
-  message-missed {b} (message_misses lost e f) er image {x} {l} {w} {x'} {l'} {w'} t {st} {s1} {s'} es re =
+  message_missed (message_goes q' e f) er image t es re = let z : ◌≡◌ {A = ℕ} 0 1 = cc in absurd (omega arith)
+  message_missed (message_lacks from to e i j f) er image t es re = let z : ◌≡◌ {A = ℕ} 0 1 = cc in absurd (omega arith)
+  message_missed {b} (message_misses lost e f) er image {x} {l} {w} {x'} {l'} {w'} t {st} {s1} {s'} es re =
       let eb : b ≡ lost = cc in
       f image x l w x' l' w' t st s'
       (subst (λ (o : Bool). RefErrorAt s at (referred_of referred.Message) x l w (count_if o st) x' l' w' s') eb (subst (λ (o : Progress). RefErrorAt s at (referred_of referred.Message) x l w o x' l' w' s') es re))
-  message-missed (message_bad e f) er image t es re = let z : ◌≡◌ {A = ℕ} 0 1 = cc in absurd (omega arith)
+  message_missed (message_bad e f) er image t es re = let z : ◌≡◌ {A = ℕ} 0 1 = cc in absurd (omega arith)
 
-  pub message-nowhere : MessageTarget s at r → r ≡ target.Bad → (image : Lent) (w : World) → MessageAt (env s image) at w w
-  message-nowhere (message_goes q' e f) er image w = let z : ◌≡◌ {A = ℕ} 0 1 = cc in absurd (omega arith)
-  message-nowhere (message_lacks from to e i j f) er image w = let z : ◌≡◌ {A = ℕ} 0 1 = cc in absurd (omega arith)
-  message-nowhere (message_misses lost e f) er image w = let z : ◌≡◌ {A = ℕ} 0 1 = cc in absurd (omega arith)
-  message-nowhere (message_bad e f) er image w = f image w
+  pub message_nowhere : MessageTarget s at r → r ≡ target.Bad → (image : Lent) (w : World) → MessageAt (env s image) at w w
+  message_nowhere (message_goes q' e f) er image w = let z : ◌≡◌ {A = ℕ} 0 1 = cc in absurd (omega arith)
+  message_nowhere (message_lacks from to e i j f) er image w = let z : ◌≡◌ {A = ℕ} 0 1 = cc in absurd (omega arith)
+  message_nowhere (message_misses lost e f) er image w = let z : ◌≡◌ {A = ℕ} 0 1 = cc in absurd (omega arith)
+  message_nowhere (message_bad e f) er image w = f image w
 
-  pub term-tracked : {q : ℕ} → TermTarget s at r → r ≡ target.At q → (image : Lent) {w v : World} → TrackAt (env s image) at q w v → FoundTermAt (env s image) at w v
-  term-tracked {q} (term_goes q' e f) er image {w} {v} g =
+  pub term_tracked : {q : ℕ} → TermTarget s at r → r ≡ target.At q → (image : Lent) {w v : World} → TrackAt (env s image) at q w v → FoundTermAt (env s image) at w v
+  term_tracked {q} (term_goes q' e f) er image {w} {v} g =
       let eq : q ≡ q' = cc in
       f image w v (subst (λ (j : ℕ). TrackAt (env s image) at j w v) eq g)
-  term-tracked (term_misses lost e f) er image g = let z : ◌≡◌ {A = ℕ} 0 1 = cc in absurd (omega arith)
-  term-tracked (term_bad e f) er image g = let z : ◌≡◌ {A = ℕ} 0 1 = cc in absurd (omega arith)
+  term_tracked (term_misses lost e f) er image g = let z : ◌≡◌ {A = ℕ} 0 1 = cc in absurd (omega arith)
+  term_tracked (term_bad e f) er image g = let z : ◌≡◌ {A = ℕ} 0 1 = cc in absurd (omega arith)
 
-  pub term-missed : {b : Bool} → TermTarget s at r → r ≡ target.Missing b → (image : Lent) {x l w x' l' w' : List ℕ} (t : List ℕ) {st s1 s' : Progress} → s1 ≡ count_if b st
+  pub term_missed : {b : Bool} → TermTarget s at r → r ≡ target.Missing b → (image : Lent) {x l w x' l' w' : List ℕ} (t : List ℕ) {st s1 s' : Progress} → s1 ≡ count_if b st
       → RefErrorAt s at (referred_of referred.Term) x l w s1 x' l' w' s' → FoundTermAt (env s image) at (world s x l w t st) (world s x' l' w' t s')
-  term-missed (term_goes q' e f) er image t es re = let z : ◌≡◌ {A = ℕ} 0 1 = cc in absurd (omega arith)
-  term-missed {b} (term_misses lost e f) er image {x} {l} {w} {x'} {l'} {w'} t {st} {s1} {s'} es re =
+  term_missed (term_goes q' e f) er image t es re = let z : ◌≡◌ {A = ℕ} 0 1 = cc in absurd (omega arith)
+  term_missed {b} (term_misses lost e f) er image {x} {l} {w} {x'} {l'} {w'} t {st} {s1} {s'} es re =
       let eb : b ≡ lost = cc in
       f image x l w x' l' w' t st s'
       (subst (λ (o : Bool). RefErrorAt s at (referred_of referred.Term) x l w (count_if o st) x' l' w' s') eb (subst (λ (o : Progress). RefErrorAt s at (referred_of referred.Term) x l w o x' l' w' s') es re))
-  term-missed (term_bad e f) er image t es re = let z : ◌≡◌ {A = ℕ} 0 1 = cc in absurd (omega arith)
+  term_missed (term_bad e f) er image t es re = let z : ◌≡◌ {A = ℕ} 0 1 = cc in absurd (omega arith)
 
-  pub term-nowhere : TermTarget s at r → r ≡ target.Bad → (image : Lent) (w : World) → FoundTermAt (env s image) at w w
-  term-nowhere (term_goes q' e f) er image w = let z : ◌≡◌ {A = ℕ} 0 1 = cc in absurd (omega arith)
-  term-nowhere (term_misses lost e f) er image w = let z : ◌≡◌ {A = ℕ} 0 1 = cc in absurd (omega arith)
-  term-nowhere (term_bad e f) er image w = f image w
+  pub term_nowhere : TermTarget s at r → r ≡ target.Bad → (image : Lent) (w : World) → FoundTermAt (env s image) at w w
+  term_nowhere (term_goes q' e f) er image w = let z : ◌≡◌ {A = ℕ} 0 1 = cc in absurd (omega arith)
+  term_nowhere (term_misses lost e f) er image w = let z : ◌≡◌ {A = ℕ} 0 1 = cc in absurd (omega arith)
+  term_nowhere (term_bad e f) er image w = f image w
 
   -- a term without a value is not an answer: never
-  pub term-valued : {C : Type 0} {a b : ℕ} → TermTarget s at r → r ≡ target.NoValue a b → C
-  term-valued (term_goes q' e f) er = let z : ◌≡◌ {A = ℕ} 0 1 = cc in absurd (omega arith)
-  term-valued (term_misses lost e f) er = let z : ◌≡◌ {A = ℕ} 0 1 = cc in absurd (omega arith)
-  term-valued (term_bad e f) er = let z : ◌≡◌ {A = ℕ} 0 1 = cc in absurd (omega arith)
+  pub term_valued : {C : Type 0} {a b : ℕ} → TermTarget s at r → r ≡ target.NoValue a b → C
+  term_valued (term_goes q' e f) er = let z : ◌≡◌ {A = ℕ} 0 1 = cc in absurd (omega arith)
+  term_valued (term_misses lost e f) er = let z : ◌≡◌ {A = ℕ} 0 1 = cc in absurd (omega arith)
+  term_valued (term_bad e f) er = let z : ◌≡◌ {A = ℕ} 0 1 = cc in absurd (omega arith)

@@ -10,17 +10,17 @@ use lib.Seq.{get_or-set_same, get_or-set_other}
 use Rattle.records.specs.Got.{Got, got, bad}
 use Rattle.records.specs.Bytes.{part}
 use Rattle.records.specs.Tree.{Pattern, pattern, Inline}
-use Rattle.records.specs.Decode.{patternAt, entry_pattern_at, max_depth, expression, inline}
+use Rattle.records.specs.Decode.{pattern_at, entry_pattern_at, max_depth, expression, inline}
 use Rattle.records.specs.Errors.{cyclic}
 use Rattle.records.proofs.Laws.{number_inv}
-use Rattle.records.proofs.Views.{pattern-elim}
+use Rattle.records.proofs.Views.{pattern_elim}
 use Rattle.texts.specs.Relations.Report.{plain_of}
 use Rattle.texts.specs.declared.errors.Plain.TheVariants as plain
 use Rattle.entries.specs.Lookup.{Find}
-use Rattle.trail.proofs.Trail.{bytes-at}
+use Rattle.trail.proofs.Trail.{bytes_at_law}
 use Rattle.resolution.specs.Effect.{Bytes, report, State, Out, M, Done, emit, write, ◌>>◌}
 use Rattle.resolution.specs.Exec.{Machine, Limits}
-use Rattle.resolution.specs.Resolve.{Setting, Trail, on_trail, bytes_of, braced, error_text, write_ref_error, trackIf, track, writePattern, resolve}
+use Rattle.resolution.specs.Resolve.{Setting, Trail, on_trail, bytes_of, braced, error_text, write_ref_error, track_if, track, write_pattern, resolve}
 use Rattle.state.specs.Progress.{Progress}
 use Rattle.resolver.specs.Relations.Meets.{World, world, Live, LocalsStay, locals_same, locals_cleared, Moved, Ended, ended, stopped, Runs, Kept, Acts, trail_of, pattern_bytes, Env, Setup, setting_of, find_of, cross_of}
 use Rattle.resolver.specs.Relations.Leaves.{ErrorAt}
@@ -51,8 +51,8 @@ module _ (i x l w t : List ℕ) (st : Progress) (at : ℕ) where
   abbrev inner : World
   inner = world i x l w (set t st.depth at) (depth_s (st.depth + 1) st)
 
-  live-inner : {L : Limits} {s : State} {k : Machine} → Live L (world i x l w t st) s k → Live L inner s k
-  live-inner lv = record {
+  live_inner : {L : Limits} {s : State} {k : Machine} → Live L (world i x l w t st) s k → Live L inner s k
+  live_inner lv = record {
     go = lv.go;
     text_len = lv.text_len;
     list_len = lv.list_len;
@@ -79,12 +79,12 @@ module _ (i x l w t : List ℕ) (st : Progress) (at : ℕ) where
     locals = locals_alike refl refl refl refl refl refl refl lv.locals;
   }
 
-  left-stay : (v : World) → LocalsStay (depth_s (st.depth + 1) st) v.st → LocalsStay st (depth_s st.depth v.st)
-  left-stay v (locals_same p q r o) = locals_same p q r o
-  left-stay v (locals_cleared p) = locals_cleared p
+  left_stay : (v : World) → LocalsStay (depth_s (st.depth + 1) st) v.st → LocalsStay st (depth_s st.depth v.st)
+  left_stay v (locals_same p q r o) = locals_same p q r o
+  left_stay v (locals_cleared p) = locals_cleared p
 
-  leave-inner : {A : Type 0} {L : Limits} {r : Out A} {k : Machine} (v : World) → Ended L inner v r k → Ended L (world i x l w t st) (world v.store v.text v.list v.work v.trail (depth_s st.depth v.st)) r k
-  leave-inner v (ended k' e lv n m) = ended k' e
+  leave_inner : {A : Type 0} {L : Limits} {r : Out A} {k : Machine} (v : World) → Ended L inner v r k → Ended L (world i x l w t st) (world v.store v.text v.list v.work v.trail (depth_s st.depth v.st)) r k
+  leave_inner v (ended k' e lv n m) = ended k' e
       (record {
         go = lv.go;
         text_len = lv.text_len;
@@ -119,55 +119,55 @@ module _ (i x l w t : List ℕ) (st : Progress) (at : ℕ) where
         aside = m.aside;
         depth = refl;
         trail = λ j. trail_tail j v.trail (set t st.depth at) st.depth (ap (λ (d : ℕ). trail_of j v.trail d) (sym m.depth) ∙ m.trail j) ∙ trail_below j t st.depth st.depth at (omega arith);
-        stay = left-stay v m.stay;
+        stay = left_stay v m.stay;
         outs = record { text_up = m.outs.text_up; list_up = m.outs.list_up; text_rest = m.outs.text_rest; list_rest = m.outs.list_rest };
       })
-  leave-inner v (stopped n e z r) = stopped n e z r
+  leave_inner v (stopped n e z r) = stopped n e z r
 
-resolve_more : (st : Setting) (find : Find) (n : ℕ) (p : Pattern) (t : Trail) → 0 < n → resolve st find n p t ≡ writePattern st find (λ q t. resolve st find (n - 1) q t) t p
+resolve_more : (st : Setting) (find : Find) (n : ℕ) (p : Pattern) (t : Trail) → 0 < n → resolve st find n p t ≡ write_pattern st find (λ q t. resolve st find (n - 1) q t) t p
 unfolding resolve
 resolve_more st find zero p t h = absurd (omega arith)
-resolve_more st find (suc n) p t h = let e : n ≡ suc n - 1 = omega arith in ap (λ (m : ℕ). writePattern st find (λ q t. resolve st find m q t) t p) e
+resolve_more st find (suc n) p t h = let e : n ≡ suc n - 1 = omega arith in ap (λ (m : ℕ). write_pattern st find (λ q t. resolve st find m q t) t p) e
 
 -- the bytes of a pattern that was read
 bytes_of_law : (s : List ℕ) (at : ℕ) {p : Pattern} {f : ℕ} → entry_pattern_at s at ≡ got p f → bytes_of p ≡ pattern_bytes s at
 unfolding entry_pattern_at bytes_of
-bytes_of_law s at {p} {f} h = pattern-elim (expression max_depth) s at h (λ n a k b es hn hk z he ef ep.
+bytes_of_law s at {p} {f} h = pattern_elim (expression max_depth) s at h (λ n a k b es hn hk z he ef ep.
     let i = number_inv s 4 at hn in
     let i1 = i.1 in
     let m : f - at ≡ 4 + n = omega arith in
-    ap bytes_of ep ∙ ap (λ (j : ℕ). part s at j) m ∙ sym (bytes-at s at hn))
+    ap bytes_of ep ∙ ap (λ (j : ℕ). part s at j) m ∙ sym (bytes_at_law s at hn))
 
 module _ (e : Env) (at q : ℕ) where
-  pub track-over : (w : World) → (w.st.refused ≡ 0 → ⊥) → TrackAt e at q w w
-  track-over w h = record { kept = kept_same w; runs = λ u d y f k p g hp n t here. runs_over _ w h }
+  pub track_over : (w : World) → (w.st.refused ≡ 0 → ⊥) → TrackAt e at q w w
+  track_over w h = record { kept = kept_same w; runs = λ u d y f k p g hp n t here. runs_over _ w h }
 
   -- more patterns than there may be: never
-  pub track-far : (w : World) → 102 ≤ w.st.depth → TrackAt e at q w w
-  track-far w h = record { kept = kept_same w; runs = λ u d y f k p g hp n t here L s m lv. absurd (let a = here.room in let b = lv.most in let c = lv.begun in omega arith) }
+  pub track_far : (w : World) → 102 ≤ w.st.depth → TrackAt e at q w w
+  track_far w h = record { kept = kept_same w; runs = λ u d y f k p g hp n t here L s m lv. absurd (let a = here.room in let b = lv.most in let c = lv.begun in omega arith) }
 
   module _ (x l w t : List ℕ) (st : Progress) (on : Bool) (ht : on ≡ on_trail (pattern_bytes e.store q) (trail_of e.store t st.depth)) where
     abbrev from : World
     from = world e.store x l w t st
 
-    on-it : {n : ℕ} {tr : Trail} → Here e from 0 n tr → (p : Pattern) (g : ℕ) → entry_pattern_at e.store q ≡ got p g → on_trail (bytes_of p) tr ≡ on
-    on-it here p g hp = rw (bytes_of_law e.store q hp, here.on) (sym ht)
+    on_it : {n : ℕ} {tr : Trail} → Here e from 0 n tr → (p : Pattern) (g : ℕ) → entry_pattern_at e.store q ≡ got p g → on_trail (bytes_of p) tr ≡ on
+    on_it here p g hp = rw (bytes_of_law e.store q hp, here.on) (sym ht)
 
-    pub track-cyclic : {l1 x2 w2 : List ℕ} {s1 s2 : Progress} → on ≡ true → ((i x w t : List ℕ) → Acts (emit (report (plain_of plain.Cyclic))) (world i x l w t st) (world i x l1 w t s1))
+    pub track_cyclic : {l1 x2 w2 : List ℕ} {s1 s2 : Progress} → on ≡ true → ((i x w t : List ℕ) → Acts (emit (report (plain_of plain.Cyclic))) (world i x l w t st) (world i x l1 w t s1))
         → ErrorAt e.store at x w s1 x2 w2 s2 → TrackAt e at q from (world e.store x2 l1 w2 t s2)
-    unfolding track trackIf write_ref_error plain_of
-    track-cyclic {l1} {x2} {w2} {s1} {s2} met a b =
+    unfolding track track_if write_ref_error plain_of
+    track_cyclic {l1} {x2} {w2} {s1} {s2} met a b =
         let a1 = a e.store x w t in
         record {
           kept = kept_then a1.kept (b.kept l1 t);
-          runs = λ u d y f k p g hp n tr here. rw (on-it here p g hp, met) (runs_then a1.runs (b.kept l1 t) (λ _. b.runs l1 t d y f k));
+          runs = λ u d y f k p g hp n tr here. rw (on_it here p g hp, met) (runs_then a1.runs (b.kept l1 t) (λ _. b.runs l1 t d y f k));
         }
 
-    pub track-cross : {s1 s2 : Progress} {v : World} → st.refused ≡ 0 → on ≡ false → st.depth < 102 → s1 ≡ depth_s (st.depth + 1) st
+    pub track_cross : {s1 s2 : Progress} {v : World} → st.refused ≡ 0 → on ≡ false → st.depth < 102 → s1 ≡ depth_s (st.depth + 1) st
         → PatternAt e 32 q (world e.store x l w (set t st.depth q) s1) v → s2 ≡ depth_s st.depth v.st
         → TrackAt e at q from (world v.store v.text v.list v.work v.trail s2)
-    unfolding track trackIf entry_pattern_at max_depth
-    track-cross {s1} {s2} {v} z off far e1 h e2 =
+    unfolding track track_if entry_pattern_at max_depth
+    track_cross {s1} {s2} {v} z off far e1 h e2 =
         let h1 : PatternAt e 32 q (inner e.store x l w t st q) v = subst (λ (s : Progress). PatternAt e 32 q (world e.store x l w (set t st.depth q) s) v) e1 h in
         record {
           kept = record { begun = (let a = h1.kept.begun in let b = ap (λ (s : Progress). s.begun) e2 in omega arith); over = λ f. absurd (f z) };
@@ -183,9 +183,9 @@ module _ (e : Env) (at q : ℕ) where
                 room = (let a = here.room in omega arith);
                 same = refl;
               } in
-              let en = h1.runs u p g hp (n - 1) (bytes_of p ∷ tr) here1 L s m (live-inner e.store x l w t st q lv) in
-              let em : track (cross_of e u n) tr (error_text y) p ≡ writePattern (setting_of e u) (find_of e u) (cross_of e u (n - 1)) (bytes_of p ∷ tr) p =
-              rw (on-it here p g hp, off) (resolve_more (setting_of e u) (find_of e u) n p (bytes_of p ∷ tr) pos) in
+              let en = h1.runs u p g hp (n - 1) (bytes_of p ∷ tr) here1 L s m (live_inner e.store x l w t st q lv) in
+              let em : track (cross_of e u n) tr (error_text y) p ≡ write_pattern (setting_of e u) (find_of e u) (cross_of e u (n - 1)) (bytes_of p ∷ tr) p =
+              rw (on_it here p g hp, off) (resolve_more (setting_of e u) (find_of e u) n p (bytes_of p ∷ tr) pos) in
               subst (λ (o : Progress). Ended L from (world v.store v.text v.list v.work v.trail o) (track (cross_of e u n) tr (error_text y) p s) m) (sym e2)
-              (subst (λ (a : M Done). Ended L from (world v.store v.text v.list v.work v.trail (depth_s st.depth v.st)) (a s) m) (sym em) (leave-inner e.store x l w t st q v en));
+              (subst (λ (a : M Done). Ended L from (world v.store v.text v.list v.work v.trail (depth_s st.depth v.st)) (a s) m) (sym em) (leave_inner e.store x l w t st q v en));
         }

@@ -10,10 +10,10 @@ use lib.Dec.{ltb}
 use Rattle.records.specs.Got.{got}
 use Rattle.records.specs.Bytes.{part, number_at}
 use Rattle.records.specs.Tree.{Pattern, pattern}
-use Rattle.records.specs.Decode.{expression, patternAt, entry_pattern_at, max_depth}
+use Rattle.records.specs.Decode.{expression, pattern_at, entry_pattern_at, max_depth}
 use Rattle.records.specs.Encode.{enc_all}
 use Rattle.records.specs.Errors.{enc_error}
-use Rattle.records.proofs.Views.{pattern-elim}
+use Rattle.records.proofs.Views.{pattern_elim}
 use Rattle.records.proofs.Laws.{number_inv}
 use Rattle.resolution.specs.Effect.{Bytes, State, Out, Done}
 use Rattle.resolution.specs.Resolve.{Trail, bytes_of, resolve}
@@ -42,22 +42,22 @@ pub from_state : {e : Env} {n at : ℕ} {s x l w t : List ℕ} {p q : Progress} 
 from_state {e} {n} {at} {s} {x} {l} {w} {t} {p} {q} {v} eq h = subst (λ (y : Progress). PatternAt e n at (world s x l w t y) v) eq h
 
 module _ (e : Env) (q : ℕ) (x l w : List ℕ) (p : Progress) (t : List ℕ) (tl : length t ≡ 102) (t0 : get_or t 0 0 ≡ q) {v : World} (h : PatternAt e 32 q (world e.store x l w t (entered p)) v) where
-  on-start : (y : Pattern) (f : ℕ) → patternAt (expression 32) e.store q ≡ got y f → bytes_of y ∷ [] ≡ trail_of e.store t 1
+  on_start : (y : Pattern) (f : ℕ) → pattern_at (expression 32) e.store q ≡ got y f → bytes_of y ∷ [] ≡ trail_of e.store t 1
   unfolding trail_of pattern_bytes prefixed bytes_of
-  on-start y f hp = pattern-elim (expression 32) e.store q hp (λ n a k b es hn hk z he ef ep.
-      let m : f - q ≡ 4 + n = after-four n a f hn ef in
+  on_start y f hp = pattern_elim (expression 32) e.store q hp (λ n a k b es hn hk z he ef ep.
+      let m : f - q ≡ 4 + n = after_four n a f hn ef in
       rw (ep, t0, hn, m))
     where
-      after-four : (n a f : ℕ) → number_at 4 e.store q ≡ got n a → f ≡ a + n → f - q ≡ 4 + n
-      after-four n a f hn ef = let i = number-end n a hn in omega arith
+      after_four : (n a f : ℕ) → number_at 4 e.store q ≡ got n a → f ≡ a + n → f - q ≡ 4 + n
+      after_four n a f hn ef = let i = number_end n a hn in omega arith
         where
-          number-end : (n a : ℕ) → number_at 4 e.store q ≡ got n a → a ≡ q + 4
-          number-end n a hn = (number_inv e.store 4 q hn).1
+          number_end : (n a : ℕ) → number_at 4 e.store q ≡ got n a → a ≡ q + 4
+          number_end n a hn = (number_inv e.store 4 q hn).1
 
   module _ (k : Machine) (none : k.begun ≡ 0) (r : Rests x l w p k) where
-    live-start : Live (limits_of (buffers x l w)) (world e.store x l w t (entered p)) fresh k
+    live_start : Live (limits_of (buffers x l w)) (world e.store x l w t (entered p)) fresh k
     unfolding fresh limits_of
-    live-start = record {
+    live_start = record {
       go = r.go;
       text_len = refl;
       list_len = refl;
@@ -90,21 +90,21 @@ module _ (e : Env) (q : ℕ) (x l w : List ℕ) (p : Progress) (t : List ℕ) (t
 
       run : (f : ℕ) → entry_pattern_at e.store q ≡ got y f → Ended (limits_of (buffers x l w)) (world e.store x l w t (entered p)) v out k
       unfolding out resolve entry_pattern_at max_depth max_patterns
-      run f hp = h.runs u y f hp 101 (bytes_of y ∷ []) (record { on = on-start y f hp; fuel = omega arith; room = omega arith; same = refl }) (limits_of (buffers x l w)) fresh k live-start
+      run f hp = h.runs u y f hp 101 (bytes_of y ∷ []) (record { on = on_start y f hp; fuel = omega arith; room = omega arith; same = refl }) (limits_of (buffers x l w)) fresh k live_start
 
       -- nothing is kept, so nothing is in use again
-      free-again : (m : Machine) → exec (limits_of (buffers x l w)) out.trace k ≡ ran m → (m.nest ≡ 0) × (m.used ≡ 0)
+      free_again : (m : Machine) → exec (limits_of (buffers x l w)) out.trace k ≡ ran m → (m.nest ≡ 0) × (m.used ≡ 0)
       unfolding out
-      free-again m eq =
+      free_again m eq =
           let n : Netted k m out.text out.kept = netted (setting_of e u) (find_of e u) max_patterns y (bytes_of y ∷ []) fresh (limits_of (buffers x l w)) k m eq in
           let z : k.nest ≡ 0 = r.nest in
           let used : m.used ≡ k.used + inward 0 out.text + out.kept = subst (λ (i : ℕ). m.used ≡ k.used + inward i out.text + out.kept) z n.used in
           (n.level ∙ z, omega (arith, used, r.used, keeps_none (setting_of e u) (find_of e u) max_patterns y (bytes_of y ∷ []) fresh))
 
-      ended-as : Ended (limits_of (buffers x l w)) (world e.store x l w t (entered p)) v out k → RanAs (exec (limits_of (buffers x l w)) out.trace k) x l p v.text v.list v.work v.st v.st.begun × (v.st.refused ≡ 0 → v.st.begun ≤ 101)
+      ended_as : Ended (limits_of (buffers x l w)) (world e.store x l w t (entered p)) v out k → RanAs (exec (limits_of (buffers x l w)) out.trace k) x l p v.text v.list v.work v.st v.st.begun × (v.st.refused ≡ 0 → v.st.begun ≤ 101)
       unfolding limits_of
-      ended-as (ended m eq lv n mv) =
-          let z = free-again m eq in (
+      ended_as (ended m eq lv n mv) =
+          let z = free_again m eq in (
             ran_as m eq (record {
               go = lv.go;
               text_in = lv.text_in;
@@ -124,12 +124,12 @@ module _ (e : Env) (q : ℕ) (x l w : List ℕ) (p : Progress) (t : List ℕ) (t
             }) (sym lv.machine_begun) (record { text_up = mv.outs.text_up; list_up = mv.outs.list_up; text_rest = mv.outs.text_rest; list_rest = mv.outs.list_rest }),
             λ g. omega (arith, lv.begun, lv.most),
           )
-      ended-as (stopped n eq z g) = (refused_as n eq z (refused_small (limits_of (buffers x l w)) out.trace k n eq) g, λ o. absurd (z (sym g ∙ o)))
+      ended_as (stopped n eq z g) = (refused_as n eq z (refused_small (limits_of (buffers x l w)) out.trace k n eq) g, λ o. absurd (z (sym g ∙ o)))
 
       pub run_on : (f : ℕ) → entry_pattern_at e.store q ≡ got y f
           → RanAs (exec (limits_of (buffers x l w)) (trace_of (setting_of e u) (find_of e u) y) k) x l p v.text v.list v.work v.st v.st.begun × (v.st.refused ≡ 0 → v.st.begun ≤ 101)
       unfolding out
-      run_on f hp = ended-as (run f hp)
+      run_on f hp = ended_as (run f hp)
 
 -- where the first message of a formatting begins
 pub rests_start : (x l w : List ℕ) → 5 ≤ length l → Rests x l w (new_s (length w)) start

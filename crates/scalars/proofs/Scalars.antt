@@ -58,18 +58,18 @@ scalar_length v = given_short (ltb v 0x80) _ _ (omega arith) (given_short (ltb v
 
 -- the scalars of each length
 module _ (v : ℕ) where
-  pub scalar-1 : v < 0x80 → enc_scalar v ≡ v ∷ []
+  pub scalar_1 : v < 0x80 → enc_scalar v ≡ v ∷ []
   unfolding enc_scalar
-  scalar-1 a = rw (lt-ltb _ _ a)
+  scalar_1 a = rw (lt-ltb _ _ a)
 
-  pub scalar-2 : 0x80 ≤ v → v < 0x800 → enc_scalar v ≡ (192 + v / 64) ∷ (128 + v % 64) ∷ []
+  pub scalar_2 : 0x80 ≤ v → v < 0x800 → enc_scalar v ≡ (192 + v / 64) ∷ (128 + v % 64) ∷ []
   unfolding enc_scalar
-  scalar-2 a b = rw (le-ltb _ _ a, lt-ltb _ _ b)
+  scalar_2 a b = rw (le-ltb _ _ a, lt-ltb _ _ b)
 
-  pub scalar-3 : 0x80 ≤ v → 0x800 ≤ v → v < 0x10000 → enc_scalar v ≡ (224 + v / 4096) ∷ (128 + v / 64 % 64) ∷ (128 + v % 64) ∷ []
+  pub scalar_3 : 0x80 ≤ v → 0x800 ≤ v → v < 0x10000 → enc_scalar v ≡ (224 + v / 4096) ∷ (128 + v / 64 % 64) ∷ (128 + v % 64) ∷ []
   unfolding enc_scalar
-  scalar-3 a b c = rw (le-ltb _ _ a, le-ltb _ _ b, lt-ltb _ _ c)
+  scalar_3 a b c = rw (le-ltb _ _ a, le-ltb _ _ b, lt-ltb _ _ c)
 
-  pub scalar-4 : 0x80 ≤ v → 0x800 ≤ v → 0x10000 ≤ v → enc_scalar v ≡ (240 + v / 262144) ∷ (128 + v / 4096 % 64) ∷ (128 + v / 64 % 64) ∷ (128 + v % 64) ∷ []
+  pub scalar_4 : 0x80 ≤ v → 0x800 ≤ v → 0x10000 ≤ v → enc_scalar v ≡ (240 + v / 262144) ∷ (128 + v / 4096 % 64) ∷ (128 + v / 64 % 64) ∷ (128 + v % 64) ∷ []
   unfolding enc_scalar
-  scalar-4 a b c = rw (le-ltb _ _ a, le-ltb _ _ b, le-ltb _ _ c)
+  scalar_4 a b c = rw (le-ltb _ _ a, le-ltb _ _ b, le-ltb _ _ c)

@@ -23,15 +23,15 @@ use Rattle.resolution.specs.Exec.{Machine, Ran, ran, refused, exec}
 use Rattle.theorems.specs.Finished.{trace_of, setting_of}
 use Rattle.sheet_theorems.specs.Begun.{with_begun, add_begun}
 use Rattle.sheets.specs.Sheet.{run_message}
-use Rattle.sheet_theorems.proofs.Begun.{begun-apart}
-use Rattle.sheet_theorems.proofs.Messages.{message-none, message-part, message-arguments, message-runs}
+use Rattle.sheet_theorems.proofs.Begun.{begun_apart}
+use Rattle.sheet_theorems.proofs.Messages.{message_none, message_part, message_arguments, message_runs}
 use Rattle.state.specs.Progress.{Progress}
 use Rattle.state.specs.Setters.{refuse_s}
 use Rattle.resolver.specs.declared.format.Part as CodePart
 use Rattle.resolver.specs.declared.format.Part.TheVariants as PartAnswer
 use Rattle.resolver.specs.Relations.Meets.{lent, Env, env, Setup}
 use Rattle.resolver.specs.Relations.Runs.{message_in, MessageFound, no_message, no_such_part, pattern_found, Rests, Grown, RanAs, ran_as, refused_as, RunOn}
-use Rattle.resolver.proofs.Patterns.{message-found}
+use Rattle.resolver.proofs.Patterns.{message_found_law}
 use Rattle.sheet_format.specs.Relations.Sheets.{id_of, attribute_of, image_of, limits, MessageRan}
 
 -- the same machine with nothing begun, and with what was begun again
@@ -68,7 +68,7 @@ ran_apart b (refused_as c e z few er) = refused_as c (ap (add_begun b) e) z few 
 
 module _ (s sheet : Bytes) (q : Spans) (x l w : Bytes) (p : Progress) {f : CodePart.Part} (found : f ≡ message_in s (id_of sheet q) (attribute_of sheet q)) where
   found_of : (v : Store) (used : ℕ) → store_of s ≡ got v used → (a : Request) → Shows sheet q a → MessageFound s v a.id a.attribute f
-  found_of v used h a sh = message-found s a.id a.attribute h (found ∙ ap (λ (i : Bytes). message_in s i (attribute_of sheet q)) sh.id ∙ ap (λ (o : Option Bytes). message_in s a.id o) sh.attribute)
+  found_of v used h a sh = message_found_law s a.id a.attribute h (found ∙ ap (λ (i : Bytes). message_in s i (attribute_of sheet q)) sh.id ∙ ap (λ (o : Option Bytes). message_in s a.id o) sh.attribute)
 
   -- 11 and 12
   pub message_lacks : {c : ℕ} {r : Progress} → f ≡ PartAnswer.Refused c → r ≡ refuse_s c p → MessageRan s sheet q x l w p x l w r 0
@@ -78,14 +78,14 @@ module _ (s sheet : Bytes) (q : Spans) (x l w : Bytes) (p : Progress) {f : CodeP
       stops o n k eo z few ec = refused_as n eo z few (ap (λ (y : Progress). y.refused) er ∙ ec)
 
       go : (v : Store) (a : Request) (k : Machine) → MessageFound s v a.id a.attribute f → RanAs (run_message v (limits x l w) a k) x l p x l w r (k.begun + 0)
-      go v a k (no_message e' o) = stops _ 11 _ (message-none v (limits x l w) a k o) (λ z. omega arith) (omega arith) cc
-      go v a k (no_such_part y e' o n) = stops _ 12 _ (message-part v (limits x l w) a k y o n) (λ z. omega arith) (omega arith) cc
+      go v a k (no_message e' o) = stops _ 11 _ (message_none v (limits x l w) a k o) (λ z. omega arith) (omega arith) cc
+      go v a k (no_such_part y e' o n) = stops _ 12 _ (message_part v (limits x l w) a k y o n) (λ z. omega arith) (omega arith) cc
       go v a k (pattern_found y q' t end e' o n hp) = let z : ◌≡◌ {A = ℕ} 0 1 = cc in absurd (omega arith)
 
   module _ {at : ℕ} (e : f ≡ PartAnswer.At at) where
-    found-elim : {C : Type 0} (v : Store) (used : ℕ) → store_of s ≡ got v used → (a : Request) → Shows sheet q a
+    found_elim : {C : Type 0} (v : Store) (used : ℕ) → store_of s ≡ got v used → (a : Request) → Shows sheet q a
         → ((y : Entry) (t : Pattern) (end : ℕ) → as_message (find_in v.items a.id) ≡ some y → part_of a.attribute y ≡ some t → entry_pattern_at s at ≡ got t end → C) → C
-    found-elim {C} v used h a sh c = go (found_of v used h a sh)
+    found_elim {C} v used h a sh c = go (found_of v used h a sh)
       where
         go : MessageFound s v a.id a.attribute f → C
         go (pattern_found y q' t end e' o n hp) = let eq : q' ≡ at = cc in c y t end o n (subst (λ (j : ℕ). entry_pattern_at s j ≡ got t end) eq hp)
@@ -93,23 +93,23 @@ module _ (s sheet : Bytes) (q : Spans) (x l w : Bytes) (p : Progress) {f : CodeP
         go (no_such_part y e' o n) = let z : ◌≡◌ {A = ℕ} 0 1 = cc in absurd (omega arith)
 
     -- 13 and 19
-    pub message-refused : {c : ℕ} {r : Progress} → c ≡ refusal_of (judge (image_of sheet q)) → (c ≡ 0 → ⊥) → c < 256 → r ≡ refuse_s c p → MessageRan s sheet q x l w p x l w r 0
-    message-refused {c} {r} b ne few er = record {
-      runs = λ v used h a sh k rests. found-elim v used h a sh (λ y t end o n hp.
-          (refused_as c (message-arguments v (limits x l w) a k y o t n c (ap judge (sym sh.image) ∙ judged_refused (image_of sheet q) b ne)) ne few (ap (λ (i : Progress). i.refused) er), λ z. omega arith));
+    pub message_refused : {c : ℕ} {r : Progress} → c ≡ refusal_of (judge (image_of sheet q)) → (c ≡ 0 → ⊥) → c < 256 → r ≡ refuse_s c p → MessageRan s sheet q x l w p x l w r 0
+    message_refused {c} {r} b ne few er = record {
+      runs = λ v used h a sh k rests. found_elim v used h a sh (λ y t end o n hp.
+          (refused_as c (message_arguments v (limits x l w) a k y o t n c (ap judge (sym sh.image) ∙ judged_refused (image_of sheet q) b ne)) ne few (ap (λ (i : Progress). i.refused) er), λ z. omega arith));
     }
 
     -- its run
-    pub message-on : {args : List (Bytes × Argument)} {places x' l' w' : Bytes} {r : Progress} {n : ℕ} → judge (image_of sheet q) ≡ accepted args → Noted (image_of sheet q) places → RunOn (env s (lent (image_of sheet q) places)) at x l w p x' l' w' r → n ≡ r.begun
+    pub message_on : {args : List (Bytes × Argument)} {places x' l' w' : Bytes} {r : Progress} {n : ℕ} → judge (image_of sheet q) ≡ accepted args → Noted (image_of sheet q) places → RunOn (env s (lent (image_of sheet q) places)) at x l w p x' l' w' r → n ≡ r.begun
         → MessageRan s sheet q x l w p x' l' w' r n
-    message-on {args} {places} {x'} {l'} {w'} {r} {n} ha nt ru en = record {
-      runs = λ v used h a sh k rests. found-elim v used h a sh (λ y t f o pa hp.
+    message_on {args} {places} {x'} {l'} {w'} {r} {n} ha nt ru en = record {
+      runs = λ v used h a sh k rests. found_elim v used h a sh (λ y t f o pa hp.
           let u : Setup (env s (lent (image_of sheet q) places)) = record { held = v; used = used; held_at = h; given = args; given_at = ha; noted = nt } in
           let k₀ : Machine = with_begun 0 k in
           let g = ru.runs u t f hp k₀ (unfold with_begun in refl) (rests_apart 0 rests) in
           let tr = trace_of (setting_of v args) (find_in v.items) t in
           let runs : run_message v (limits x l w) a k ≡ add_begun k.begun (exec (limits x l w) tr k₀) =
-          message-runs v (limits x l w) a k y o t pa args (ap judge (sym sh.image) ∙ ha) ∙ ap (λ (m : Machine). exec (limits x l w) tr m) (again k) ∙ begun-apart k.begun (limits x l w) tr k₀ in (
+          message_runs v (limits x l w) a k y o t pa args (ap judge (sym sh.image) ∙ ha) ∙ ap (λ (m : Machine). exec (limits x l w) tr m) (again k) ∙ begun_apart k.begun (limits x l w) tr k₀ in (
             subst (λ (z : Ran). RanAs z x l p x' l' w' r (k.begun + n)) (sym runs) (subst (λ (i : ℕ). RanAs (add_begun k.begun (exec (limits x l w) tr k₀)) x l p x' l' w' r (k.begun + i)) (sym en) (ran_apart k.begun g.0)),
             λ z. subst (λ (i : ℕ). i ≤ 101) (sym en) (g.1 z),
           ));

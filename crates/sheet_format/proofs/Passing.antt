@@ -8,7 +8,7 @@ use lib.Seq.{drop-drop}
 use Rattle.records.specs.Got.{Got, got, after}
 use Rattle.records.specs.Bytes.{number_at}
 use Rattle.records.specs.Decode.{many}
-use Rattle.records.proofs.Laws.{after-elim, got_elim}
+use Rattle.records.proofs.Laws.{after_elim, got_elim}
 use Rattle.records.proofs.Views.{both}
 use Rattle.layout.specs.Exact.{Octets}
 use Rattle.requests.specs.Image.{Request, request_at}
@@ -19,7 +19,7 @@ use Rattle.resolution.specs.Effect.{Bytes}
 use Rattle.resolution.specs.Exec.{Machine, Limits, Ran, ran, refused, start}
 use Rattle.resolution.specs.Format.{limits_of}
 use Rattle.sheets.specs.Sheet.{run_message, run_sheet}
-use Rattle.sheet_theorems.proofs.Messages.{sheet-none, sheet-next, sheet-stops}
+use Rattle.sheet_theorems.proofs.Messages.{sheet_none, sheet_next, sheet_stops}
 use Rattle.state.specs.Progress.{Progress}
 use Rattle.state.specs.Setters.{new_s}
 use Rattle.resolver.specs.Relations.Runs.{Rests, Grown, RanAs, ran_as, refused_as}
@@ -64,9 +64,9 @@ passed_start {s} {sheet} x l w {p} {count} {from} oct b h =
 
 module _ {s sheet x l w x₁ l₁ w₁ : Bytes} {p : Progress} {at left begun : ℕ} (h : Passed s sheet x l w x₁ l₁ w₁ p at left begun) where
   -- the lengths are the sheet's
-  same-limits : limits x₁ l₁ w₁ ≡ limits x l w
+  same_limits : limits x₁ l₁ w₁ ≡ limits x l w
   unfolding limits_of
-  same-limits = let a = h.text_size in let b = h.list_size in let c = h.work_size in λ i. record { text_len = a i; list_len = b i; work_len = c i }
+  same_limits = let a = h.text_size in let b = h.list_size in let c = h.work_size in λ i. record { text_len = a i; list_len = b i; work_len = c i }
 
   -- the request that is next
   pub record Next : Type 0 where
@@ -82,8 +82,8 @@ module _ {s sheet x l w x₁ l₁ w₁ : Bytes} {p : Progress} {at left begun : 
   next_of_law n e =
       let q : many [] ◌∷◌ (suc n) request_at sheet at ≡ got h.rest h.checked.end = subst (λ (i : ℕ). many [] ◌∷◌ i request_at sheet at ≡ got h.rest h.checked.end) e h.asked in
       let m : n ≡ left - 1 = omega arith in
-      after-elim (request_at sheet at) _ q (λ r f hr q'.
-      after-elim (many [] ◌∷◌ n request_at sheet f) _ q' (λ rs g hs q''.
+      after_elim (request_at sheet at) _ q (λ r f hr q'.
+      after_elim (many [] ◌∷◌ n request_at sheet f) _ q' (λ rs g hs q''.
       got_elim q'' (λ el eg. record { request = r; past = f; others = rs; reads = hr; follow = subst (λ (i : ℕ). many [] ◌∷◌ i request_at sheet f ≡ got rs h.checked.end) m (hs ∙ ap (got rs) eg); rest = sym el })))
 
   pub next : 0 < left → Next
@@ -91,19 +91,19 @@ module _ {s sheet x l w x₁ l₁ w₁ : Bytes} {p : Progress} {at left begun : 
 
   module _ (lt : 0 < left) {q : Spans} (shows : Shows sheet q (next lt).request) {x₂ l₂ w₂ : Bytes} {r : Progress} {n : ℕ} (m : MessageRan s sheet q x₁ l₁ w₁ p x₂ l₂ w₂ r n) where
     outcome : RanAs (run_message h.checked.store (limits x l w) (next lt).request h.machine) x₁ l₁ p x₂ l₂ w₂ r (h.machine.begun + n) × (r.refused ≡ 0 → n ≤ 101)
-    outcome = subst (λ (L : Limits). RanAs (run_message h.checked.store L (next lt).request h.machine) x₁ l₁ p x₂ l₂ w₂ r (h.machine.begun + n) × (r.refused ≡ 0 → n ≤ 101)) same-limits
+    outcome = subst (λ (L : Limits). RanAs (run_message h.checked.store L (next lt).request h.machine) x₁ l₁ p x₂ l₂ w₂ r (h.machine.begun + n) × (r.refused ≡ 0 → n ≤ 101)) same_limits
         (m.runs h.checked.store h.checked.used h.checked.stored (next lt).request shows h.machine h.rests)
 
-    onward-next : run_sheet h.checked.store (limits x l w) h.checked.requests start ≡ run_sheet h.checked.store (limits x l w) ((next lt).request ∷ (next lt).others) h.machine
-    onward-next = h.onward ∙ ap (λ (rs : List Request). run_sheet h.checked.store (limits x l w) rs h.machine) (next lt).rest
+    onward_next : run_sheet h.checked.store (limits x l w) h.checked.requests start ≡ run_sheet h.checked.store (limits x l w) ((next lt).request ∷ (next lt).others) h.machine
+    onward_next = h.onward ∙ ap (λ (rs : List Request). run_sheet h.checked.store (limits x l w) rs h.machine) (next lt).rest
 
     -- few placeables were begun, by it and so far
-    pub begun-few : r.refused ≡ 0 → begun + n ≤ 6619035
-    begun-few z = omega (arith, h.few, outcome.1 z, lt)
+    pub begun_few : r.refused ≡ 0 → begun + n ≤ 6619035
+    begun_few z = omega (arith, h.few, outcome.1 z, lt)
 
     -- one message more
-    passed-more : r.refused ≡ 0 → length x₂ ≡ length x₁ → length l₂ ≡ length l₁ → length w₂ ≡ length w₁ → Passed s sheet x l w x₂ l₂ w₂ r (next lt).past (left - 1) (begun + n)
-    passed-more z lx ll lw = go outcome.0
+    passed_more : r.refused ≡ 0 → length x₂ ≡ length x₁ → length l₂ ≡ length l₁ → length w₂ ≡ length w₁ → Passed s sheet x l w x₂ l₂ w₂ r (next lt).past (left - 1) (begun + n)
+    passed_more z lx ll lw = go outcome.0
       where
         go : RanAs (run_message h.checked.store (limits x l w) (next lt).request h.machine) x₁ l₁ p x₂ l₂ w₂ r (h.machine.begun + n) → Passed s sheet x l w x₂ l₂ w₂ r (next lt).past (left - 1) (begun + n)
         go (ran_as k e rests en g) = record {
@@ -118,29 +118,29 @@ module _ {s sheet x l w x₁ l₁ w₁ : Bytes} {p : Progress} {at left begun : 
           few = omega (arith, h.few, outcome.1 z, lt);
           grown = grown_more h.grown g;
           asked = (next lt).follow;
-          onward = onward-next ∙ sheet-next h.checked.store (limits x l w) (next lt).request (next lt).others h.machine k e;
+          onward = onward_next ∙ sheet_next h.checked.store (limits x l w) (next lt).request (next lt).others h.machine k e;
         }
         go (refused_as c e nz few er) = absurd (nz (sym er ∙ z))
 
     -- the same at the place where the code says that the request ends
-    pub passed-again : r.refused ≡ 0 → length x₂ ≡ length x₁ → length l₂ ≡ length l₁ → length w₂ ≡ length w₁ → {e : ℕ} → e ≡ (next lt).past → Passed s sheet x l w x₂ l₂ w₂ r e (left - 1) (begun + n)
-    passed-again z lx ll lw {e} ee = subst (λ (i : ℕ). Passed s sheet x l w x₂ l₂ w₂ r i (left - 1) (begun + n)) (sym ee) (passed-more z lx ll lw)
+    pub passed_again : r.refused ≡ 0 → length x₂ ≡ length x₁ → length l₂ ≡ length l₁ → length w₂ ≡ length w₁ → {e : ℕ} → e ≡ (next lt).past → Passed s sheet x l w x₂ l₂ w₂ r e (left - 1) (begun + n)
+    passed_again z lx ll lw {e} ee = subst (λ (i : ℕ). Passed s sheet x l w x₂ l₂ w₂ r i (left - 1) (begun + n)) (sym ee) (passed_more z lx ll lw)
 
     -- a message that is refused ends the sheet
-    pub sheet-refused : (r.refused ≡ 0 → ⊥) → SheetRan s sheet x l w x₂ l₂ w₂ r begun
-    sheet-refused nz = record { checked = h.checked; ran = go outcome.0 }
+    pub sheet_refused : (r.refused ≡ 0 → ⊥) → SheetRan s sheet x l w x₂ l₂ w₂ r begun
+    sheet_refused nz = record { checked = h.checked; ran = go outcome.0 }
       where
         go : RanAs (run_message h.checked.store (limits x l w) (next lt).request h.machine) x₁ l₁ p x₂ l₂ w₂ r (h.machine.begun + n) → RanAs (run_sheet h.checked.store (limits x l w) h.checked.requests start) x l (new_s (length w)) x₂ l₂ w₂ r begun
         go (ran_as k e rests en g) = absurd (nz rests.go)
-        go (refused_as c e z few er) = refused_as c (onward-next ∙ sheet-stops h.checked.store (limits x l w) (next lt).request (next lt).others h.machine c e) z few er
+        go (refused_as c e z few er) = refused_as c (onward_next ∙ sheet_stops h.checked.store (limits x l w) (next lt).request (next lt).others h.machine c e) z few er
 
   -- no message is left
   none_left : left ≡ 0 → h.rest ≡ []
   unfolding many
   none_left e = got_elim (subst (λ (i : ℕ). many [] ◌∷◌ i request_at sheet at ≡ got h.rest h.checked.end) e h.asked) (λ el _. sym el)
 
-  pub sheet-ended : left ≡ 0 → SheetRan s sheet x l w x₁ l₁ w₁ p begun
-  sheet-ended e = record {
+  pub sheet_ended : left ≡ 0 → SheetRan s sheet x l w x₁ l₁ w₁ p begun
+  sheet_ended e = record {
     checked = h.checked;
-    ran = ran_as h.machine (h.onward ∙ ap (λ (rs : List Request). run_sheet h.checked.store (limits x l w) rs h.machine) (none_left e) ∙ sheet-none h.checked.store (limits x l w) h.machine) h.rests h.sum h.grown;
+    ran = ran_as h.machine (h.onward ∙ ap (λ (rs : List Request). run_sheet h.checked.store (limits x l w) rs h.machine) (none_left e) ∙ sheet_none h.checked.store (limits x l w) h.machine) h.rests h.sum h.grown;
   }

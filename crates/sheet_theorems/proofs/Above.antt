@@ -7,13 +7,13 @@ use native.Mathlib.Omega.{arith}
 use lib.ListN.{length, length-append}
 use Rattle.records.specs.Encode.{enc_all}
 use Rattle.records.specs.Errors.{Error, enc_error, enc_errors}
-use Rattle.resolution.specs.Effect.{Bytes, Effect, put, report, begin, expand, unfound, open-text, keep-text, free, merged, Trace}
+use Rattle.resolution.specs.Effect.{Bytes, Effect, put, report, begin, expand, unfound, open_text, keep_text, free, merged, Trace}
 use Rattle.resolution.specs.Exec.{Machine, Limits, ran, list_limit, exec, start}
 use Rattle.theorems.specs.Finished.{reports}
 use Rattle.theorems.proofs.Runs.{same_machine, Onward, onward, exec_step, exec_tallied}
 use Rattle.texts.proofs.ErrorList.{list_size}
 use Rattle.sheet_theorems.specs.ClaimsJoining.{beside}
-use Rattle.sheet_theorems.proofs.Effects.{text_after, effect_after, TextNeeds, Needs, merge_alike, step-took, step-goes}
+use Rattle.sheet_theorems.proofs.Effects.{text_after, effect_after, TextNeeds, Needs, merge_alike, step_took, step_goes}
 
 -- records one behind the other, and their list's length
 pub records_append : (l k : List Error) → enc_all enc_error (l ++ k) ≡ enc_all enc_error l ++ enc_all enc_error k
@@ -65,8 +65,8 @@ from_start n z u = record {
 
 module _ (base : Machine) where
   -- an effect keeps one above the other
-  text-above : (k : ℕ) (b : Bytes) (m n : Machine) → Above base m n → Above base (text_after k b m) (text_after k b n)
-  text-above zero b m n a = record {
+  text_above : (k : ℕ) (b : Bytes) (m n : Machine) → Above base m n → Above base (text_after k b m) (text_after k b n)
+  text_above zero b m n a = record {
     written = ap (λ (x : Bytes). x ++ b) a.written ∙ append_assoc base.written m.written b;
     errors = a.errors;
     nest = a.nest;
@@ -76,7 +76,7 @@ module _ (base : Machine) where
     expanded = a.expanded;
     unfounds = a.unfounds;
   }
-  text-above (suc k) b m n a = record {
+  text_above (suc k) b m n a = record {
     written = a.written;
     errors = a.errors;
     nest = a.nest;
@@ -87,14 +87,14 @@ module _ (base : Machine) where
     unfounds = a.unfounds;
   }
 
-  above-report : (e : Error) (m n : Machine) → Above base m n → n.errors ++ (e ∷ []) ≡ base.errors ++ (m.errors ++ (e ∷ []))
-  above-report e m n a = ap (λ (x : List Error). x ++ (e ∷ [])) a.errors ∙ append_assoc base.errors m.errors (e ∷ [])
+  above_report : (e : Error) (m n : Machine) → Above base m n → n.errors ++ (e ∷ []) ≡ base.errors ++ (m.errors ++ (e ∷ []))
+  above_report e m n a = ap (λ (x : List Error). x ++ (e ∷ [])) a.errors ∙ append_assoc base.errors m.errors (e ∷ [])
 
-  effect-above : (e : Effect) (m n : Machine) → Above base m n → Above base (effect_after e m) (effect_after e n)
-  effect-above (put b) m n a = subst (λ (k : ℕ). Above base (text_after m.nest b m) (text_after k b n)) (sym a.nest) (text-above m.nest b m n a)
-  effect-above (report e) m n a = record {
+  effect_above : (e : Effect) (m n : Machine) → Above base m n → Above base (effect_after e m) (effect_after e n)
+  effect_above (put b) m n a = subst (λ (k : ℕ). Above base (text_after m.nest b m) (text_after k b n)) (sym a.nest) (text_above m.nest b m n a)
+  effect_above (report e) m n a = record {
     written = a.written;
-    errors = above-report e m n a;
+    errors = above_report e m n a;
     nest = a.nest;
     used = a.used;
     high = a.high;
@@ -102,46 +102,46 @@ module _ (base : Machine) where
     expanded = a.expanded;
     unfounds = a.unfounds;
   }
-  effect-above begin m n a = record { written = a.written; errors = a.errors; nest = a.nest; used = a.used; high = a.high; begun = omega (arith, a.begun); expanded = a.expanded; unfounds = a.unfounds }
-  effect-above expand m n a = record { written = a.written; errors = a.errors; nest = a.nest; used = a.used; high = a.high; begun = a.begun; expanded = omega (arith, a.expanded); unfounds = a.unfounds }
-  effect-above unfound m n a = record { written = a.written; errors = a.errors; nest = a.nest; used = a.used; high = a.high; begun = a.begun; expanded = a.expanded; unfounds = omega (arith, a.unfounds) }
-  effect-above open-text m n a = record { written = a.written; errors = a.errors; nest = ap suc a.nest; used = a.used; high = a.high; begun = a.begun; expanded = a.expanded; unfounds = a.unfounds }
-  effect-above keep-text m n a = record { written = a.written; errors = a.errors; nest = omega (arith, a.nest); used = a.used; high = a.high; begun = a.begun; expanded = a.expanded; unfounds = a.unfounds }
-  effect-above (free k) m n a = record { written = a.written; errors = a.errors; nest = a.nest; used = omega (arith, a.used); high = a.high; begun = a.begun; expanded = a.expanded; unfounds = a.unfounds }
-  effect-above (merged k) m n a = a
+  effect_above begin m n a = record { written = a.written; errors = a.errors; nest = a.nest; used = a.used; high = a.high; begun = omega (arith, a.begun); expanded = a.expanded; unfounds = a.unfounds }
+  effect_above expand m n a = record { written = a.written; errors = a.errors; nest = a.nest; used = a.used; high = a.high; begun = a.begun; expanded = omega (arith, a.expanded); unfounds = a.unfounds }
+  effect_above unfound m n a = record { written = a.written; errors = a.errors; nest = a.nest; used = a.used; high = a.high; begun = a.begun; expanded = a.expanded; unfounds = omega (arith, a.unfounds) }
+  effect_above open_text m n a = record { written = a.written; errors = a.errors; nest = ap suc a.nest; used = a.used; high = a.high; begun = a.begun; expanded = a.expanded; unfounds = a.unfounds }
+  effect_above keep_text m n a = record { written = a.written; errors = a.errors; nest = omega (arith, a.nest); used = a.used; high = a.high; begun = a.begun; expanded = a.expanded; unfounds = a.unfounds }
+  effect_above (free k) m n a = record { written = a.written; errors = a.errors; nest = a.nest; used = omega (arith, a.used); high = a.high; begun = a.begun; expanded = a.expanded; unfounds = a.unfounds }
+  effect_above (merged k) m n a = a
 
-  above-text : (m n : Machine) → Above base m n → length n.written ≡ length base.written + length m.written
-  above-text m n a = omega (arith, ap length a.written, length-append base.written m.written)
+  above_text : (m n : Machine) → Above base m n → length n.written ≡ length base.written + length m.written
+  above_text m n a = omega (arith, ap length a.written, length-append base.written m.written)
 
   -- what the upper one has room for, the lower one has
-  text-below : (L : Limits) (k : ℕ) (b : Bytes) (m n : Machine) → Above base m n → TextNeeds L k b n → TextNeeds L k b m
-  text-below L zero b m n a h = omega (arith, h, above-text m n a)
-  text-below L (suc k) b m n a h = omega (arith, h, a.used)
+  text_below : (L : Limits) (k : ℕ) (b : Bytes) (m n : Machine) → Above base m n → TextNeeds L k b n → TextNeeds L k b m
+  text_below L zero b m n a h = omega (arith, h, above_text m n a)
+  text_below L (suc k) b m n a h = omega (arith, h, a.used)
 
-  needs-below : (L : Limits) (e : Effect) (m n : Machine) → Above base m n → Needs L e n → Needs L e m
-  needs-below L (put b) m n a h = text-below L m.nest b m n a (subst (λ (k : ℕ). TextNeeds L k b n) a.nest h)
-  needs-below L (report e) m n a h =
-      let q = ap (λ (x : List Error). length (enc_errors x)) (above-report e m n a) in
+  needs_below : (L : Limits) (e : Effect) (m n : Machine) → Above base m n → Needs L e n → Needs L e m
+  needs_below L (put b) m n a h = text_below L m.nest b m n a (subst (λ (k : ℕ). TextNeeds L k b n) a.nest h)
+  needs_below L (report e) m n a h =
+      let q = ap (λ (x : List Error). length (enc_errors x)) (above_report e m n a) in
       omega (arith, h, q, errors_joined base.errors (m.errors ++ (e ∷ [])), list_size base.errors)
-  needs-below L begin m n a h = tt
-  needs-below L expand m n a h = tt
-  needs-below L unfound m n a h = tt
-  needs-below L open-text m n a h = tt
-  needs-below L keep-text m n a h = tt
-  needs-below L (free k) m n a h = tt
-  needs-below L (merged k) m n a h = merge_alike L L k n m h
+  needs_below L begin m n a h = tt
+  needs_below L expand m n a h = tt
+  needs_below L unfound m n a h = tt
+  needs_below L open_text m n a h = tt
+  needs_below L keep_text m n a h = tt
+  needs_below L (free k) m n a h = tt
+  needs_below L (merged k) m n a h = merge_alike L L k n m h
 
   -- a trace that a machine with something before it runs to the end, one with nothing before it runs too
-  pub exec-below : (L : Limits) (t : Trace) (m n n' : Machine) → Above base m n → exec L t n ≡ ran n'
+  pub exec_below : (L : Limits) (t : Trace) (m n n' : Machine) → Above base m n → exec L t n ≡ ran n'
       → (m' : Machine) × (exec L t m ≡ ran m') × Above base m' n'
   unfolding exec
-  exec-below L [] m n n' a h = (m, refl, subst (λ (x : Machine). Above base m x) (same_machine n n' h) a)
-  exec-below L (e ∷ t) m n n' a h =
+  exec_below L [] m n n' a h = (m, refl, subst (λ (x : Machine). Above base m x) (same_machine n n' h) a)
+  exec_below L (e ∷ t) m n n' a h =
       let o : Onward L e t n n' = onward L e t n n' h in
-      let s = step-took L e n o.mid o.first in
-      let up : Above base (effect_after e m) o.mid = subst (λ (x : Machine). Above base (effect_after e m) x) s.1 (effect-above e m n a) in
-      let r = exec-below L t (effect_after e m) o.mid n' up o.rest in
-      (r.0, exec_step L e t m (effect_after e m) (step-goes L e m (needs-below L e m n a s.0)) ∙ r.1, r.2)
+      let s = step_took L e n o.mid o.first in
+      let up : Above base (effect_after e m) o.mid = subst (λ (x : Machine). Above base (effect_after e m) x) s.1 (effect_above e m n a) in
+      let r = exec_below L t (effect_after e m) o.mid n' up o.rest in
+      (r.0, exec_step L e t m (effect_after e m) (step_goes L e m (needs_below L e m n a s.0)) ∙ r.1, r.2)
 
 -- L has room for m' behind base, and no less workspace than L₁
 pub record Room (base m' : Machine) (L₁ L : Limits) : Type 0 where
@@ -160,8 +160,8 @@ effect_grew (report e) m = omega arith
 effect_grew begin m = omega arith
 effect_grew expand m = omega arith
 effect_grew unfound m = omega arith
-effect_grew open-text m = omega arith
-effect_grew keep-text m = omega arith
+effect_grew open_text m = omega arith
+effect_grew keep_text m = omega arith
 effect_grew (free k) m = omega arith
 effect_grew (merged k) m = omega arith
 
@@ -170,13 +170,13 @@ unfolding exec
 text_grows L [] m m' h = omega (arith, ap (λ (x : Machine). length x.written) (same_machine m m' h))
 text_grows L (e ∷ t) m m' h =
     let o : Onward L e t m m' = onward L e t m m' h in
-    let q : effect_after e m ≡ o.mid = (step-took L e m o.mid o.first).1 in
+    let q : effect_after e m ≡ o.mid = (step_took L e m o.mid o.first).1 in
     omega (arith, effect_grew e m, ap (λ (x : Machine). length x.written) q, text_grows L t o.mid m' o.rest)
 
 module _ (base : Machine) (L₁ L : Limits) where
   -- room for all of it is room for the first part
-  room-before : (t : Trace) (m m' : Machine) → exec L₁ t m ≡ ran m' → Room base m' L₁ L → Room base m L₁ L
-  room-before t m m' h r =
+  room_before : (t : Trace) (m m' : Machine) → exec L₁ t m ≡ ran m' → Room base m' L₁ L → Room base m L₁ L
+  room_before t m m' h r =
       let q = ap (λ (x : List Error). length (enc_errors x)) (exec_tallied L₁ t m m' h).errors in
       record {
         text = omega (arith, r.text, text_grows L₁ t m m' h);
@@ -184,33 +184,33 @@ module _ (base : Machine) (L₁ L : Limits) where
         work = r.work;
       }
 
-  text-above-needs : (k : ℕ) (b : Bytes) (m n : Machine) → Above base m n → Room base (text_after k b m) L₁ L → TextNeeds L₁ k b m → TextNeeds L k b n
-  text-above-needs zero b m n a r h = omega (arith, r.text, above-text base m n a, length-append m.written b)
-  text-above-needs (suc k) b m n a r h = omega (arith, r.work, h, a.used)
+  text_above_needs : (k : ℕ) (b : Bytes) (m n : Machine) → Above base m n → Room base (text_after k b m) L₁ L → TextNeeds L₁ k b m → TextNeeds L k b n
+  text_above_needs zero b m n a r h = omega (arith, r.text, above_text base m n a, length-append m.written b)
+  text_above_needs (suc k) b m n a r h = omega (arith, r.work, h, a.used)
 
   -- where the lower one goes and there is room, the upper one has what it needs
-  needs-above : (e : Effect) (m n : Machine) → Above base m n → Room base (effect_after e m) L₁ L → Needs L₁ e m → Needs L e n
-  needs-above (put b) m n a r h = subst (λ (k : ℕ). TextNeeds L k b n) (sym a.nest) (text-above-needs m.nest b m n a r h)
-  needs-above (report e) m n a r h =
-      let q = ap (λ (x : List Error). length (enc_errors x)) (above-report base e m n a) in
+  needs_above : (e : Effect) (m n : Machine) → Above base m n → Room base (effect_after e m) L₁ L → Needs L₁ e m → Needs L e n
+  needs_above (put b) m n a r h = subst (λ (k : ℕ). TextNeeds L k b n) (sym a.nest) (text_above_needs m.nest b m n a r h)
+  needs_above (report e) m n a r h =
+      let q = ap (λ (x : List Error). length (enc_errors x)) (above_report base e m n a) in
       omega (arith, q, r.list)
-  needs-above begin m n a r h = tt
-  needs-above expand m n a r h = tt
-  needs-above unfound m n a r h = tt
-  needs-above open-text m n a r h = tt
-  needs-above keep-text m n a r h = tt
-  needs-above (free k) m n a r h = tt
-  needs-above (merged k) m n a r h = merge_alike L₁ L k m n h
+  needs_above begin m n a r h = tt
+  needs_above expand m n a r h = tt
+  needs_above unfound m n a r h = tt
+  needs_above open_text m n a r h = tt
+  needs_above keep_text m n a r h = tt
+  needs_above (free k) m n a r h = tt
+  needs_above (merged k) m n a r h = merge_alike L₁ L k m n h
 
   -- a trace that a machine with nothing before it runs to the end, one with something before it runs too where there is room
-  pub exec-above : (t : Trace) (m n m' : Machine) → Above base m n → exec L₁ t m ≡ ran m' → Room base m' L₁ L
+  pub exec_above : (t : Trace) (m n m' : Machine) → Above base m n → exec L₁ t m ≡ ran m' → Room base m' L₁ L
       → (n' : Machine) × (exec L t n ≡ ran n') × Above base m' n'
   unfolding exec
-  exec-above [] m n m' a h r = (n, refl, subst (λ (x : Machine). Above base x n) (same_machine m m' h) a)
-  exec-above (e ∷ t) m n m' a h r =
+  exec_above [] m n m' a h r = (n, refl, subst (λ (x : Machine). Above base x n) (same_machine m m' h) a)
+  exec_above (e ∷ t) m n m' a h r =
       let o : Onward L₁ e t m m' = onward L₁ e t m m' h in
-      let s = step-took L₁ e m o.mid o.first in
-      let room : Room base (effect_after e m) L₁ L = subst (λ (x : Machine). Room base x L₁ L) (sym s.1) (room-before t o.mid m' o.rest r) in
-      let up : Above base o.mid (effect_after e n) = subst (λ (x : Machine). Above base x (effect_after e n)) s.1 (effect-above base e m n a) in
-      let y = exec-above t o.mid (effect_after e n) m' up o.rest r in
-      (y.0, exec_step L e t n (effect_after e n) (step-goes L e n (needs-above e m n a room s.0)) ∙ y.1, y.2)
+      let s = step_took L₁ e m o.mid o.first in
+      let room : Room base (effect_after e m) L₁ L = subst (λ (x : Machine). Room base x L₁ L) (sym s.1) (room_before t o.mid m' o.rest r) in
+      let up : Above base o.mid (effect_after e n) = subst (λ (x : Machine). Above base x (effect_after e n)) s.1 (effect_above base e m n a) in
+      let y = exec_above t o.mid (effect_after e n) m' up o.rest r in
+      (y.0, exec_step L e t n (effect_after e n) (step_goes L e n (needs_above e m n a room s.0)) ∙ y.1, y.2)

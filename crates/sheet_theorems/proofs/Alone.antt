@@ -16,7 +16,7 @@ use Rattle.resolution.specs.Resolve.{Setting}
 use Rattle.resolution.specs.Exec.{Machine, Limits, ran, list_limit, exec, start}
 use Rattle.resolution.specs.Format.{Buffers, Formatted, limits_of, ended, run_pattern, format}
 use Rattle.theorems.specs.Finished.{trace_of, setting_of, Finished, Placeables}
-use Rattle.theorems.proofs.Within.{Within, exec-within, start-within, within}
+use Rattle.theorems.proofs.Within.{Within, exec_within, start_within, within}
 use Rattle.theorems.proofs.Parts.{parts, finish}
 use Rattle.theorems.proofs.Whole.{placeables, nothing_left}
 use Rattle.theorems.proofs.Steadiness.{same_store}
@@ -24,10 +24,10 @@ use Rattle.requests.specs.Image.{Request}
 use Rattle.requests.proofs.Exact.{RequestOk}
 use Rattle.sheets.specs.Sheet.{run_message}
 use Rattle.sheet_theorems.specs.ClaimsJoining.{beside, lent, Alone}
-use Rattle.sheet_theorems.proofs.Messages.{message-runs, RanOn, message-ran}
+use Rattle.sheet_theorems.proofs.Messages.{message_runs, RanOn, message_ran}
 use Rattle.sheet_theorems.proofs.Requests.{request_ids}
 use Rattle.texts.proofs.ErrorList.{list_size}
-use Rattle.sheet_theorems.proofs.Above.{errors_joined, is_beside, from_start, exec-below, Room, exec-above}
+use Rattle.sheet_theorems.proofs.Above.{errors_joined, is_beside, from_start, exec_below, Room, exec_above}
 use Rattle.sheet_theorems.proofs.Beside.{start_beside, Alike, alike_list, ended_alike}
 
 -- a run from the start needs no more than the lengths of what it made
@@ -35,7 +35,7 @@ exec_exact : (L L₁ : Limits) (t : Trace) (m : Machine) → exec L t start ≡ 
     → length (enc_errors m.errors) ≤ list_limit L₁.list_len → L.work_len ≤ L₁.work_len → exec L₁ t start ≡ ran m
 unfolding start
 exec_exact L L₁ t m h x l w =
-    let y = exec-above start L L₁ t start start m (from_start start refl refl) h (record { text = omega (arith, x); list = l; work = w }) in
+    let y = exec_above start L L₁ t start start m (from_start start refl refl) h (record { text = omega (arith, x); list = l; work = w }) in
     y.1 ∙ ap ran (is_beside start m y.0 y.2 ∙ start_beside m)
 
 -- what a message of a sheet adds, and that it does the same alone
@@ -78,18 +78,18 @@ module _ (s : Bytes) (v : Store) (end : ℕ) (stored : store_of s ≡ got v end)
     runs = runs;
   })
 
-  pub message-alone : (r : Request) → RequestOk r → (n n' : Machine) → n.nest ≡ 0 → n.used ≡ 0 → run_message v (limits_of b) r n ≡ ran n' → Lone s b.work r n n'
+  pub message_alone : (r : Request) → RequestOk r → (n n' : Machine) → n.nest ≡ 0 → n.used ≡ 0 → run_message v (limits_of b) r n ≡ ran n' → Lone s b.work r n n'
   unfolding run_pattern limits_of list_limit list_header
-  message-alone r ok n n' z u h =
-      let g : RanOn v (limits_of b) r n n' = message-ran v (limits_of b) n n' r h in
+  message_alone r ok n n' z u h =
+      let g : RanOn v (limits_of b) r n n' = message_ran v (limits_of b) n n' r h in
       let st : Setting = setting_of v g.arguments in
       let find : Find = find_in v.items in
       let t : Trace = trace_of st find g.part in
-      let x = exec-below n (limits_of b) t start n n' (from_start n z u) g.runs in
+      let x = exec_below n (limits_of b) t start n n' (from_start n z u) g.runs in
       let m : Machine = x.0 in
       let runs : run_pattern st find (limits_of b) g.part ≡ ran m = x.1 in
       let left = nothing_left st find g.part (limits_of b) m runs in
-      let stated : length (enc_errors m.errors) ≤ 4294967295 = (exec-within (limits_of b) t start m (start-within (limits_of b)) x.1).stated in
+      let stated : length (enc_errors m.errors) ≤ 4294967295 = (exec_within (limits_of b) t start m (start_within (limits_of b)) x.1).stated in
       record {
         machine = m;
         alone = λ c l p q.
@@ -103,29 +103,29 @@ module _ (s : Bytes) (v : Store) (end : ℕ) (stored : store_of s ≡ got v end)
       }
 
   -- a message that finishes in some buffers runs behind others too, where there is room
-  run-behind : (r : Request) (n : Machine) → n.nest ≡ 0 → n.used ≡ 0 → (b₁ : Buffers) (f : Finished s r.id r.attribute r.image b₁)
+  run_behind : (r : Request) (n : Machine) → n.nest ≡ 0 → n.used ≡ 0 → (b₁ : Buffers) (f : Finished s r.id r.attribute r.image b₁)
       → Room n f.machine (limits_of b₁) (limits_of b) → run_message v (limits_of b) r n ≡ ran (beside n f.machine)
   unfolding run_pattern
-  run-behind r n z u b₁ f room =
+  run_behind r n z u b₁ f room =
       let t : Trace = trace_of (setting_of f.reached.store f.reached.arguments) (find_in f.reached.store.items) f.reached.part in
-      let y = exec-above n (limits_of b₁) (limits_of b) t start n f.machine (from_start n z u) f.runs room in
+      let y = exec_above n (limits_of b₁) (limits_of b) t start n f.machine (from_start n z u) f.runs room in
       let goes : exec (limits_of b) t n ≡ ran y.0 = y.1 in
       let ends : ran y.0 ≡ ran (beside n f.machine) = ap ran (is_beside n f.machine y.0 y.2) in
-      let runs : run_message f.reached.store (limits_of b) r n ≡ exec (limits_of b) t n = message-runs f.reached.store (limits_of b) r n f.reached.entry f.reached.found f.reached.part f.reached.has f.reached.arguments f.reached.given in
+      let runs : run_message f.reached.store (limits_of b) r n ≡ exec (limits_of b) t n = message_runs f.reached.store (limits_of b) r n f.reached.entry f.reached.found f.reached.part f.reached.has f.reached.arguments f.reached.given in
       subst (λ (x : Store). run_message x (limits_of b) r n ≡ ran (beside n f.machine))
       (same_store v f.reached.store end f.reached.store_end s stored f.reached.stored) (runs ∙ (goes ∙ ends))
 
-  alike-behind : (r : Request) (n m : Machine) → n.nest ≡ 0 → n.used ≡ 0 → (b₁ : Buffers) (f : Finished s r.id r.attribute r.image b₁)
+  alike_behind : (r : Request) (n m : Machine) → n.nest ≡ 0 → n.used ≡ 0 → (b₁ : Buffers) (f : Finished s r.id r.attribute r.image b₁)
       → Alike f.machine m → length b₁.work ≤ length b.work
       → length n.written + length m.written ≤ length b.text → length (enc_errors (n.errors ++ m.errors)) ≤ list_limit (length b.list)
       → Behind v (limits_of b) r n m
   unfolding limits_of
-  alike-behind r n m z u b₁ f same work roomText roomList =
+  alike_behind r n m z u b₁ f same work roomText roomList =
       let left = nothing_left (setting_of f.reached.store f.reached.arguments) (find_in f.reached.store.items) f.reached.part (limits_of b₁) f.machine f.runs in
       record {
         machine = f.machine;
         alike = same;
-        runs = run-behind r n z u b₁ f (record {
+        runs = run_behind r n z u b₁ f (record {
           text = omega (arith, roomText, ap length same.written);
           list = omega (arith, roomList, ap length (alike_list f.machine m same), errors_joined n.errors m.errors, errors_joined n.errors f.machine.errors);
           work = work;
@@ -135,15 +135,15 @@ module _ (s : Bytes) (v : Store) (end : ℕ) (stored : store_of s ≡ got v end)
       }
 
   -- a message that finishes alone does
-  pub message-behind : (r : Request) (n m : Machine) → n.nest ≡ 0 → n.used ≡ 0 → Alone s b.work r m
+  pub message_behind : (r : Request) (n m : Machine) → n.nest ≡ 0 → n.used ≡ 0 → Alone s b.work r m
       → length n.written + length m.written ≤ length b.text → length (enc_errors (n.errors ++ m.errors)) ≤ list_limit (length b.list)
       → Behind v (limits_of b) r n m
   unfolding ended list_limit
-  message-behind r n m z u h roomText roomList =
+  message_behind r n m z u h roomText roomList =
       let b₁ : Buffers = lent m.written (enc_errors m.errors) b.work in
       let q : format s r.id r.attribute r.image b₁ ≡ ended (ran m) b₁ = h m.written (enc_errors m.errors) refl refl in
       let f : Finished s r.id r.attribute r.image b₁ = parts s r.id r.attribute r.image b₁ _ _ _ _ _ (ap (λ (x : Formatted). x.answer) q) in
       let fits : Within (limits_of b₁) f.machine = within (limits_of b₁) (setting_of f.reached.store f.reached.arguments) (find_in f.reached.store.items) f.reached.part f.machine f.runs in
       let stated : length (enc_errors m.errors) ≤ 4294967295 = omega (arith, roomList, errors_joined n.errors m.errors, list_size n.errors) in
       let ends : ended (ran f.machine) b₁ ≡ ended (ran m) b₁ = sym (finish s r.id r.attribute r.image b₁ f) ∙ q in
-      alike-behind r n m z u b₁ f (ended_alike f.machine m b₁ fits.stated stated ends) (omega arith) roomText roomList
+      alike_behind r n m z u b₁ f (ended_alike f.machine m b₁ fits.stated stated ends) (omega arith) roomText roomList

@@ -10,7 +10,7 @@ use lib.Dec.{leb}
 use borrow.Author.Tests.{leb-true, leb-false}
 use Rattle.records.specs.Bytes.{to_be}
 use Rattle.records.specs.Encode.{enc_all}
-use Rattle.records.specs.Errors.{Error, overriding, reference, no_value, missingDefault, cyclic, tooManyPlaceables, enc_record, enc_error, enc_errors, list_header}
+use Rattle.records.specs.Errors.{Error, overriding, reference, no_value, missing_default, cyclic, too_many_placeables, enc_record, enc_error, enc_errors, list_header}
 use Rattle.records.specs.Valid.{All}
 use Rattle.texts.specs.ErrorList.{errors_of, Brief, Recordable}
 use Rattle.texts.proofs.ErrorList.{recordable, errors_read}
@@ -27,11 +27,11 @@ use Rattle.requests.specs.Image.{Request}
 use Rattle.sheets.specs.Sheet.{format_sheet}
 use Rattle.sheet_theorems.specs.ClaimsJoining.{beside, joined, Each}
 use Rattle.sheet_theorems.specs.ClaimsAnswers.{OwnPlaceables, AllSheetPlaceables, AllSheetSums, OneOf, NothingOr, AllSheetFigures}
-use Rattle.sheet_theorems.proofs.Few.{sheet-few}
+use Rattle.sheet_theorems.proofs.Few.{sheet_few}
 use Rattle.sheet_theorems.proofs.Requests.{requests_few}
 use Rattle.texts.proofs.ErrorList.{list_size}
 use Rattle.sheet_theorems.proofs.Above.{errors_joined}
-use Rattle.sheet_theorems.proofs.Parts.{Finishes, sheet-ends, finishes, sheet-says, sheet-within}
+use Rattle.sheet_theorems.proofs.Parts.{Finishes, sheet_ends, finishes, sheet_says, sheet_within}
 use Rattle.sheet_theorems.proofs.Joining.{Joined, sheet_joined, joins}
 use Rattle.sheet_theorems.proofs.Fine.{sheet_fine}
 
@@ -78,10 +78,10 @@ sheet-placeables s os image oi b t e k u w h =
     let j : Joined s image b f = sheet_joined s image oi b f in
     let m : Machine = joined j.machines in
     let fine : All Brief m.errors = subst (λ (x : Machine). All Brief x.errors) j.join (sheet_fine s os image oi b f).errors in
-    let fits : Within (limits_of b) m = subst (λ (x : Machine). Within (limits_of b) x) j.join (sheet-within f.store (limits_of b) f.requests f.machine f.runs) in
-    let ends : format_sheet s image b ≡ ended (ran m) b = sheet-ends s image b f ∙ ap (λ (x : Machine). ended (ran x) b) j.join in
+    let fits : Within (limits_of b) m = subst (λ (x : Machine). Within (limits_of b) x) j.join (sheet_within f.store (limits_of b) f.requests f.machine f.runs) in
+    let ends : format_sheet s image b ≡ ended (ran m) b = sheet_ends s image b f ∙ ap (λ (x : Machine). ended (ran x) b) j.join in
     record {
-      joins = joins s image b t e k u w f j (sheet-says s image b t e k u w f h);
+      joins = joins s image b t e k u w f j (sheet_says s image b t e k u w f h);
       each = each-own j.machines j.placeables fine fits.stated;
       read = ap (λ (x : Formatted). errors_of (list_of x.buffers.list)) ends ∙ ap errors_of (ended-list m b fits.stated) ∙ reads-back m.errors fine fits.stated;
     }
@@ -96,9 +96,9 @@ unfolding enc_error
 error-length (overriding k i) = record_length _ _
 error-length (reference k i a) = record_length _ _
 error-length (no_value i) = record_length _ _
-error-length missingDefault = record_length _ _
+error-length missing_default = record_length _ _
 error-length cyclic = record_length _ _
-error-length tooManyPlaceables = record_length _ _
+error-length too_many_placeables = record_length _ _
 
 records-length : (l : List Error) → 3 * length l ≤ length (enc_all enc_error l)
 unfolding enc_all
@@ -121,13 +121,13 @@ unfolding limits_of list_limit
 sheet-sums s os image oi b t e k u w h =
     let f : Finishes s image b = finishes s image b t e k u w h in
     let m : Machine = f.machine in
-    let y : Says m t e k u w = sheet-says s image b t e k u w f h in
+    let y : Says m t e k u w = sheet_says s image b t e k u w f h in
     let j : Joined s image b f = sheet_joined s image oi b f in
-    let fits : Within (limits_of b) m = sheet-within f.store (limits_of b) f.requests m f.runs in
+    let fits : Within (limits_of b) m = sheet_within f.store (limits_of b) f.requests m f.runs in
     let few : length f.requests ≤ 65535 = requests_few image oi f.requests f.requests_end f.read in
     let header : list_header ≤ length b.list = leb-true list_header (length b.list) f.header in
     let begins : k ≤ 101 * 65535 = omega (arith, y.begun, ap (λ (x : Machine). x.begun) j.join, few-begun j.machines j.placeables, each-length j.each, few) in
-    let misses : u ≤ 20000000 * 65535 = omega (arith, y.unfound, sheet-few s os f.store f.store_end f.stored (limits_of b) f.requests m f.runs, few) in
+    let misses : u ≤ 20000000 * 65535 = omega (arith, y.unfound, sheet_few s os f.store f.store_end f.stored (limits_of b) f.requests m f.runs, few) in
     let listed : 5 + 3 * e ≤ length (enc_errors m.errors) = omega (arith, y.errors, records-length m.errors, list_size m.errors) in
     record {
       text = omega (arith, y.text, fits.text);

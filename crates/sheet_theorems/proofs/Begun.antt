@@ -5,44 +5,44 @@ use mathlib.Core.Bool.{Bool, true, false}
 use Prim.Native.Nat.{ℕ, zero, suc, ◌+◌}
 use native.Mathlib.Omega.{arith}
 use lib.Dec.{leb}
-use Rattle.resolution.specs.Effect.{Bytes, Effect, put, report, begin, expand, unfound, open-text, keep-text, free, merged, Trace}
+use Rattle.resolution.specs.Effect.{Bytes, Effect, put, report, begin, expand, unfound, open_text, keep_text, free, merged, Trace}
 use Rattle.resolution.specs.Exec.{Machine, Limits, Ran, ran, refused, allow_if, allow, put_text, put_work, put_at, step, and_then, exec}
 use Rattle.sheet_theorems.specs.Begun.{with_begun, add_begun}
 
 module _ (b : ℕ) where
-  allow-apart : (n k r : ℕ) (m : Machine) → allow n k r (with_begun (b + m.begun) m) ≡ add_begun b (allow n k r m)
+  allow_apart : (n k r : ℕ) (m : Machine) → allow n k r (with_begun (b + m.begun) m) ≡ add_begun b (allow n k r m)
   unfolding allow
-  allow-apart n k r m = go (leb n k)
+  allow_apart n k r m = go (leb n k)
     where
       go : (x : Bool) → allow_if x r (with_begun (b + m.begun) m) ≡ add_begun b (allow_if x r m)
       go true = unfold allow_if add_begun in refl
       go false = unfold allow_if add_begun in refl
 
   module _ (L : Limits) where
-    put-apart : (t : Bytes) (n : ℕ) (m : Machine) → put_at L t (with_begun (b + m.begun) m) n ≡ add_begun b (put_at L t m n)
+    put_apart : (t : Bytes) (n : ℕ) (m : Machine) → put_at L t (with_begun (b + m.begun) m) n ≡ add_begun b (put_at L t m n)
     unfolding put_at put_text put_work with_begun
-    put-apart t zero m = allow-apart _ _ 15 _
-    put-apart t (suc n) m = allow-apart _ _ 16 _
+    put_apart t zero m = allow_apart _ _ 15 _
+    put_apart t (suc n) m = allow_apart _ _ 16 _
 
-    step-apart : (e : Effect) (m : Machine) → step L e (with_begun (b + m.begun) m) ≡ add_begun b (step L e m)
+    step_apart : (e : Effect) (m : Machine) → step L e (with_begun (b + m.begun) m) ≡ add_begun b (step L e m)
     unfolding step add_begun with_begun
-    step-apart (put t) m = put-apart t m.nest m
-    step-apart (report e) m = allow-apart _ _ 7 _
-    step-apart begin m =
+    step_apart (put t) m = put_apart t m.nest m
+    step_apart (report e) m = allow_apart _ _ 7 _
+    step_apart begin m =
         let q : suc (b + m.begun) ≡ b + suc m.begun = omega arith in
         ap (λ (n : ℕ). ran (with_begun n m)) q
-    step-apart expand m = refl
-    step-apart unfound m = refl
-    step-apart open-text m = refl
-    step-apart keep-text m = refl
-    step-apart (free n) m = refl
-    step-apart (merged n) m = allow-apart _ _ 17 m
+    step_apart expand m = refl
+    step_apart unfound m = refl
+    step_apart open_text m = refl
+    step_apart keep_text m = refl
+    step_apart (free n) m = refl
+    step_apart (merged n) m = allow_apart _ _ 17 m
 
     -- a run from a machine with more begun
-    pub begun-apart : (t : Trace) (m : Machine) → exec L t (with_begun (b + m.begun) m) ≡ add_begun b (exec L t m)
+    pub begun_apart : (t : Trace) (m : Machine) → exec L t (with_begun (b + m.begun) m) ≡ add_begun b (exec L t m)
     unfolding exec and_then add_begun
-    begun-apart [] m = refl
-    begun-apart (e ∷ t) m = ap (λ (r : Ran). and_then r (λ n. exec L t n)) (step-apart e m) ∙ go (step L e m) (λ n. begun-apart t n)
+    begun_apart [] m = refl
+    begun_apart (e ∷ t) m = ap (λ (r : Ran). and_then r (λ n. exec L t n)) (step_apart e m) ∙ go (step L e m) (λ n. begun_apart t n)
       where
         go : (r : Ran) → ((n : Machine) → exec L t (with_begun (b + n.begun) n) ≡ add_begun b (exec L t n))
             → and_then (add_begun b r) (λ n. exec L t n) ≡ add_begun b (and_then r (λ n. exec L t n))

@@ -5,7 +5,7 @@ use Prim.Native.Nat.{ℕ, zero, suc, ◌+◌, ◌-◌, ◌≤◌, max}
 use lib.ListN.{length}
 use borrow.Author.Tests.{le-leb}
 use Rattle.records.specs.Errors.{enc_errors}
-use Rattle.resolution.specs.Effect.{Bytes, Effect, put, report, begin, expand, unfound, open-text, keep-text, free, merged}
+use Rattle.resolution.specs.Effect.{Bytes, Effect, put, report, begin, expand, unfound, open_text, keep_text, free, merged}
 use Rattle.resolution.specs.Exec.{Machine, Limits, ran, allow_if, allow, list_limit, put_text, put_work, put_at, listed, step}
 use Rattle.theorems.proofs.Runs.{same_machine, allowed}
 use Rattle.theorems.proofs.Within.{allowed_fits}
@@ -22,8 +22,8 @@ effect_after (report e) m = record { written = m.written; errors = m.errors ++ (
 effect_after begin m = record { written = m.written; errors = m.errors; nest = m.nest; used = m.used; high = m.high; begun = suc m.begun; expanded = m.expanded; unfounds = m.unfounds }
 effect_after expand m = record { written = m.written; errors = m.errors; nest = m.nest; used = m.used; high = m.high; begun = m.begun; expanded = suc m.expanded; unfounds = m.unfounds }
 effect_after unfound m = record { written = m.written; errors = m.errors; nest = m.nest; used = m.used; high = m.high; begun = m.begun; expanded = m.expanded; unfounds = suc m.unfounds }
-effect_after open-text m = record { written = m.written; errors = m.errors; nest = suc m.nest; used = m.used; high = m.high; begun = m.begun; expanded = m.expanded; unfounds = m.unfounds }
-effect_after keep-text m = record { written = m.written; errors = m.errors; nest = m.nest - 1; used = m.used; high = m.high; begun = m.begun; expanded = m.expanded; unfounds = m.unfounds }
+effect_after open_text m = record { written = m.written; errors = m.errors; nest = suc m.nest; used = m.used; high = m.high; begun = m.begun; expanded = m.expanded; unfounds = m.unfounds }
+effect_after keep_text m = record { written = m.written; errors = m.errors; nest = m.nest - 1; used = m.used; high = m.high; begun = m.begun; expanded = m.expanded; unfounds = m.unfounds }
 effect_after (free k) m = record { written = m.written; errors = m.errors; nest = m.nest; used = m.used - k; high = m.high; begun = m.begun; expanded = m.expanded; unfounds = m.unfounds }
 effect_after (merged k) m = m
 
@@ -38,8 +38,8 @@ Needs L (report e) m = length (enc_errors (m.errors ++ (e ∷ []))) ≤ list_lim
 Needs L begin m = Unit {0}
 Needs L expand m = Unit {0}
 Needs L unfound m = Unit {0}
-Needs L open-text m = Unit {0}
-Needs L keep-text m = Unit {0}
+Needs L open_text m = Unit {0}
+Needs L keep_text m = Unit {0}
 Needs L (free k) m = Unit {0}
 Needs L (merged k) m = step L (merged k) m ≡ ran m
 
@@ -54,37 +54,37 @@ merge_alike L L' k m n h = allow_fits _ _ 17 n (allowed_fits _ _ _ m m h)
 
 module _ (L : Limits) where
   -- a step that is not refused had its room, and led there
-  text-took : (k : ℕ) (b : Bytes) (m m' : Machine) → put_at L b m k ≡ ran m' → TextNeeds L k b m × (text_after k b m ≡ m')
+  text_took : (k : ℕ) (b : Bytes) (m m' : Machine) → put_at L b m k ≡ ran m' → TextNeeds L k b m × (text_after k b m ≡ m')
   unfolding put_at put_text put_work
-  text-took zero b m m' h = (allowed_fits _ _ _ _ m' h, allowed _ _ _ _ m' h)
-  text-took (suc k) b m m' h = (allowed_fits _ _ _ _ m' h, allowed _ _ _ _ m' h)
+  text_took zero b m m' h = (allowed_fits _ _ _ _ m' h, allowed _ _ _ _ m' h)
+  text_took (suc k) b m m' h = (allowed_fits _ _ _ _ m' h, allowed _ _ _ _ m' h)
 
-  pub step-took : (e : Effect) (m m' : Machine) → step L e m ≡ ran m' → Needs L e m × (effect_after e m ≡ m')
+  pub step_took : (e : Effect) (m m' : Machine) → step L e m ≡ ran m' → Needs L e m × (effect_after e m ≡ m')
   unfolding step listed
-  step-took (put b) m m' h = text-took m.nest b m m' h
-  step-took (report e) m m' h = (allowed_fits _ _ _ _ m' h, allowed _ _ _ _ m' h)
-  step-took begin m m' h = (tt, same_machine _ m' h)
-  step-took expand m m' h = (tt, same_machine _ m' h)
-  step-took unfound m m' h = (tt, same_machine _ m' h)
-  step-took open-text m m' h = (tt, same_machine _ m' h)
-  step-took keep-text m m' h = (tt, same_machine _ m' h)
-  step-took (free k) m m' h = (tt, same_machine _ m' h)
-  step-took (merged k) m m' h = (h ∙ ap ran (sym (allowed _ _ _ _ m' h)), allowed _ _ _ _ m' h)
+  step_took (put b) m m' h = text_took m.nest b m m' h
+  step_took (report e) m m' h = (allowed_fits _ _ _ _ m' h, allowed _ _ _ _ m' h)
+  step_took begin m m' h = (tt, same_machine _ m' h)
+  step_took expand m m' h = (tt, same_machine _ m' h)
+  step_took unfound m m' h = (tt, same_machine _ m' h)
+  step_took open_text m m' h = (tt, same_machine _ m' h)
+  step_took keep_text m m' h = (tt, same_machine _ m' h)
+  step_took (free k) m m' h = (tt, same_machine _ m' h)
+  step_took (merged k) m m' h = (h ∙ ap ran (sym (allowed _ _ _ _ m' h)), allowed _ _ _ _ m' h)
 
   -- with its room it is not refused
-  text-goes : (k : ℕ) (b : Bytes) (m : Machine) → TextNeeds L k b m → put_at L b m k ≡ ran (text_after k b m)
+  text_goes : (k : ℕ) (b : Bytes) (m : Machine) → TextNeeds L k b m → put_at L b m k ≡ ran (text_after k b m)
   unfolding put_at put_text put_work
-  text-goes zero b m h = allow_fits _ _ 15 _ h
-  text-goes (suc k) b m h = allow_fits _ _ 16 _ h
+  text_goes zero b m h = allow_fits _ _ 15 _ h
+  text_goes (suc k) b m h = allow_fits _ _ 16 _ h
 
-  pub step-goes : (e : Effect) (m : Machine) → Needs L e m → step L e m ≡ ran (effect_after e m)
+  pub step_goes : (e : Effect) (m : Machine) → Needs L e m → step L e m ≡ ran (effect_after e m)
   unfolding step listed
-  step-goes (put b) m h = text-goes m.nest b m h
-  step-goes (report e) m h = allow_fits _ _ 7 _ h
-  step-goes begin m h = refl
-  step-goes expand m h = refl
-  step-goes unfound m h = refl
-  step-goes open-text m h = refl
-  step-goes keep-text m h = refl
-  step-goes (free k) m h = refl
-  step-goes (merged k) m h = h
+  step_goes (put b) m h = text_goes m.nest b m h
+  step_goes (report e) m h = allow_fits _ _ 7 _ h
+  step_goes begin m h = refl
+  step_goes expand m h = refl
+  step_goes unfound m h = refl
+  step_goes open_text m h = refl
+  step_goes keep_text m h = refl
+  step_goes (free k) m h = refl
+  step_goes (merged k) m h = h

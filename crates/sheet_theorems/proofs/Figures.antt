@@ -17,14 +17,14 @@ use Rattle.entries.specs.Lookup.{find_in, part_of}
 use Rattle.resolution.specs.Effect.{Bytes, Trace}
 use Rattle.resolution.specs.Resolve.{as_message}
 use Rattle.resolution.specs.Exec.{Machine, Limits, Ran, ran, refused, exec, start}
-use Rattle.resolution.specs.Format.{finished, refusedRunning, Buffers, Formatted, limits_of, refuse, ended}
+use Rattle.resolution.specs.Format.{finished, refused_running, Buffers, Formatted, limits_of, refuse, ended}
 use Rattle.theorems.specs.Finished.{trace_of, setting_of, Says}
 use Rattle.theorems.specs.Steadiness.{Same, slices_after}
 use Rattle.theorems.specs.HighestUse.{arguments_use, part_use, entry_use, message_use}
 use Rattle.theorems.specs.Figures.{FigureIs, AsLong, FinishesAlike}
 use Rattle.theorems.proofs.Runs.{same_machine, same_refusal}
-use Rattle.theorems.proofs.Work.{AsWide, exec_high, work-enough, work_short}
-use Rattle.theorems.proofs.Highest.{Resting, MessageRun, message-highest, message-starved}
+use Rattle.theorems.proofs.Work.{AsWide, exec_high, work_enough, work_short}
+use Rattle.theorems.proofs.Highest.{Resting, MessageRun, message_highest, message_starved}
 use Rattle.theorems.proofs.Figures.{message_use_law, start_rests, figure_is, as_wide, header_again, alike_end, decides_again, as_itself, not_refused_before}
 use Rattle.requests.specs.Image.{Request, sheet_of}
 use Rattle.sheets.specs.Sheet.{run_arguments, run_part, run_entry, run_message, run_sheet, format_sheet}
@@ -32,8 +32,8 @@ use Rattle.sheets.specs.Refused.{cleared}
 use Rattle.sheet_theorems.specs.HighestUse.{largest_use, requests_use, sheet_use, sheet_highest_use}
 use Rattle.sheet_theorems.specs.ClaimsRefusals.{FirstRefusal, SheetAnswers}
 use Rattle.sheet_theorems.specs.ClaimsFigures.{SheetFiguresHighest, SheetFiguresExact, SheetFiguresUnchanged, SheetShortWorkspaces}
-use Rattle.sheet_theorems.proofs.Messages.{sheet-runs, message-runs, sheet-next, sheet-stops, RanOn, message-ran, First, first_ran}
-use Rattle.sheet_theorems.proofs.Parts.{Finishes, sheet-ends, finishes, sheet-says, sheet-within}
+use Rattle.sheet_theorems.proofs.Messages.{sheet_runs, message_runs, sheet_next, sheet_stops, RanOn, message_ran, First, first_ran}
+use Rattle.sheet_theorems.proofs.Parts.{Finishes, sheet_ends, finishes, sheet_says, sheet_within}
 use Rattle.sheet_theorems.proofs.Steadiness.{sheet_same}
 use Rattle.sheet_theorems.proofs.Refusals.{sheet_answers}
 
@@ -53,76 +53,76 @@ module _ (v : Store) (L : Limits) where
     rest : Resting n'
     high : n'.high ≡ max n.high (largest_use v rs)
 
-  messages-highest : (rs : List Request) (n n' : Machine) → Resting n → run_sheet v L rs n ≡ ran n' → Largest rs n n'
+  messages_highest : (rs : List Request) (n n' : Machine) → Resting n → run_sheet v L rs n ≡ ran n' → Largest rs n n'
   unfolding run_sheet largest_use
-  messages-highest [] n n' z h = subst (λ (m : Machine). Largest [] n m) (same_machine n n' h) (record { rest = z; high = omega arith })
-  messages-highest (r ∷ rs) n n' z h =
+  messages_highest [] n n' z h = subst (λ (m : Machine). Largest [] n m) (same_machine n n' h) (record { rest = z; high = omega arith })
+  messages_highest (r ∷ rs) n n' z h =
       let o : First v L r rs n n' = first_ran v L r rs n n' h in
-      let g : RanOn v L r n o.mid = message-ran v L n o.mid r o.first in
-      let m : MessageRun (traced g) n o.mid = message-highest L (setting_of v g.arguments) (find_in v.items) g.part n z o.mid g.runs in
-      let l : Largest rs o.mid n' = messages-highest rs o.mid n' m.rest o.rest in
+      let g : RanOn v L r n o.mid = message_ran v L n o.mid r o.first in
+      let m : MessageRun (traced g) n o.mid = message_highest L (setting_of v g.arguments) (find_in v.items) g.part n z o.mid g.runs in
+      let l : Largest rs o.mid n' = messages_highest rs o.mid n' m.rest o.rest in
       record { rest = l.rest; high = omega (arith, l.high, m.high, message_use_law v r.id r.attribute r.image g.entry g.found g.part g.has g.arguments g.given) }
 
   -- a message is refused with 16 only where the workspace is shorter than its highest use
   module _ (n : Machine) (z : Resting n) where
-    arguments-starved : (p : Pattern) (g : Judged) → ((c : ℕ) → g ≡ refused_for c → c ≡ 16 → ⊥) → run_arguments v L p g n ≡ refused 16 → L.work_len < arguments_use v p g
+    arguments_starved : (p : Pattern) (g : Judged) → ((c : ℕ) → g ≡ refused_for c → c ≡ 16 → ⊥) → run_arguments v L p g n ≡ refused 16 → L.work_len < arguments_use v p g
     unfolding run_arguments arguments_use
-    arguments-starved p (refused_for c) k h = absurd (k c refl (same_refusal c 16 h))
-    arguments-starved p (accepted l) k h = message-starved L (setting_of v l) (find_in v.items) p n z h
+    arguments_starved p (refused_for c) k h = absurd (k c refl (same_refusal c 16 h))
+    arguments_starved p (accepted l) k h = message_starved L (setting_of v l) (find_in v.items) p n z h
 
-    part-starved : (o : Option Pattern) (image : Bytes) → run_part v L o image n ≡ refused 16 → L.work_len < part_use v o image
+    part_starved : (o : Option Pattern) (image : Bytes) → run_part v L o image n ≡ refused 16 → L.work_len < part_use v o image
     unfolding run_part part_use
-    part-starved none image h = absurd (omega (arith, same_refusal 12 16 h))
-    part-starved (some p) image h = arguments-starved p (judge image) (refused_with (λ (c : ℕ). c ≡ 16 → ⊥) (λ e. omega arith) (λ e. omega arith) image) h
+    part_starved none image h = absurd (omega (arith, same_refusal 12 16 h))
+    part_starved (some p) image h = arguments_starved p (judge image) (refused_with (λ (c : ℕ). c ≡ 16 → ⊥) (λ e. omega arith) (λ e. omega arith) image) h
 
-    entry-starved : (o : Option Entry) (a : Option Bytes) (image : Bytes) → run_entry v L o a image n ≡ refused 16 → L.work_len < entry_use v o a image
+    entry_starved : (o : Option Entry) (a : Option Bytes) (image : Bytes) → run_entry v L o a image n ≡ refused 16 → L.work_len < entry_use v o a image
     unfolding run_entry entry_use
-    entry-starved none a image h = absurd (omega (arith, same_refusal 11 16 h))
-    entry-starved (some e) a image h = part-starved (part_of a e) image h
+    entry_starved none a image h = absurd (omega (arith, same_refusal 11 16 h))
+    entry_starved (some e) a image h = part_starved (part_of a e) image h
 
-    request-starved : (r : Request) → run_message v L r n ≡ refused 16 → L.work_len < message_use v r.id r.attribute r.image
+    request_starved : (r : Request) → run_message v L r n ≡ refused 16 → L.work_len < message_use v r.id r.attribute r.image
     unfolding run_message message_use
-    request-starved r h = entry-starved (as_message (find_in v.items r.id)) r.attribute r.image h
+    request_starved r h = entry_starved (as_message (find_in v.items r.id)) r.attribute r.image h
 
   -- the highest use never falls
-  sheet-high : (rs : List Request) (n n' : Machine) → run_sheet v L rs n ≡ ran n' → n.high ≤ n'.high
+  sheet_high : (rs : List Request) (n n' : Machine) → run_sheet v L rs n ≡ ran n' → n.high ≤ n'.high
   unfolding run_sheet
-  sheet-high [] n n' h = omega (arith, ap (λ (m : Machine). m.high) (same_machine n n' h))
-  sheet-high (r ∷ rs) n n' h =
+  sheet_high [] n n' h = omega (arith, ap (λ (m : Machine). m.high) (same_machine n n' h))
+  sheet_high (r ∷ rs) n n' h =
       let o : First v L r rs n n' = first_ran v L r rs n n' h in
-      let g : RanOn v L r n o.mid = message-ran v L n o.mid r o.first in
-      omega (arith, exec_high L (traced g) n o.mid g.runs, sheet-high rs o.mid n' o.rest)
+      let g : RanOn v L r n o.mid = message_ran v L n o.mid r o.first in
+      omega (arith, exec_high L (traced g) n o.mid g.runs, sheet_high rs o.mid n' o.rest)
 
 module _ (v : Store) (L L' : Limits) (wide : AsWide L L') where
   -- a message in other buffers
   elsewhere : (r : Request) (n n' : Machine) (g : RanOn v L r n n') → run_message v L' r n ≡ exec L' (traced g) n
-  elsewhere r n n' g = message-runs v L' r n g.entry g.found g.part g.has g.arguments g.given
+  elsewhere r n n' g = message_runs v L' r n g.entry g.found g.part g.has g.arguments g.given
 
   -- a workspace that holds the highest use: the same run
-  sheet-enough : (rs : List Request) (n n' : Machine) → n'.high ≤ L'.work_len → run_sheet v L rs n ≡ ran n' → run_sheet v L' rs n ≡ ran n'
+  sheet_enough : (rs : List Request) (n n' : Machine) → n'.high ≤ L'.work_len → run_sheet v L rs n ≡ ran n' → run_sheet v L' rs n ≡ ran n'
   unfolding run_sheet
-  sheet-enough [] n n' le h = h
-  sheet-enough (r ∷ rs) n n' le h =
+  sheet_enough [] n n' le h = h
+  sheet_enough (r ∷ rs) n n' le h =
       let o : First v L r rs n n' = first_ran v L r rs n n' h in
-      let g : RanOn v L r n o.mid = message-ran v L n o.mid r o.first in
-      let up : o.mid.high ≤ L'.work_len = omega (arith, sheet-high v L rs o.mid n' o.rest, le) in
-      sheet-next v L' r rs n o.mid (elsewhere r n o.mid g ∙ work-enough L L' wide (traced g) n o.mid up g.runs) ∙ sheet-enough rs o.mid n' le o.rest
+      let g : RanOn v L r n o.mid = message_ran v L n o.mid r o.first in
+      let up : o.mid.high ≤ L'.work_len = omega (arith, sheet_high v L rs o.mid n' o.rest, le) in
+      sheet_next v L' r rs n o.mid (elsewhere r n o.mid g ∙ work_enough L L' wide (traced g) n o.mid up g.runs) ∙ sheet_enough rs o.mid n' le o.rest
 
   -- one that does not: 16
-  sheet-short : (rs : List Request) (n n' : Machine) → n.high ≤ L'.work_len → L'.work_len < n'.high → run_sheet v L rs n ≡ ran n' → run_sheet v L' rs n ≡ refused 16
+  sheet_short : (rs : List Request) (n n' : Machine) → n.high ≤ L'.work_len → L'.work_len < n'.high → run_sheet v L rs n ≡ ran n' → run_sheet v L' rs n ≡ refused 16
   unfolding run_sheet
-  sheet-short [] n n' le lt h = absurd (omega (arith, ap (λ (m : Machine). m.high) (same_machine n n' h)))
-  sheet-short (r ∷ rs) n n' le lt h =
+  sheet_short [] n n' le lt h = absurd (omega (arith, ap (λ (m : Machine). m.high) (same_machine n n' h)))
+  sheet_short (r ∷ rs) n n' le lt h =
       let o : First v L r rs n n' = first_ran v L r rs n n' h in
-      go o (message-ran v L n o.mid r o.first) (leb o.mid.high L'.work_len) refl (sheet-short rs o.mid n')
+      go o (message_ran v L n o.mid r o.first) (leb o.mid.high L'.work_len) refl (sheet_short rs o.mid n')
     where
       go : (o : First v L r rs n n') (g : RanOn v L r n o.mid) (b : Bool) → leb o.mid.high L'.work_len ≡ b
           → (o.mid.high ≤ L'.work_len → L'.work_len < n'.high → run_sheet v L rs o.mid ≡ ran n' → run_sheet v L' rs o.mid ≡ refused 16)
           → run_sheet v L' (r ∷ rs) n ≡ refused 16
       go o g true q ih =
-          sheet-next v L' r rs n o.mid (elsewhere r n o.mid g ∙ work-enough L L' wide (traced g) n o.mid (leb-true _ _ q) g.runs)
+          sheet_next v L' r rs n o.mid (elsewhere r n o.mid g ∙ work_enough L L' wide (traced g) n o.mid (leb-true _ _ q) g.runs)
           ∙ ih (leb-true _ _ q) lt o.rest
-      go o g false q ih = sheet-stops v L' r rs n 16 (elsewhere r n o.mid g ∙ work_short L L' wide (traced g) n o.mid le (leb-false _ _ q) g.runs)
+      go o g false q ih = sheet_stops v L' r rs n 16 (elsewhere r n o.mid g ∙ work_short L L' wide (traced g) n o.mid le (leb-false _ _ q) g.runs)
 
 -- the highest use of a sheet that is read
 sheet_use_law : (s image : Bytes) (v : Store) (i : ℕ) → store_of s ≡ got v i → (rs : List Request) (j : ℕ) → sheet_of image ≡ got rs j → sheet_highest_use s image ≡ largest_use v rs
@@ -134,8 +134,8 @@ pub sheet_figures_highest : SheetFiguresHighest
 unfolding start
 sheet_figures_highest s image b t e k u w h =
     let f : Finishes s image b = finishes s image b t e k u w h in
-    let l : Largest f.store (limits_of b) f.requests start f.machine = messages-highest f.store (limits_of b) f.requests start f.machine start_rests f.runs in
-    omega (arith, (sheet-says s image b t e k u w f h).work, l.high, sheet_use_law s image f.store f.store_end f.stored f.requests f.requests_end f.read)
+    let l : Largest f.store (limits_of b) f.requests start f.machine = messages_highest f.store (limits_of b) f.requests start f.machine start_rests f.runs in
+    omega (arith, (sheet_says s image b t e k u w f h).work, l.high, sheet_use_law s image f.store f.store_end f.stored f.requests f.requests_end f.read)
 
 -- so of every answer
 pub sheet_answers_highest : (s image : Bytes) (b : Buffers) → FigureIs (format_sheet s image b).answer (sheet_highest_use s image)
@@ -146,7 +146,7 @@ module _ (s image : Bytes) (b : Buffers) (t e k u w : ℕ) (h : (format_sheet s 
   unfolding limits_of
   enough le =
       let f : Finishes s image b = finishes s image b t e k u w h in
-      let y : Says f.machine t e k u w = sheet-says s image b t e k u w f h in
+      let y : Says f.machine t e k u w = sheet_says s image b t e k u w f h in
       let g : Finishes s image b' = record {
         store = f.store;
         store_end = f.store_end;
@@ -156,18 +156,18 @@ module _ (s image : Bytes) (b : Buffers) (t e k u w : ℕ) (h : (format_sheet s 
         read = f.read;
         header = header_again b b' l f.header;
         machine = f.machine;
-        runs = sheet-enough f.store (limits_of b) (limits_of b') (as_wide b b' l) f.requests start f.machine (omega (arith, y.work, le)) f.runs;
+        runs = sheet_enough f.store (limits_of b) (limits_of b') (as_wide b b' l) f.requests start f.machine (omega (arith, y.work, le)) f.runs;
       } in
-      rw (sheet-ends s image b f, sheet-ends s image b' g)
-      (alike_end f.machine b b' t y.text (sheet-within f.store (limits_of b) f.requests f.machine f.runs).stated)
+      rw (sheet_ends s image b f, sheet_ends s image b' g)
+      (alike_end f.machine b b' t y.text (sheet_within f.store (limits_of b) f.requests f.machine f.runs).stated)
 
   short : length b'.work < w → format_sheet s image b' ≡ ended (refused 16) b'
   unfolding limits_of start
   short lt =
       let f : Finishes s image b = finishes s image b t e k u w h in
-      let y : Says f.machine t e k u w = sheet-says s image b t e k u w f h in
-      sheet-runs s image b' f.store f.store_end f.stored f.requests f.requests_end f.read (header_again b b' l f.header)
-      ∙ ap (λ (r : Ran). ended r b') (sheet-short f.store (limits_of b) (limits_of b') (as_wide b b' l) f.requests start f.machine (omega arith) (omega (arith, y.work, lt)) f.runs)
+      let y : Says f.machine t e k u w = sheet_says s image b t e k u w f h in
+      sheet_runs s image b' f.store f.store_end f.stored f.requests f.requests_end f.read (header_again b b' l f.header)
+      ∙ ap (λ (r : Ran). ended r b') (sheet_short f.store (limits_of b) (limits_of b') (as_wide b b' l) f.requests start f.machine (omega arith) (omega (arith, y.work, lt)) f.runs)
 
 -- "A workspace of that length finishes alike, and for a figure above 0 one byte less gives 16"
 pub sheet_figures_exact : SheetFiguresExact
@@ -185,18 +185,18 @@ sheet_figures_unchanged s oct xs bytes image b t e k w h =
       decides = decides_again (format_sheet s image) (format_sheet (slices_after xs s) image) b t w same (sheet_figures_exact (slices_after xs s) image b t e k 0 w again);
     }
 
-not_finished : (t e k u w c : ℕ) → finished t e k u w ≡ refusedRunning c → ⊥
+not_finished : (t e k u w c : ℕ) → finished t e k u w ≡ refused_running c → ⊥
 not_finished t e k u w c h = let z : ◌≡◌ {A = ℕ} 0 1 = cc in omega arith
 
-same_running : (a b : ℕ) → refusedRunning a ≡ refusedRunning b → a ≡ b
+same_running : (a b : ℕ) → refused_running a ≡ refused_running b → a ≡ b
 same_running a b h = cc
 
 -- a refused message's highest use is no more than the sheet's
 refused_starved : (s image : Bytes) (b : Buffers) → FirstRefusal s image b 16 → length b.work < sheet_highest_use s image
 unfolding limits_of
 refused_starved s image b f =
-    let l : Largest f.bundle (limits_of b) f.before start f.machine = messages-highest f.bundle (limits_of b) f.before start f.machine start_rests f.ran_before in
-    omega (arith, request-starved f.bundle (limits_of b) f.machine l.rest f.refusing f.is_refused, one_of_use f.bundle f.before f.after f.refusing, sheet_use_law s image f.bundle f.bundle_end f.stored (f.before ++ (f.refusing ∷ f.after)) f.requests_end f.read)
+    let l : Largest f.bundle (limits_of b) f.before start f.machine = messages_highest f.bundle (limits_of b) f.before start f.machine start_rests f.ran_before in
+    omega (arith, request_starved f.bundle (limits_of b) f.machine l.rest f.refusing f.is_refused, one_of_use f.bundle f.before f.after f.refusing, sheet_use_law s image f.bundle f.bundle_end f.stored (f.before ++ (f.refusing ∷ f.after)) f.requests_end f.read)
 
 -- 16 only where the workspace is shorter than the highest use
 pub sheet_short_workspaces : SheetShortWorkspaces

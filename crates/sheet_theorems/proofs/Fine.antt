@@ -31,8 +31,8 @@ use Rattle.requests.specs.Image.{Request}
 use Rattle.requests.proofs.Exact.{RequestOk, requests_ok}
 use Rattle.sheets.specs.Sheet.{run_message, run_sheet, format_sheet}
 use Rattle.sheet_theorems.specs.ClaimsAnswers.{SheetTextWellFormed}
-use Rattle.sheet_theorems.proofs.Messages.{RanOn, message-ran, First, first_ran}
-use Rattle.sheet_theorems.proofs.Parts.{Finishes, sheet-ends, finishes, sheet-says}
+use Rattle.sheet_theorems.proofs.Messages.{RanOn, message_ran, First, first_ran}
+use Rattle.sheet_theorems.proofs.Parts.{Finishes, sheet_ends, finishes, sheet_says}
 
 -- no workspace text is open, the text is as T asks, and every error fits a record
 pub record Fine (T : Bytes → Type 0) (m : Machine) : Type 0 where
@@ -47,9 +47,9 @@ FineRequest T r = (l : List (Bytes × Argument)) → judge r.image ≡ accepted 
 module _ (T : Bytes → Type 0) (U : Leaf → Type 0) (keeps : Keeps T U) where
   module _ (v : Store) (valid : ValidStore v) (leaves : InItems U v.items) (L : Limits) where
     -- a message keeps that so
-    message-fine : (r : Request) → FineRequest T r → (n n' : Machine) → Fine T n → run_message v L r n ≡ ran n' → Fine T n'
-    message-fine r given n n' f h =
-        let g : RanOn v L r n n' = message-ran v L n n' r h in
+    message_fine : (r : Request) → FineRequest T r → (n n' : Machine) → Fine T n → run_message v L r n ≡ ran n' → Fine T n'
+    message_fine r given n n' f h =
+        let g : RanOn v L r n n' = message_ran v L n n' r h in
         let st : Setting = setting_of v g.arguments in
         let find : Find = find_in v.items in
         let out : Out Done = resolve st find max_patterns g.part (bytes_of g.part ∷ []) fresh in
@@ -63,33 +63,33 @@ module _ (T : Bytes → Type 0) (U : Leaf → Type 0) (keeps : Keeps T U) where
           errors = subst (λ (l : List Error). All Brief l) (sym listed) (all_append Brief n.errors (reports out.trace) f.errors good.listed);
         }
 
-    fine-on : (rs : List Request) → All (FineRequest T) rs → (n n' : Machine) → Fine T n → run_sheet v L rs n ≡ ran n' → Fine T n'
+    fine_on : (rs : List Request) → All (FineRequest T) rs → (n n' : Machine) → Fine T n → run_sheet v L rs n ≡ ran n' → Fine T n'
     unfolding run_sheet
-    fine-on [] given n n' f h = subst (Fine T) (same_machine n n' h) f
-    fine-on (r ∷ rs) given n n' f h =
+    fine_on [] given n n' f h = subst (Fine T) (same_machine n n' h) f
+    fine_on (r ∷ rs) given n n' f h =
         let o : First v L r rs n n' = first_ran v L r rs n n' h in
-        fine-on rs given.1 o.mid n' (message-fine r given.0 n o.mid f o.first) o.rest
+        fine_on rs given.1 o.mid n' (message_fine r given.0 n o.mid f o.first) o.rest
 
   start_fine : Fine T start
   unfolding start
   start_fine = record { nest = refl; text = keeps.joins.none; errors = tt }
 
   -- so of a sheet that finishes
-  pub sheet-keeps : (s : Bytes) → Octets s → (image : Bytes) (b : Buffers) (f : Finishes s image b) → InItems U f.store.items → All (FineRequest T) f.requests → Fine T f.machine
-  sheet-keeps s os image b f leaves given =
-      fine-on f.store (store_sound s os f.stored).0 leaves (limits_of b) f.requests given start f.machine start_fine f.runs
+  pub sheet_keeps : (s : Bytes) → Octets s → (image : Bytes) (b : Buffers) (f : Finishes s image b) → InItems U f.store.items → All (FineRequest T) f.requests → Fine T f.machine
+  sheet_keeps s os image b f leaves given =
+      fine_on f.store (store_sound s os f.stored).0 leaves (limits_of b) f.requests given start f.machine start_fine f.runs
 
 module _ (s image : Bytes) (b : Buffers) (t e k u w : ℕ) where
-  front-text : (m : Machine) → take (length m.written) (ended (ran m) b).buffers.text ≡ m.written
+  front_text : (m : Machine) → take (length m.written) (ended (ran m) b).buffers.text ≡ m.written
   unfolding ended
-  front-text m = front_taken m.written b.text
+  front_text m = front_taken m.written b.text
 
   -- the text of a finished sheet, up to its length, is what its machine wrote
-  pub sheet-text-taken : (f : Finishes s image b) → (format_sheet s image b).answer ≡ finished t e k u w → take t (format_sheet s image b).buffers.text ≡ f.machine.written
-  sheet-text-taken f h =
-      let y : Says f.machine t e k u w = sheet-says s image b t e k u w f h in
-      let ends : take t (format_sheet s image b).buffers.text ≡ take t (ended (ran f.machine) b).buffers.text = ap (λ (x : Formatted). take t x.buffers.text) (sheet-ends s image b f) in
-      ends ∙ ap (λ (j : ℕ). take j (ended (ran f.machine) b).buffers.text) y.text ∙ front-text f.machine
+  pub sheet_text_taken : (f : Finishes s image b) → (format_sheet s image b).answer ≡ finished t e k u w → take t (format_sheet s image b).buffers.text ≡ f.machine.written
+  sheet_text_taken f h =
+      let y : Says f.machine t e k u w = sheet_says s image b t e k u w f h in
+      let ends : take t (format_sheet s image b).buffers.text ≡ take t (ended (ran f.machine) b).buffers.text = ap (λ (x : Formatted). take t x.buffers.text) (sheet_ends s image b f) in
+      ends ∙ ap (λ (j : ℕ). take j (ended (ran f.machine) b).buffers.text) y.text ∙ front_text f.machine
 
 -- every finished sheet's text is well-formed, and its errors fit their records
 request_fine : (r : Request) → RequestOk r → FineRequest Utf8 r
@@ -97,11 +97,11 @@ request_fine r ok l given = image_fine l (arguments_sound ok.octets (accepted_re
 
 pub sheet_fine : (s : Bytes) → Octets s → (image : Bytes) → Octets image → (b : Buffers) (f : Finishes s image b) → Fine Utf8 f.machine
 sheet_fine s os image oi b f =
-    sheet-keeps Utf8 ValidLeaf utf8_keeps s os image b f (store_leaves f.store (store_sound s os f.stored).0)
+    sheet_keeps Utf8 ValidLeaf utf8_keeps s os image b f (store_leaves f.store (store_sound s os f.stored).0)
     (all_map RequestOk (FineRequest Utf8) request_fine f.requests (requests_ok image f.requests oi f.read))
 
 -- the text of every finished sheet is well-formed
 pub sheet_text_well_formed : SheetTextWellFormed
 sheet_text_well_formed s os image oi b t e k u w h =
     let f : Finishes s image b = finishes s image b t e k u w h in
-    subst Utf8 (sym (sheet-text-taken s image b t e k u w f h)) (sheet_fine s os image oi b f).text
+    subst Utf8 (sym (sheet_text_taken s image b t e k u w f h)) (sheet_fine s os image oi b f).text

@@ -20,12 +20,12 @@ use Rattle.requests.specs.Image.{Request}
 use Rattle.requests.proofs.Exact.{RequestOk, requests_ok}
 use Rattle.sheets.specs.Sheet.{run_sheet, format_sheet}
 use Rattle.sheet_theorems.specs.ClaimsJoining.{beside, joined, Each, Joins, Joining, JoinedBytes}
-use Rattle.sheet_theorems.proofs.Messages.{sheet-next, First, first_ran}
+use Rattle.sheet_theorems.proofs.Messages.{sheet_next, First, first_ran}
 use Rattle.texts.proofs.ErrorList.{list_size}
 use Rattle.sheet_theorems.proofs.Above.{errors_joined}
-use Rattle.sheet_theorems.proofs.Parts.{Finishes, sheet-ends, finishes, sheet-says, sheet-within}
+use Rattle.sheet_theorems.proofs.Parts.{Finishes, sheet_ends, finishes, sheet_says, sheet_within}
 use Rattle.sheet_theorems.proofs.Beside.{beside_assoc, start_beside, beside_start, Alike, alike_self, alike_then, alike_beside, alike_list, alike_ended}
-use Rattle.sheet_theorems.proofs.Alone.{Lone, message-alone, Behind, message-behind}
+use Rattle.sheet_theorems.proofs.Alone.{Lone, message_alone, Behind, message_behind}
 
 -- the messages of a run, alone, and their joining behind what was before
 record Messages (s w : Bytes) (rs : List Request) (n n' : Machine) : Type 0 where
@@ -50,7 +50,7 @@ module _ (s : Bytes) (v : Store) (end : ℕ) (stored : store_of s ≡ got v end)
   messages [] ok n n' z u h = record { machines = []; each = Each.nothing; placeables = tt; join = sym (same_machine n n' h) ∙ beside_start n z u }
   messages (r ∷ rs) ok n n' z u h =
       let f : First v (limits_of b) r rs n n' = first_ran v (limits_of b) r rs n n' h in
-      let x : Lone s b.work r n f.mid = message-alone s v end stored b r ok.0 n f.mid z u f.first in
+      let x : Lone s b.work r n f.mid = message_alone s v end stored b r ok.0 n f.mid z u f.first in
       let m : Machine = x.machine in
       let y : Messages s b.work rs f.mid n' = messages rs ok.1 f.mid n' (beside_nest n f.mid m x.join x.nest) (beside_used n f.mid m x.join x.used) f.rest in
       record {
@@ -78,7 +78,7 @@ sheet_joined s image oi b f =
 unfoldable pub joins : (s image : Bytes) (b : Buffers) (t e k u w : ℕ) (f : Finishes s image b) → Joined s image b f → Says f.machine t e k u w → Joins s image b t e k u w
 unfolding limits_of list_limit
 joins s image b t e k u w f y says =
-    let fits : Within (limits_of b) f.machine = sheet-within f.store (limits_of b) f.requests f.machine f.runs in
+    let fits : Within (limits_of b) f.machine = sheet_within f.store (limits_of b) f.requests f.machine f.runs in
     let text : length f.machine.written ≡ length (joined y.machines).written = ap (λ (m : Machine). length m.written) y.join in
     let list : length (enc_errors f.machine.errors) ≡ length (enc_errors (joined y.machines).errors) = ap (λ (m : Machine). length (enc_errors m.errors)) y.join in
     record {
@@ -136,7 +136,7 @@ behind_next : (v : Store) (b : Buffers) (r : Request) (rs : List Request) (n m o
     → Behinds v b rs (beside n y.machine) o → Behinds v b (r ∷ rs) n (beside m o)
 behind_next v b r rs n m o y rest = record {
   machine = rest.machine;
-  runs = sheet-next v (limits_of b) r rs n (beside n y.machine) y.runs ∙ rest.runs;
+  runs = sheet_next v (limits_of b) r rs n (beside n y.machine) y.runs ∙ rest.runs;
   alike = alike_next n m y.machine o rest.machine y.alike rest.alike;
 }
 
@@ -147,7 +147,7 @@ module _ (s : Bytes) (v : Store) (end : ℕ) (stored : store_of s ≡ got v end)
   behinds n Each.nothing z u fits = record { machine = n; runs = refl; alike = alike_self n (beside n start) (beside_start n z u) }
   behinds n (Each.one {r = r} {rs = rs} {m = m} {ms = ms} x xs) z u fits =
       let first = fitting_first b n m (joined ms) fits in
-      let y : Behind v (limits_of b) r n m = message-behind s v end stored b r n m z u x first.0 first.1 in
+      let y : Behind v (limits_of b) r n m = message_behind s v end stored b r n m z u x first.0 first.1 in
       behind_next v b r rs n m (joined ms) y (behinds (beside n y.machine) xs (beside_nest n _ y.machine refl y.nest) (beside_used n _ y.machine refl y.used) (fitting_rest b n m y.machine (joined ms) y.alike fits))
 
 -- the parts of a sheet whose messages finish alone
@@ -176,10 +176,10 @@ module _ (s image : Bytes) (b : Buffers) (t e k u w : ℕ) (j : Joins s image b 
       }
 
   -- the bytes and the answer of the joining
-  joined-ends : format_sheet s image b ≡ ended (ran (joined j.machines)) b
-  joined-ends =
+  joined_ends : format_sheet s image b ≡ ended (ran (joined j.machines)) b
+  joined_ends =
       let x : Built s image b (joined j.machines) = built in
-      sheet-ends s image b x.parts ∙ alike_ended x.parts.machine (joined j.machines) b x.alike
+      sheet_ends s image b x.parts ∙ alike_ended x.parts.machine (joined j.machines) b x.alike
 
 -- what a machine says is its answer
 says_answer : (m : Machine) (b : Buffers) (t e k u w : ℕ) → Says m t e k u w → (ended (ran m) b).answer ≡ finished t e k u w
@@ -191,10 +191,10 @@ pub joining : Joining
 joining s image oi b t e k u w = (
   λ h.
       let f : Finishes s image b = finishes s image b t e k u w h in
-      joins s image b t e k u w f (sheet_joined s image oi b f) (sheet-says s image b t e k u w f h),
-  λ j. ap (λ (x : Formatted). x.answer) (joined-ends s image b t e k u w j) ∙ says_answer (joined j.machines) b t e k u w j.says,
+      joins s image b t e k u w f (sheet_joined s image oi b f) (sheet_says s image b t e k u w f h),
+  λ j. ap (λ (x : Formatted). x.answer) (joined_ends s image b t e k u w j) ∙ says_answer (joined j.machines) b t e k u w j.says,
 )
 
 -- then the buffers are those of the joining
 pub joined_bytes : JoinedBytes
-joined_bytes s image b t e k u w j = joined-ends s image b t e k u w j
+joined_bytes s image b t e k u w j = joined_ends s image b t e k u w j

@@ -23,58 +23,58 @@ use Rattle.sheets.specs.Sheet.{run_arguments, run_part, run_entry, run_message, 
 
 -- before any message
 module _ (s image : Bytes) (b : Buffers) where
-  pub sheet-malformed-store : store_of s ≡ bad → format_sheet s image b ≡ refuse 4 b
+  pub sheet_malformed_store : store_of s ≡ bad → format_sheet s image b ≡ refuse 4 b
   unfolding format_sheet sheet_store
-  sheet-malformed-store h = rw h
+  sheet_malformed_store h = rw h
 
   module _ (v : Store) (used : ℕ) (stored : store_of s ≡ got v used) where
-    pub sheet-malformed : sheet_of image ≡ bad → format_sheet s image b ≡ refuse 18 b
+    pub sheet_malformed : sheet_of image ≡ bad → format_sheet s image b ≡ refuse 18 b
     unfolding format_sheet sheet_store sheet_read
-    sheet-malformed h = rw stored (rw h)
+    sheet_malformed h = rw stored (rw h)
 
     module _ (rs : List Request) (end : ℕ) (read : sheet_of image ≡ got rs end) where
-      pub sheet-header : leb list_header (length b.list) ≡ false → format_sheet s image b ≡ refuse 7 b
+      pub sheet_header : leb list_header (length b.list) ≡ false → format_sheet s image b ≡ refuse 7 b
       unfolding format_sheet sheet_store sheet_read sheet_with or_refuse
-      sheet-header h = rw stored (rw read (rw h))
+      sheet_header h = rw stored (rw read (rw h))
 
-      pub sheet-runs : leb list_header (length b.list) ≡ true → format_sheet s image b ≡ ended (run_sheet v (limits_of b) rs start) b
+      pub sheet_runs : leb list_header (length b.list) ≡ true → format_sheet s image b ≡ ended (run_sheet v (limits_of b) rs start) b
       unfolding format_sheet sheet_store sheet_read sheet_with or_refuse
-      sheet-runs h = rw stored (rw read (rw h))
+      sheet_runs h = rw stored (rw read (rw h))
 
 -- one message
 module _ (v : Store) (L : Limits) (r : Request) (m : Machine) where
-  pub message-none : as_message (find_in v.items r.id) ≡ none → run_message v L r m ≡ refused 11
+  pub message_none : as_message (find_in v.items r.id) ≡ none → run_message v L r m ≡ refused 11
   unfolding run_message run_entry
-  message-none h = rw h
+  message_none h = rw h
 
   module _ (e : Entry) (found : as_message (find_in v.items r.id) ≡ some e) where
-    pub message-part : part_of r.attribute e ≡ none → run_message v L r m ≡ refused 12
+    pub message_part : part_of r.attribute e ≡ none → run_message v L r m ≡ refused 12
     unfolding run_message run_entry run_part
-    message-part h = rw found (rw h)
+    message_part h = rw found (rw h)
 
     module _ (p : Pattern) (has : part_of r.attribute e ≡ some p) where
-      pub message-arguments : (n : ℕ) → judge r.image ≡ refused_for n → run_message v L r m ≡ refused n
+      pub message_arguments : (n : ℕ) → judge r.image ≡ refused_for n → run_message v L r m ≡ refused n
       unfolding run_message run_entry run_part run_arguments
-      message-arguments n h = rw found (rw has (rw h))
+      message_arguments n h = rw found (rw has (rw h))
 
-      pub message-runs : (l : List (Bytes × Argument)) → judge r.image ≡ accepted l
+      pub message_runs : (l : List (Bytes × Argument)) → judge r.image ≡ accepted l
           → run_message v L r m ≡ exec L (trace_of (setting_of v l) (find_in v.items) p) m
       unfolding run_message run_entry run_part run_arguments
-      message-runs l h = rw found (rw has (rw h))
+      message_runs l h = rw found (rw has (rw h))
 
 -- the messages one after the other
 module _ (v : Store) (L : Limits) where
-  pub sheet-none : (m : Machine) → run_sheet v L [] m ≡ ran m
+  pub sheet_none : (m : Machine) → run_sheet v L [] m ≡ ran m
   unfolding run_sheet
-  sheet-none m = refl
+  sheet_none m = refl
 
-  pub sheet-next : (r : Request) (rs : List Request) (m n : Machine) → run_message v L r m ≡ ran n → run_sheet v L (r ∷ rs) m ≡ run_sheet v L rs n
+  pub sheet_next : (r : Request) (rs : List Request) (m n : Machine) → run_message v L r m ≡ ran n → run_sheet v L (r ∷ rs) m ≡ run_sheet v L rs n
   unfolding run_sheet and_then
-  sheet-next r rs m n h = rw h
+  sheet_next r rs m n h = rw h
 
-  pub sheet-stops : (r : Request) (rs : List Request) (m : Machine) (c : ℕ) → run_message v L r m ≡ refused c → run_sheet v L (r ∷ rs) m ≡ refused c
+  pub sheet_stops : (r : Request) (rs : List Request) (m : Machine) (c : ℕ) → run_message v L r m ≡ refused c → run_sheet v L (r ∷ rs) m ≡ refused c
   unfolding run_sheet and_then
-  sheet-stops r rs m c h = rw h
+  sheet_stops r rs m c h = rw h
 
 -- a message that runs on from a machine: its parts, and its run
 pub record RanOn (v : Store) (L : Limits) (r : Request) (n n' : Machine) : Type 0 where
@@ -87,31 +87,31 @@ pub record RanOn (v : Store) (L : Limits) (r : Request) (n n' : Machine) : Type 
   pub runs : exec L (trace_of (setting_of v arguments) (find_in v.items) part) n ≡ ran n'
 
 module _ (v : Store) (L : Limits) (n n' : Machine) where
-  arguments-ran : (p : Pattern) (g : Judged) → run_arguments v L p g n ≡ ran n'
+  arguments_ran : (p : Pattern) (g : Judged) → run_arguments v L p g n ≡ ran n'
       → (l : List (Bytes × Argument)) × (g ≡ accepted l) × (exec L (trace_of (setting_of v l) (find_in v.items) p) n ≡ ran n')
   unfolding run_arguments
-  arguments-ran p (refused_for c) h = absurd (not_refused c n' h)
-  arguments-ran p (accepted l) h = (l, refl, h)
+  arguments_ran p (refused_for c) h = absurd (not_refused c n' h)
+  arguments_ran p (accepted l) h = (l, refl, h)
 
-  part-ran : (o : Option Pattern) (image : Bytes) → run_part v L o image n ≡ ran n'
+  part_ran : (o : Option Pattern) (image : Bytes) → run_part v L o image n ≡ ran n'
       → (p : Pattern) × (o ≡ some p) × (run_arguments v L p (judge image) n ≡ ran n')
   unfolding run_part
-  part-ran none image h = absurd (not_refused 12 n' h)
-  part-ran (some p) image h = (p, refl, h)
+  part_ran none image h = absurd (not_refused 12 n' h)
+  part_ran (some p) image h = (p, refl, h)
 
-  entry-ran : (o : Option Entry) (a : Option Bytes) (image : Bytes) → run_entry v L o a image n ≡ ran n'
+  entry_ran : (o : Option Entry) (a : Option Bytes) (image : Bytes) → run_entry v L o a image n ≡ ran n'
       → (e : Entry) × (o ≡ some e) × (run_part v L (part_of a e) image n ≡ ran n')
   unfolding run_entry
-  entry-ran none a image h = absurd (not_refused 11 n' h)
-  entry-ran (some e) a image h = (e, refl, h)
+  entry_ran none a image h = absurd (not_refused 11 n' h)
+  entry_ran (some e) a image h = (e, refl, h)
 
   -- a message that was not refused has its parts
-  pub message-ran : (r : Request) → run_message v L r n ≡ ran n' → RanOn v L r n n'
+  pub message_ran : (r : Request) → run_message v L r n ≡ ran n' → RanOn v L r n n'
   unfolding run_message
-  message-ran r h =
-      let e = entry-ran (as_message (find_in v.items r.id)) r.attribute r.image h in
-      let p = part-ran (part_of r.attribute e.0) r.image e.2 in
-      let l = arguments-ran p.0 (judge r.image) p.2 in
+  message_ran r h =
+      let e = entry_ran (as_message (find_in v.items r.id)) r.attribute r.image h in
+      let p = part_ran (part_of r.attribute e.0) r.image e.2 in
+      let l = arguments_ran p.0 (judge r.image) p.2 in
       record { entry = e.0; found = e.1; part = p.0; has = p.1; arguments = l.0; given = l.1; runs = l.2 }
 
 -- the machine after the first message

@@ -22,13 +22,13 @@ use Rattle.theorems.specs.Finished.{trace_of, setting_of, Sized}
 use Rattle.theorems.proofs.Runs.{not_refused, same_machine, same_refusal}
 use Rattle.theorems.proofs.Within.{Within}
 use Rattle.theorems.proofs.Formattings.{front_length, sized_same}
-use Rattle.theorems.proofs.Refusals.{exec-refused}
+use Rattle.theorems.proofs.Refusals.{exec_refused}
 use Rattle.requests.specs.Image.{Request, sheet_of}
 use Rattle.sheets.specs.Refused.{cleared}
 use Rattle.sheets.specs.Sheet.{run_message, run_sheet, format_sheet}
 use Rattle.sheet_theorems.specs.ClaimsRefusals.{SheetBefore, SheetRunning, SheetAnswers, AllSheetAnswers, FirstRefusals, AllSheetsSized}
-use Rattle.sheet_theorems.proofs.Messages.{sheet-malformed-store, sheet-malformed, sheet-header, sheet-runs, message-none, message-part, message-arguments, message-runs, sheet-none, sheet-next, sheet-stops, First, first_ran}
-use Rattle.sheet_theorems.proofs.Parts.{Finishes, finishes, sheet-ends, sheet-within}
+use Rattle.sheet_theorems.proofs.Messages.{sheet_malformed_store, sheet_malformed, sheet_header, sheet_runs, message_none, message_part, message_arguments, message_runs, sheet_none, sheet_next, sheet_stops, First, first_ran}
+use Rattle.sheet_theorems.proofs.Parts.{Finishes, finishes, sheet_ends, sheet_within}
 
 -- the numbers of a message's refusals
 module _ (v : Store) (L : Limits) (r : Request) (m : Machine) (c : ℕ) (h : run_message v L r m ≡ refused c) where
@@ -36,21 +36,21 @@ module _ (v : Store) (L : Limits) (r : Request) (m : Machine) (c : ℕ) (h : run
   met {d} x q = subst SheetRunning (same_refusal d c (sym q ∙ h)) x
 
   module _ (e : Entry) (found : as_message (find_in v.items r.id) ≡ some e) where
-    at-arguments : (p : Pattern) → part_of r.attribute e ≡ some p → (g : Judged) → judge r.image ≡ g → SheetRunning c
-    at-arguments p has (refused_for n) q = met (refused_with SheetRunning SheetRunning.arguments SheetRunning.order r.image n q) (message-arguments v L r m e found p has n q)
-    at-arguments p has (accepted l) q =
-        SheetRunning.run (exec-refused L (trace_of (setting_of v l) (find_in v.items) p) m c (sym (message-runs v L r m e found p has l q) ∙ h))
+    at_arguments : (p : Pattern) → part_of r.attribute e ≡ some p → (g : Judged) → judge r.image ≡ g → SheetRunning c
+    at_arguments p has (refused_for n) q = met (refused_with SheetRunning SheetRunning.arguments SheetRunning.order r.image n q) (message_arguments v L r m e found p has n q)
+    at_arguments p has (accepted l) q =
+        SheetRunning.run (exec_refused L (trace_of (setting_of v l) (find_in v.items) p) m c (sym (message_runs v L r m e found p has l q) ∙ h))
 
     at_part : (o : Option Pattern) → part_of r.attribute e ≡ o → SheetRunning c
-    at_part none q = met SheetRunning.part (message-part v L r m e found q)
-    at_part (some p) q = at-arguments p q (judge r.image) refl
+    at_part none q = met SheetRunning.part (message_part v L r m e found q)
+    at_part (some p) q = at_arguments p q (judge r.image) refl
 
   at_entry : (o : Option Entry) → as_message (find_in v.items r.id) ≡ o → SheetRunning c
-  at_entry none q = met SheetRunning.message (message-none v L r m q)
+  at_entry none q = met SheetRunning.message (message_none v L r m q)
   at_entry (some e) q = at_part e q (part_of r.attribute e) refl
 
-  message-refused : SheetRunning c
-  message-refused = at_entry (as_message (find_in v.items r.id)) refl
+  message_refused : SheetRunning c
+  message_refused = at_entry (as_message (find_in v.items r.id)) refl
 
 -- the first refused message of a run
 record Refusing (v : Store) (L : Limits) (rs : List Request) (m : Machine) (c : ℕ) : Type 0 where
@@ -64,19 +64,19 @@ record Refusing (v : Store) (L : Limits) (rs : List Request) (m : Machine) (c : 
 
 module _ (v : Store) (L : Limits) where
   refusing : (rs : List Request) (m : Machine) (c : ℕ) → run_sheet v L rs m ≡ refused c → Refusing v L rs m c
-  refusing [] m c h = absurd (not_refused c m (sym h ∙ sheet-none v L m))
+  refusing [] m c h = absurd (not_refused c m (sym h ∙ sheet_none v L m))
   refusing (r ∷ rs) m c h = go (run_message v L r m) refl (λ n. refusing rs n c)
     where
       go : (x : Ran) → run_message v L r m ≡ x → ((n : Machine) → run_sheet v L rs n ≡ refused c → Refusing v L rs n c) → Refusing v L (r ∷ rs) m c
       go (ran n) q ih =
-          let y : Refusing v L rs n c = ih n (sym (sheet-next v L r rs m n q) ∙ h) in
+          let y : Refusing v L rs n c = ih n (sym (sheet_next v L r rs m n q) ∙ h) in
           record {
             before = r ∷ y.before;
             refusing = y.refusing;
             after = y.after;
             parted = ap (λ (l : List Request). r ∷ l) y.parted;
             machine = y.machine;
-            ran_before = sheet-next v L r y.before m n q ∙ y.ran_before;
+            ran_before = sheet_next v L r y.before m n q ∙ y.ran_before;
             is_refused = y.is_refused;
           }
       go (refused d) q ih = record {
@@ -85,19 +85,19 @@ module _ (v : Store) (L : Limits) where
         after = rs;
         parted = refl;
         machine = m;
-        ran_before = sheet-none v L m;
-        is_refused = q ∙ sym (sheet-stops v L r rs m d q) ∙ h;
+        ran_before = sheet_none v L m;
+        is_refused = q ∙ sym (sheet_stops v L r rs m d q) ∙ h;
       }
 
 module _ (s image : Bytes) (b : Buffers) where
   module _ (v : Store) (end : ℕ) (stored : store_of s ≡ got v end) where
     module _ (rs : List Request) (last : ℕ) (read : sheet_of image ≡ got rs last) where
-      at-run : leb list_header (length b.list) ≡ true → (x : Ran) → run_sheet v (limits_of b) rs start ≡ x → SheetAnswers s image b
+      at_run : leb list_header (length b.list) ≡ true → (x : Ran) → run_sheet v (limits_of b) rs start ≡ x → SheetAnswers s image b
       unfolding ended cleared
-      at-run t (ran m) q = SheetAnswers.success _ _ _ _ _ (ap (λ (f : Formatted). f.answer) (sheet-runs s image b v end stored rs last read t ∙ ap (λ r. ended r b) q))
-      at-run t (refused c) q =
+      at_run t (ran m) q = SheetAnswers.success _ _ _ _ _ (ap (λ (f : Formatted). f.answer) (sheet_runs s image b v end stored rs last read t ∙ ap (λ r. ended r b) q))
+      at_run t (refused c) q =
           let y : Refusing v (limits_of b) rs start c = refusing v (limits_of b) rs start c q in
-          SheetAnswers.running c (message-refused v (limits_of b) y.refusing y.machine c y.is_refused) (record {
+          SheetAnswers.running c (message_refused v (limits_of b) y.refusing y.machine c y.is_refused) (record {
             bundle = v;
             bundle_end = end;
             stored = stored;
@@ -109,19 +109,19 @@ module _ (s image : Bytes) (b : Buffers) where
             machine = y.machine;
             ran_before = y.ran_before;
             is_refused = y.is_refused;
-          }) (sheet-runs s image b v end stored rs last read t ∙ ap (λ r. ended r b) q)
+          }) (sheet_runs s image b v end stored rs last read t ∙ ap (λ r. ended r b) q)
 
-      at-header : (x : Bool) → leb list_header (length b.list) ≡ x → SheetAnswers s image b
-      at-header true q = at-run q (run_sheet v (limits_of b) rs start) refl
-      at-header false q = SheetAnswers.before 7 SheetBefore.header (sheet-header s image b v end stored rs last read q)
+      at_header : (x : Bool) → leb list_header (length b.list) ≡ x → SheetAnswers s image b
+      at_header true q = at_run q (run_sheet v (limits_of b) rs start) refl
+      at_header false q = SheetAnswers.before 7 SheetBefore.header (sheet_header s image b v end stored rs last read q)
 
-    at-sheet : (g : Got (List Request)) → sheet_of image ≡ g → SheetAnswers s image b
-    at-sheet bad q = SheetAnswers.before 18 SheetBefore.sheet (sheet-malformed s image b v end stored q)
-    at-sheet (got rs last) q = at-header rs last q (leb list_header (length b.list)) refl
+    at_sheet : (g : Got (List Request)) → sheet_of image ≡ g → SheetAnswers s image b
+    at_sheet bad q = SheetAnswers.before 18 SheetBefore.sheet (sheet_malformed s image b v end stored q)
+    at_sheet (got rs last) q = at_header rs last q (leb list_header (length b.list)) refl
 
   at_store : (g : Got Store) → store_of s ≡ g → SheetAnswers s image b
-  at_store bad q = SheetAnswers.before 4 SheetBefore.store (sheet-malformed-store s image b q)
-  at_store (got v end) q = at-sheet v end q (sheet_of image) refl
+  at_store bad q = SheetAnswers.before 4 SheetBefore.store (sheet_malformed_store s image b q)
+  at_store (got v end) q = at_sheet v end q (sheet_of image) refl
 
 -- every sheet's answer
 pub sheet_answers : AllSheetAnswers
@@ -133,7 +133,7 @@ unfolding run_sheet
 sheet_part v L [] back m n h = ap (λ (x : Machine). run_sheet v L back x) (same_machine m n h)
 sheet_part v L (r ∷ front) back m n h =
     let o : First v L r front m n = first_ran v L r front m n h in
-    sheet-next v L r (front ++ back) m o.mid o.first ∙ sheet_part v L front back o.mid n o.rest
+    sheet_next v L r (front ++ back) m o.mid o.first ∙ sheet_part v L front back o.mid n o.rest
 
 -- a message that is refused behind those before it
 pub first_refusal : FirstRefusals
@@ -141,8 +141,8 @@ unfolding ended cleared
 first_refusal s image b n y header =
     let rs : List Request = y.before ++ (y.refusing ∷ y.after) in
     let first : run_sheet y.bundle (limits_of b) rs start ≡ run_sheet y.bundle (limits_of b) (y.refusing ∷ y.after) y.machine = sheet_part y.bundle (limits_of b) y.before (y.refusing ∷ y.after) start y.machine y.ran_before in
-    let stops : run_sheet y.bundle (limits_of b) rs start ≡ refused n = first ∙ sheet-stops y.bundle (limits_of b) y.refusing y.after y.machine n y.is_refused in
-    sheet-runs s image b y.bundle y.bundle_end y.stored rs y.requests_end y.read header ∙ ap (λ r. ended r b) stops
+    let stops : run_sheet y.bundle (limits_of b) rs start ≡ refused n = first ∙ sheet_stops y.bundle (limits_of b) y.refusing y.after y.machine n y.is_refused in
+    sheet_runs s image b y.bundle y.bundle_end y.stored rs y.requests_end y.read header ∙ ap (λ r. ended r b) stops
 
 sized_clear : (n : ℕ) (b : Buffers) → Sized b (cleared n b).buffers
 unfolding cleared zeros
@@ -164,7 +164,7 @@ sheet_sized s image b = go (sheet_answers s image b)
     go : SheetAnswers s image b → Sized b (format_sheet s image b).buffers
     go (SheetAnswers.success t e k u w h) =
         let f : Finishes s image b = finishes s image b t e k u w h in
-        subst (λ (x : Formatted). Sized b x.buffers) (sym (sheet-ends s image b f))
-        (sized_ended f.machine b (leb-true list_header (length b.list) f.header) (sheet-within f.store (limits_of b) f.requests f.machine f.runs))
+        subst (λ (x : Formatted). Sized b x.buffers) (sym (sheet_ends s image b f))
+        (sized_ended f.machine b (leb-true list_header (length b.list) f.header) (sheet_within f.store (limits_of b) f.requests f.machine f.runs))
     go (SheetAnswers.before n k q) = subst (λ (x : Formatted). Sized b x.buffers) (sym q) (sized_same b)
     go (SheetAnswers.running n k y q) = subst (λ (x : Formatted). Sized b x.buffers) (sym q) (sized_clear n b)

@@ -2,7 +2,7 @@
 use Rattle.std.specs.Prelude.{◌≡◌, List, ℕ, ◌<◌, length}
 use Rattle.layout.specs.Exact.{Octets}
 use Rattle.resolution.specs.Effect.{Bytes}
-use Rattle.resolution.specs.Format.{finished, refusedRunning, Buffers}
+use Rattle.resolution.specs.Format.{finished, refused_running, Buffers}
 use Rattle.theorems.specs.Steadiness.{Addition, AllInBytes, slices_after}
 use Rattle.theorems.specs.Figures.{Decides, FigureUnchanged}
 use Rattle.sheets.specs.Sheet.{format_sheet}
@@ -28,4 +28,4 @@ SheetFiguresUnchanged =
 
 -- 16 is answered only where the workspace is shorter than the highest use
 abbrev pub SheetShortWorkspaces : Type 0
-SheetShortWorkspaces = (s image : Bytes) (b : Buffers) → (format_sheet s image b).answer ≡ refusedRunning 16 → length b.work < sheet_highest_use s image
+SheetShortWorkspaces = (s image : Bytes) (b : Buffers) → (format_sheet s image b).answer ≡ refused_running 16 → length b.work < sheet_highest_use s image

@@ -22,8 +22,8 @@ use Rattle.texts.specs.declared.errors.Plain.TheVariants as plain
 use Rattle.buffers.specs.declared.Wrote.{Wrote}
 use Rattle.buffers.specs.declared.Wrote.TheVariants.{At, Full}
 use Rattle.records.specs.Relations.Write.{over_fit}
-use Rattle.records.proofs.Writing.{fits-over, length-fit}
-use Rattle.buffers.proofs.Place.{set-over, then-over, then-set, length_over, take-over, attempt-at, attempt-no}
+use Rattle.records.proofs.Writing.{fits_over, length_fit}
+use Rattle.buffers.proofs.Place.{set_over, then_over, then_set, length_over, take_over, attempt_at, attempt_no}
 
 pub length_u16 : (n : ℕ) → length (to_be 2 n) ≡ 2
 unfolding to_be
@@ -43,54 +43,54 @@ and_true true h = (refl, h)
 and_true false h = let z : ◌≡◌ {A = ℕ} 0 1 = cc in absurd (omega arith)
 
 module _ (size at n : ℕ) where
-  pub room-too-long : 65537 < n → room_for size at n ≡ false
+  pub room_too_long : 65537 < n → room_for size at n ≡ false
   unfolding room_for
-  room-too-long h = rw (lt-leb _ _ h)
+  room_too_long h = rw (lt-leb _ _ h)
 
-  pub room-too-far : n ≤ 65537 → 4294967295 < at + n → room_for size at n ≡ false
+  pub room_too_far : n ≤ 65537 → 4294967295 < at + n → room_for size at n ≡ false
   unfolding room_for
-  room-too-far h g = rw (le-leb _ _ h, lt-leb _ _ g)
+  room_too_far h g = rw (le-leb _ _ h, lt-leb _ _ g)
 
-  pub room-by-size : n ≤ 65537 → at + n ≤ 4294967295 → room_for size at n ≡ leb (at + n) size
+  pub room_by_size : n ≤ 65537 → at + n ≤ 4294967295 → room_for size at n ≡ leb (at + n) size
   unfolding room_for
-  room-by-size h g = rw (le-leb _ _ h, le-leb _ _ g)
+  room_by_size h g = rw (le-leb _ _ h, le-leb _ _ g)
 
-  pub room-true : {r : Bool} → r ≡ room_for size at n → r ≡ true → (n ≤ 65537) × (at + n ≤ 4294967295) × (at + n ≤ size)
+  pub room_true : {r : Bool} → r ≡ room_for size at n → r ≡ true → (n ≤ 65537) × (at + n ≤ 4294967295) × (at + n ≤ size)
   unfolding room_for
-  room-true h e =
+  room_true h e =
       let a = and_true (leb n 65537) (sym h ∙ e) in
       let b = and_true (leb (at + n) 4294967295) a.1 in
       (leb-true _ _ a.0, leb-true _ _ b.0, leb-true _ _ b.1)
 
 -- the answers
 module _ (d : List ℕ) (at : ℕ) (e : Error) where
-  pub recorded-fits : {out : List ℕ} (n : ℕ) {r : Bool} → r ≡ room_for (length d) at n → r ≡ true → n ≡ length (enc_error e) → out ≡ over d at (enc_error e) → (At (at + n), out) ≡ recorded d at e
+  pub recorded_fits : {out : List ℕ} (n : ℕ) {r : Bool} → r ≡ room_for (length d) at n → r ≡ true → n ≡ length (enc_error e) → out ≡ over d at (enc_error e) → (At (at + n), out) ≡ recorded d at e
   unfolding recorded attempt
-  recorded-fits n h t l o =
+  recorded_fits n h t l o =
       let f : room_for (length d) at (length (enc_error e)) ≡ true = rw (← l) (sym h ∙ t) in
       rw (f, l, o)
 
-  pub recorded-full : (n : ℕ) {r : Bool} → r ≡ room_for (length d) at n → r ≡ false → n ≡ length (enc_error e) → (Full, d) ≡ recorded d at e
+  pub recorded_full : (n : ℕ) {r : Bool} → r ≡ room_for (length d) at n → r ≡ false → n ≡ length (enc_error e) → (Full, d) ≡ recorded d at e
   unfolding recorded attempt
-  recorded-full n h t l =
+  recorded_full n h t l =
       let f : room_for (length d) at (length (enc_error e)) ≡ false = rw (← l) (sym h ∙ t) in
       rw f
 
-  pub recorded-long : 65537 < length (enc_error e) → (Full, d) ≡ recorded d at e
+  pub recorded_long : 65537 < length (enc_error e) → (Full, d) ≡ recorded d at e
   unfolding recorded attempt
-  recorded-long h = rw (room-too-long (length d) at (length (enc_error e)) h)
+  recorded_long h = rw (room_too_long (length d) at (length (enc_error e)) h)
 
   -- what the answer says
-  pub recorded-at : {r : Wrote} {out : List ℕ} {p : ℕ} → (r, out) ≡ recorded d at e → r ≡ At p → (at + length (enc_error e) ≤ length d) × (at + length (enc_error e) ≤ 4294967295) × (p ≡ at + length (enc_error e)) × (out ≡ over d at (enc_error e))
+  pub recorded_at : {r : Wrote} {out : List ℕ} {p : ℕ} → (r, out) ≡ recorded d at e → r ≡ At p → (at + length (enc_error e) ≤ length d) × (at + length (enc_error e) ≤ 4294967295) × (p ≡ at + length (enc_error e)) × (out ≡ over d at (enc_error e))
   unfolding recorded
-  recorded-at h q =
-      let w = attempt-at d at (enc_error e) _ h q in
-      let f = room-true (length d) at (length (enc_error e)) refl w.0 in
+  recorded_at h q =
+      let w = attempt_at d at (enc_error e) _ h q in
+      let f = room_true (length d) at (length (enc_error e)) refl w.0 in
       (f.2, f.1, w.1, w.2)
 
-  pub recorded-no : {r : Wrote} {out : List ℕ} → (r, out) ≡ recorded d at e → r ≡ Full → (room_for (length d) at (length (enc_error e)) ≡ false) × (out ≡ d)
+  pub recorded_no : {r : Wrote} {out : List ℕ} → (r, out) ≡ recorded d at e → r ≡ Full → (room_for (length d) at (length (enc_error e)) ≡ false) × (out ≡ d)
   unfolding recorded
-  recorded-no h q = attempt-no d at (enc_error e) _ h q
+  recorded_no h q = attempt_no d at (enc_error e) _ h q
 
 -- what is written, piece by piece
 length_head : (n tag : ℕ) → length (to_be 2 n ++ (tag ∷ [])) ≡ 3
@@ -98,34 +98,34 @@ unfolding to_be
 length_head n tag = refl
 
 module _ (d : List ℕ) (at n : ℕ) where
-  pub head-written : {e : List ℕ} (tag : ℕ) → at + 3 ≤ length d → e ≡ over_fit d at (to_be 2 n) → set e (at + 2) tag ≡ over d at (to_be 2 n ++ (tag ∷ []))
-  head-written tag h q =
+  pub head_written : {e : List ℕ} (tag : ℕ) → at + 3 ≤ length d → e ≡ over_fit d at (to_be 2 n) → set e (at + 2) tag ≡ over d at (to_be 2 n ++ (tag ∷ []))
+  head_written tag h q =
       let l = length_u16 n in
-      then-set d at (to_be 2 n) tag (q ∙ fits-over d at (to_be 2 n) (omega arith)) (omega arith) (omega arith)
+      then_set d at (to_be 2 n) tag (q ∙ fits_over d at (to_be 2 n) (omega arith)) (omega arith) (omega arith)
 
   module _ (tag kind : ℕ) (t : List ℕ) (h : at + (6 + length t) ≤ length d) {e : List ℕ} (p : e ≡ over d at (to_be 2 n ++ (tag ∷ []))) where
-    kind-written : set e (at + 3) kind ≡ over d at (to_be 2 n ++ (tag ∷ []) ++ (kind ∷ []))
-    kind-written = let m = length_head n tag in then-set d at (to_be 2 n ++ (tag ∷ [])) kind p (omega arith) (omega arith)
+    kind_written : set e (at + 3) kind ≡ over d at (to_be 2 n ++ (tag ∷ []) ++ (kind ∷ []))
+    kind_written = let m = length_head n tag in then_set d at (to_be 2 n ++ (tag ∷ [])) kind p (omega arith) (omega arith)
 
-    pub named-written : {f : List ℕ} → f ≡ over (set e (at + 3) kind) (at + 4) (enc_str t) → f ≡ over d at (to_be 2 n ++ (tag ∷ kind ∷ enc_str t))
-    named-written q =
+    pub named_written : {f : List ℕ} → f ≡ over (set e (at + 3) kind) (at + 4) (enc_str t) → f ≡ over d at (to_be 2 n ++ (tag ∷ kind ∷ enc_str t))
+    named_written q =
         let m : length (to_be 2 n ++ (tag ∷ []) ++ (kind ∷ [])) ≡ 4 = length-append (to_be 2 n ++ (tag ∷ [])) (kind ∷ []) ∙ ap (λ (k : ℕ). k + 1) (length_head n tag) in
         let s = length_str t in
-        q ∙ then-over d at (to_be 2 n ++ (tag ∷ []) ++ (kind ∷ [])) (enc_str t) kind-written (omega arith) (omega arith) ∙ ap (over d at) (simp append_assoc)
+        q ∙ then_over d at (to_be 2 n ++ (tag ∷ []) ++ (kind ∷ [])) (enc_str t) kind_written (omega arith) (omega arith) ∙ ap (over d at) (simp append_assoc)
 
 pub str_written : (d : List ℕ) (at : ℕ) (t : List ℕ) {e f : List ℕ} → at + (2 + length t) ≤ length d → e ≡ over_fit d at (to_be 2 (length t)) → f ≡ over_fit e (at + 2) t → f ≡ over d at (enc_str t)
 unfolding enc_str
 str_written d at t {e} h p q =
     let l = length_u16 (length t) in
-    let k : length e ≡ length d = ap length p ∙ length-fit d at (to_be 2 (length t)) in
-    q ∙ fits-over e (at + 2) t (omega arith) ∙ then-over d at (to_be 2 (length t)) t (p ∙ fits-over d at (to_be 2 (length t)) (omega arith)) (omega arith) (omega arith)
+    let k : length e ≡ length d = ap length p ∙ length_fit d at (to_be 2 (length t)) in
+    q ∙ fits_over e (at + 2) t (omega arith) ∙ then_over d at (to_be 2 (length t)) t (p ∙ fits_over d at (to_be 2 (length t)) (omega arith)) (omega arith) (omega arith)
 
 -- a name past a record's tag
 pub name_written : (d : List ℕ) (at n tag : ℕ) (t : List ℕ) {e f : List ℕ} → at + (5 + length t) ≤ length d → e ≡ over d at (to_be 2 n ++ (tag ∷ [])) → f ≡ over e (at + 3) (enc_str t) → f ≡ over d at (to_be 2 n ++ (tag ∷ []) ++ enc_str t)
 name_written d at n tag t h p q =
     let l = length_head n tag in
     let s = length_str t in
-    q ∙ then-over d at (to_be 2 n ++ (tag ∷ [])) (enc_str t) p (omega arith) (omega arith)
+    q ∙ then_over d at (to_be 2 n ++ (tag ∷ [])) (enc_str t) p (omega arith) (omega arith)
 
 pub length_named : (n tag kind : ℕ) (t : List ℕ) → length (to_be 2 n ++ (tag ∷ kind ∷ enc_str t)) ≡ 6 + length t
 length_named n tag kind t = let a = length-append (to_be 2 n) (tag ∷ kind ∷ enc_str t) in let b = length_u16 n in let c = length_str t in omega arith
@@ -146,39 +146,39 @@ unfolding enc_record
 record_is b n e = rw e
 
 module _ (i : List ℕ) where
-  pub overriding-length : (k : images.Kind) → 6 + length i ≡ length (enc_error (overriding k i))
+  pub overriding_length : (k : images.Kind) → 6 + length i ≡ length (enc_error (overriding k i))
   unfolding enc_error
-  overriding-length k = let a = record_length (1 ∷ enc_kind k ∷ enc_str i) in let b = length_str i in omega arith
+  overriding_length k = let a = record_length (1 ∷ enc_kind k ∷ enc_str i) in let b = length_str i in omega arith
 
-  pub overriding-is : (k : images.Kind) {x : ℕ} → x ≡ enc_kind k → to_be 2 (4 + length i) ++ (1 ∷ x ∷ enc_str i) ≡ enc_error (overriding k i)
+  pub overriding_is : (k : images.Kind) {x : ℕ} → x ≡ enc_kind k → to_be 2 (4 + length i) ++ (1 ∷ x ∷ enc_str i) ≡ enc_error (overriding k i)
   unfolding enc_error
-  overriding-is k e = let b = length_str i in rw e (record_is (1 ∷ enc_kind k ∷ enc_str i) (4 + length i) (omega arith))
+  overriding_is k e = let b = length_str i in rw e (record_is (1 ∷ enc_kind k ∷ enc_str i) (4 + length i) (omega arith))
 
   pub no_value_length : 5 + length i ≡ length (enc_error (no_value i))
   unfolding enc_error
   no_value_length = let a = record_length (3 ∷ enc_str i) in let b = length_str i in omega arith
 
-  pub no-value-is : to_be 2 (3 + length i) ++ (3 ∷ []) ++ enc_str i ≡ enc_error (no_value i)
+  pub no_value_is : to_be 2 (3 + length i) ++ (3 ∷ []) ++ enc_str i ≡ enc_error (no_value i)
   unfolding enc_error
-  no-value-is = let b = length_str i in append_assoc (to_be 2 (3 + length i)) (3 ∷ []) (enc_str i) ∙ record_is (3 ∷ enc_str i) (3 + length i) (omega arith)
+  no_value_is = let b = length_str i in append_assoc (to_be 2 (3 + length i)) (3 ∷ []) (enc_str i) ∙ record_is (3 ∷ enc_str i) (3 + length i) (omega arith)
 
   module _ (k : Referred) where
-    bare-size : length (2 ∷ enc_referred k ∷ enc_str i ++ enc_optional enc_str none) ≡ 5 + length i
+    bare_size : length (2 ∷ enc_referred k ∷ enc_str i ++ enc_optional enc_str none) ≡ 5 + length i
     unfolding enc_optional
-    bare-size = let a = length-append (enc_str i) (0 ∷ []) in let b = length_str i in omega arith
+    bare_size = let a = length-append (enc_str i) (0 ∷ []) in let b = length_str i in omega arith
 
-    pub bare-length : 7 + length i ≡ length (enc_error (reference k i none))
+    pub bare_length : 7 + length i ≡ length (enc_error (reference k i none))
     unfolding enc_error
-    bare-length = let a = record_length (2 ∷ enc_referred k ∷ enc_str i ++ enc_optional enc_str none) in let b = bare-size in omega arith
+    bare_length = let a = record_length (2 ∷ enc_referred k ∷ enc_str i ++ enc_optional enc_str none) in let b = bare_size in omega arith
 
     module _ (a : List ℕ) where
       attribute_size : length (2 ∷ enc_referred k ∷ enc_str i ++ enc_optional enc_str (some a)) ≡ 7 + length i + length a
       unfolding enc_optional
       attribute_size = let x = length-append (enc_str i) (1 ∷ enc_str a) in let b = length_str i in let c = length_str a in omega arith
 
-      pub attribute-length : 9 + length i + length a ≡ length (enc_error (reference k i (some a)))
+      pub attribute_length : 9 + length i + length a ≡ length (enc_error (reference k i (some a)))
       unfolding enc_error
-      attribute-length = let x = record_length (2 ∷ enc_referred k ∷ enc_str i ++ enc_optional enc_str (some a)) in let b = attribute_size in omega arith
+      attribute_length = let x = record_length (2 ∷ enc_referred k ∷ enc_str i ++ enc_optional enc_str (some a)) in let b = attribute_size in omega arith
 
 -- an attribute with its Flag, and how many bytes it takes
 pub attribute_most : (has : Bool) (n : ℕ) → attribute_len has n ≤ 65538
@@ -218,57 +218,57 @@ attribute_is false a h = attribute_none (length a)
 
 -- an attribute written, with its Flag
 module _ (d : List ℕ) (at : ℕ) {has : Bool} (a : List ℕ) (h : at + attribute_len has (length a) ≤ length d) (g : attribute_len has (length a) ≤ 65537) where
-  pub attribute-room : has ≡ true → (at + (3 + length a) ≤ length d) × (length a ≤ 65535)
-  attribute-room t =
+  pub attribute_room : has ≡ true → (at + (3 + length a) ≤ length d) × (length a ≤ 65535)
+  attribute_room t =
       let g' : attribute_len true (length a) ≤ 65537 = rw t at g in
       let h' : at + attribute_len true (length a) ≤ length d = rw t at h in
       let l = attribute_fits (length a) g' in
       let s = attribute_short (length a) l in
       (omega arith, l)
 
-  pub attribute-written : {f : List ℕ} → has ≡ true → f ≡ over (set d at 1) (at + 1) (enc_str a) → f ≡ over d at (enc_optional enc_str (option_of has a))
+  pub attribute_written : {f : List ℕ} → has ≡ true → f ≡ over (set d at 1) (at + 1) (enc_str a) → f ≡ over d at (enc_optional enc_str (option_of has a))
   unfolding enc_optional option_of
-  attribute-written t q =
-      let r = attribute-room t in
+  attribute_written t q =
+      let r = attribute_room t in
       let s = length_str a in
-      rw t (q ∙ then-over d at (1 ∷ []) (enc_str a) (set-over d at 1 (omega arith)) refl (omega arith))
+      rw t (q ∙ then_over d at (1 ∷ []) (enc_str a) (set_over d at 1 (omega arith)) refl (omega arith))
 
-  pub attribute-sized : {f : List ℕ} → has ≡ true → f ≡ over (set d at 1) (at + 1) (enc_str a) → length f ≡ length d
-  attribute-sized t q =
+  pub attribute_sized : {f : List ℕ} → has ≡ true → f ≡ over (set d at 1) (at + 1) (enc_str a) → length f ≡ length d
+  attribute_sized t q =
       let l = attribute_is has a g in
-      ap length (attribute-written t q) ∙ length_over d at (enc_optional enc_str (option_of has a)) (omega arith)
+      ap length (attribute_written t q) ∙ length_over d at (enc_optional enc_str (option_of has a)) (omega arith)
 
-  pub attribute-absent : has ≡ false → at + 1 ≤ length d
+  pub attribute_absent : has ≡ false → at + 1 ≤ length d
   unfolding attribute_len
-  attribute-absent t = rw t at h
+  attribute_absent t = rw t at h
 
-  pub absent-written : has ≡ false → set d at 0 ≡ over d at (enc_optional enc_str (option_of has a))
+  pub absent_written : has ≡ false → set d at 0 ≡ over d at (enc_optional enc_str (option_of has a))
   unfolding enc_optional option_of
-  absent-written t = let l = attribute-absent t in rw t (set-over d at 0 (omega arith))
+  absent_written t = let l = attribute_absent t in rw t (set_over d at 0 (omega arith))
 
 -- the bytes of a Reference record, and their number
 module _ (k : Referred) (i : List ℕ) (o : Option (List ℕ)) where
-  reference-rest : length (2 ∷ enc_referred k ∷ enc_str i ++ enc_optional enc_str o) ≡ 4 + length i + length (enc_optional enc_str o)
-  reference-rest = let a = length-append (enc_str i) (enc_optional enc_str o) in let b = length_str i in omega arith
+  reference_rest : length (2 ∷ enc_referred k ∷ enc_str i ++ enc_optional enc_str o) ≡ 4 + length i + length (enc_optional enc_str o)
+  reference_rest = let a = length-append (enc_str i) (enc_optional enc_str o) in let b = length_str i in omega arith
 
   pub reference_length : length (enc_error (reference k i o)) ≡ 6 + length i + length (enc_optional enc_str o)
   unfolding enc_error
-  reference_length = let a = record_length (2 ∷ enc_referred k ∷ enc_str i ++ enc_optional enc_str o) in let b = reference-rest in omega arith
+  reference_length = let a = record_length (2 ∷ enc_referred k ∷ enc_str i ++ enc_optional enc_str o) in let b = reference_rest in omega arith
 
-  pub reference-long : 65535 < length i → 65537 < length (enc_error (reference k i o))
-  reference-long h = let a = reference_length in omega arith
+  pub reference_long : 65535 < length i → 65537 < length (enc_error (reference k i o))
+  reference_long h = let a = reference_length in omega arith
 
   reference_is : (m : ℕ) {x : ℕ} → x ≡ enc_referred k → m ≡ length (enc_optional enc_str o) → to_be 2 (4 + length i + m) ++ (2 ∷ x ∷ enc_str i) ++ enc_optional enc_str o ≡ enc_error (reference k i o)
   unfolding enc_error
   reference_is m {x} e q =
-      let r = reference-rest in
+      let r = reference_rest in
       rw (e, append_assoc (to_be 2 (4 + length i + m)) (2 ∷ enc_referred k ∷ enc_str i) (enc_optional enc_str o)) (record_is (2 ∷ enc_referred k ∷ enc_str i ++ enc_optional enc_str o) (4 + length i + m) (omega arith))
 
-  reference-written : (d : List ℕ) (at m : ℕ) {x : ℕ} {e f : List ℕ} → at + (6 + length i + m) ≤ length d → x ≡ enc_referred k → m ≡ length (enc_optional enc_str o)
+  reference_written : (d : List ℕ) (at m : ℕ) {x : ℕ} {e f : List ℕ} → at + (6 + length i + m) ≤ length d → x ≡ enc_referred k → m ≡ length (enc_optional enc_str o)
       → e ≡ over d at (to_be 2 (4 + length i + m) ++ (2 ∷ x ∷ enc_str i)) → f ≡ over e (at + (6 + length i)) (enc_optional enc_str o) → f ≡ over d at (enc_error (reference k i o))
-  reference-written d at m {x} h ex em p q =
+  reference_written d at m {x} h ex em p q =
       let l = length_named (4 + length i + m) 2 x i in
-      q ∙ then-over d at (to_be 2 (4 + length i + m) ++ (2 ∷ x ∷ enc_str i)) (enc_optional enc_str o) p (omega arith) (omega arith) ∙ ap (over d at) (reference_is m ex em)
+      q ∙ then_over d at (to_be 2 (4 + length i + m) ++ (2 ∷ x ∷ enc_str i)) (enc_optional enc_str o) p (omega arith) (omega arith) ∙ ap (over d at) (reference_is m ex em)
 
 attribute_past : (k : Referred) (i : List ℕ) (has : Bool) (a : List ℕ) → 65537 < attribute_len has (length a) → 65537 < length (enc_error (reference k i (option_of has a)))
 unfolding option_of attribute_len
@@ -280,22 +280,22 @@ attribute_past k i false a l = absurd (omega arith)
 
 -- a Reference record that fits, and one that does not
 module _ (d : List ℕ) (at : ℕ) (k : Referred) (i : List ℕ) (has : Bool) (a : List ℕ) {m : ℕ} {r : Bool} (h : r ≡ room_for (length d) at (6 + length i + m)) (em : m ≡ attribute_len has (length a)) where
-  pub reference-fits : {x : ℕ} {e f : List ℕ} → r ≡ true → x ≡ enc_referred k → e ≡ over d at (to_be 2 (4 + length i + m) ++ (2 ∷ x ∷ enc_str i))
+  pub reference_fits : {x : ℕ} {e f : List ℕ} → r ≡ true → x ≡ enc_referred k → e ≡ over d at (to_be 2 (4 + length i + m) ++ (2 ∷ x ∷ enc_str i))
       → f ≡ over e (at + (6 + length i)) (enc_optional enc_str (option_of has a)) → (At (at + (6 + length i + m)), f) ≡ recorded d at (reference k i (option_of has a))
-  reference-fits t ex p q =
-      let room = room-true (length d) at (6 + length i + m) h t in
+  reference_fits t ex p q =
+      let room = room_true (length d) at (6 + length i + m) h t in
       let n : m ≡ length (enc_optional enc_str (option_of has a)) = em ∙ attribute_is has a (omega arith) in
       let s = reference_length k i (option_of has a) in
-      recorded-fits d at (reference k i (option_of has a)) (6 + length i + m) h t (omega arith) (reference-written k i (option_of has a) d at m room.2 ex n p q)
+      recorded_fits d at (reference k i (option_of has a)) (6 + length i + m) h t (omega arith) (reference_written k i (option_of has a) d at m room.2 ex n p q)
 
-  pub reference-full : r ≡ false → (Full, d) ≡ recorded d at (reference k i (option_of has a))
-  reference-full t = go (leb (attribute_len has (length a)) 65537) refl where
+  pub reference_full : r ≡ false → (Full, d) ≡ recorded d at (reference k i (option_of has a))
+  reference_full t = go (leb (attribute_len has (length a)) 65537) refl where
     go : (x : Bool) → leb (attribute_len has (length a)) 65537 ≡ x → (Full, d) ≡ recorded d at (reference k i (option_of has a))
     go true e =
         let n : m ≡ length (enc_optional enc_str (option_of has a)) = em ∙ attribute_is has a (leb-true _ _ e) in
         let s = reference_length k i (option_of has a) in
-        recorded-full d at (reference k i (option_of has a)) (6 + length i + m) h t (omega arith)
-    go false e = recorded-long d at (reference k i (option_of has a)) (attribute_past k i has a (leb-false _ _ e))
+        recorded_full d at (reference k i (option_of has a)) (6 + length i + m) h t (omega arith)
+    go false e = recorded_long d at (reference k i (option_of has a)) (attribute_past k i has a (leb-false _ _ e))
 
 -- what stands past a front that was written, and past bytes that were
 over_front : (d a b : List ℕ) → length a ≡ 5 → part d 5 (length b) ≡ b → take (5 + length b) (over d 0 a) ≡ a ++ b
@@ -309,7 +309,7 @@ over_front d a b l p =
 over_past : (d : List ℕ) (at : ℕ) (a b : List ℕ) → at + length a + length b ≤ length d → part d at (length a) ≡ a → part (over d (at + length a) b) at (length (a ++ b)) ≡ a ++ b
 over_past d at a b h p =
     let c : take (at + length a) d ≡ take at d ++ a = take-add at (length a) d ∙ ap (λ (x : List ℕ). take at d ++ x) p in
-    let f : take (at + length a + length b) (over d (at + length a) b) ≡ take at d ++ (a ++ b) = take-over d (at + length a) b (omega arith) ∙ ap (λ (x : List ℕ). x ++ b) c ∙ append_assoc (take at d) a b in
+    let f : take (at + length a + length b) (over d (at + length a) b) ≡ take at d ++ (a ++ b) = take_over d (at + length a) b (omega arith) ∙ ap (λ (x : List ℕ). x ++ b) c ∙ append_assoc (take at d) a b in
     let l : at + length a + length b ≡ at + length (a ++ b) = omega (arith, length-append a b) in
     let g : take (at + length (a ++ b)) (over d (at + length a) b) ≡ take at d ++ (a ++ b) = rw l at f in
     let s : length (over d (at + length a) b) ≡ length d = length_over d (at + length a) b h in
@@ -323,30 +323,30 @@ unfolding header to_be
 length_header w = refl
 
 module _ (d : List ℕ) (w : ℕ) where
-  pub headed-done : 5 ≤ length d → w < 4294967296 → headed d w ≡ over d 0 (header w)
+  pub headed_done : 5 ≤ length d → w < 4294967296 → headed d w ≡ over d 0 (header w)
   unfolding headed list_header
-  headed-done h g = rw (le-leb _ _ h, lt-ltb _ _ g)
+  headed_done h g = rw (le-leb _ _ h, lt-ltb _ _ g)
 
-  pub headed-short : length d < 5 → headed d w ≡ d
+  pub headed_short : length d < 5 → headed d w ≡ d
   unfolding headed list_header
-  headed-short h = rw (lt-leb _ _ h)
+  headed_short h = rw (lt-leb _ _ h)
 
-  pub headed-long : 5 ≤ length d → 4294967296 ≤ w → headed d w ≡ d
+  pub headed_long : 5 ≤ length d → 4294967296 ≤ w → headed d w ≡ d
   unfolding headed list_header
-  headed-long h g = rw (le-leb _ _ h, le-ltb _ _ g)
+  headed_long h g = rw (le-leb _ _ h, le-ltb _ _ g)
 
-  pub header-written : {e : List ℕ} → 5 ≤ length d → e ≡ over_fit d 0 (to_be 4 w) → set e 4 1 ≡ over d 0 (header w)
+  pub header_written : {e : List ℕ} → 5 ≤ length d → e ≡ over_fit d 0 (to_be 4 w) → set e 4 1 ≡ over d 0 (header w)
   unfolding header
-  header-written h q =
+  header_written h q =
       let l = length_u32 w in
-      then-set d 0 (to_be 4 w) 1 (q ∙ fits-over d 0 (to_be 4 w) (omega arith)) (omega arith) (omega arith)
+      then_set d 0 (to_be 4 w) 1 (q ∙ fits_over d 0 (to_be 4 w) (omega arith)) (omega arith) (omega arith)
 
 -- A header over records is the error list.
 headed_whole : (d b : List ℕ) → 5 + length b ≤ length d → 5 + length b < 4294967296 → part d 5 (length b) ≡ b → take (5 + length b) (headed d (5 + length b)) ≡ enc_whole (1 ∷ b)
 unfolding enc_whole header
 headed_whole d b h g p =
     let l : length (to_be 4 (5 + length b) ++ (1 ∷ [])) ≡ 5 = length_header (5 + length b) in
-    let a : take (5 + length b) (headed d (5 + length b)) ≡ take (5 + length b) (over d 0 (to_be 4 (5 + length b) ++ (1 ∷ []))) = ap (take (5 + length b)) (headed-done d (5 + length b) (omega arith) g) in
+    let a : take (5 + length b) (headed d (5 + length b)) ≡ take (5 + length b) (over d 0 (to_be 4 (5 + length b) ++ (1 ∷ []))) = ap (take (5 + length b)) (headed_done d (5 + length b) (omega arith) g) in
     let c : take (5 + length b) (over d 0 (to_be 4 (5 + length b) ++ (1 ∷ []))) ≡ to_be 4 (5 + length b) ++ (1 ∷ []) ++ b = over_front d (to_be 4 (5 + length b) ++ (1 ∷ [])) b l p in
     let e : 4 + length (1 ∷ b) ≡ 5 + length b = omega arith in
     a ∙ c ∙ append_assoc (to_be 4 (5 + length b)) (1 ∷ []) b ∙ rw e

@@ -5,7 +5,7 @@ use Rattle.records.specs.Got.{Got, got, bad, Parser, after, test, pick}
 use Rattle.records.specs.Bytes.{byte_at, number_at, str_at}
 use Rattle.records.specs.Decode.{as_a, optional_at}
 use Rattle.records.specs.Images.{kind_at}
-use Rattle.records.specs.Errors.{Referred, Error, overriding, reference, no_value, missingDefault, cyclic, tooManyPlaceables, enc_error, enc_errors}
+use Rattle.records.specs.Errors.{Referred, Error, overriding, reference, no_value, missing_default, cyclic, too_many_placeables, enc_error, enc_errors}
 use Rattle.records.specs.Valid.{All}
 
 -- "kind 1 message, 2 term, 3 function, 4 variable"
@@ -34,7 +34,7 @@ no_value_at s at = as_a no_value (str_at s at)
 
 -- "4 MissingDefault; 5 Cyclic; 6 TooManyPlaceables": the tag is all
 unfoldable pub plain_at : ℕ → ℕ → Got Error
-plain_at t e = pick (eqb t 4) (got missingDefault e) (pick (eqb t 5) (got cyclic e) (test (eqb t 6) (got tooManyPlaceables e)))
+plain_at t e = pick (eqb t 4) (got missing_default e) (pick (eqb t 5) (got cyclic e) (test (eqb t 6) (got too_many_placeables e)))
 
 -- "tag: 1 Overriding (kind, Id); 2 Reference (kind, Id, attribute Flag, Id if 1); 3 NoValue (Id); 4 MissingDefault; 5 Cyclic; 6 TooManyPlaceables"
 unfoldable pub tagged_at : Parser Error
@@ -85,6 +85,6 @@ Brief (overriding k i) = length i ≤ 255
 Brief (reference k i none) = length i ≤ 255
 Brief (reference k i (some a)) = (length i ≤ 255) × (length a ≤ 255)
 Brief (no_value i) = length i ≤ 255
-Brief missingDefault = Unit {0}
+Brief missing_default = Unit {0}
 Brief cyclic = Unit {0}
-Brief tooManyPlaceables = Unit {0}
+Brief too_many_placeables = Unit {0}

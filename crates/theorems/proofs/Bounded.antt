@@ -18,7 +18,7 @@ use Rattle.records.specs.Valid.{ValidStore}
 use Rattle.layout.proofs.Numbers.{length_to_be}
 use Rattle.entries.specs.Lookup.{find_in, part_of}
 use Rattle.entries.proofs.Sizes.{entry_size, part_size}
-use Rattle.resolution.specs.Effect.{Bytes, put, report, begin, expand, unfound, open-text, keep-text, free, merged, Trace, Out, Done}
+use Rattle.resolution.specs.Effect.{Bytes, put, report, begin, expand, unfound, open_text, keep_text, free, merged, Trace, Out, Done}
 use Rattle.resolution.specs.Resolve.{Setting, bytes_of, as_message, resolve}
 use Rattle.resolution.specs.Exec.{list_limit}
 use Rattle.resolution.specs.Format.{max_patterns, fresh}
@@ -38,8 +38,8 @@ listing_length (report e ∷ t) = omega (arith, listing_length t, length-append 
 listing_length (begin ∷ t) = omega (arith, listing_length t)
 listing_length (expand ∷ t) = omega (arith, listing_length t)
 listing_length (unfound ∷ t) = omega (arith, listing_length t)
-listing_length (open-text ∷ t) = omega (arith, listing_length t)
-listing_length (keep-text ∷ t) = omega (arith, listing_length t)
+listing_length (open_text ∷ t) = omega (arith, listing_length t)
+listing_length (keep_text ∷ t) = omega (arith, listing_length t)
 listing_length (free n ∷ t) = omega (arith, listing_length t)
 listing_length (merged n ∷ t) = omega (arith, listing_length t)
 
@@ -70,19 +70,19 @@ module _ (v : Store) (valid : ValidStore v) where
       omega (arith, c, n.ok.few, allowance_times out.state.begun)
 
   -- the errors that it reports take no more than 20 million bytes
-  pub list-bound : (st : Setting) (id : Bytes) (e : Entry) (a : Option Bytes) (p : Pattern) → as_message (find_in v.items id) ≡ some e
+  pub list_bound : (st : Setting) (id : Bytes) (e : Entry) (a : Option Bytes) (p : Pattern) → as_message (find_in v.items id) ≡ some e
       → part_of a e ≡ some p → length (enc_errors (reports (trace_of st (find_in v.items) p))) ≤ 20000000
-  list-bound st id e a p h q = omega (arith, added st id e a p h q, list_length (trace_of st (find_in v.items) p))
+  list_bound st id e a p h q = omega (arith, added st id e a p h q, list_length (trace_of st (find_in v.items) p))
 
   -- no more than 20 million of its lookups find nothing
-  pub unfound-bound : (st : Setting) (id : Bytes) (e : Entry) (a : Option Bytes) (p : Pattern) → as_message (find_in v.items id) ≡ some e
+  pub unfound_bound : (st : Setting) (id : Bytes) (e : Entry) (a : Option Bytes) (p : Pattern) → as_message (find_in v.items id) ≡ some e
       → part_of a e ≡ some p → tally is_unfound (trace_of st (find_in v.items) p) ≤ 20000000
-  unfound-bound st id e a p h q = omega (arith, added st id e a p h q, listing_length (trace_of st (find_in v.items) p))
+  unfound_bound st id e a p h q = omega (arith, added st id e a p h q, listing_length (trace_of st (find_in v.items) p))
 
   -- at no moment do they take more
-  pub prefix-bound : (st : Setting) (id : Bytes) (e : Entry) (a : Option Bytes) (p : Pattern) → as_message (find_in v.items id) ≡ some e
+  pub prefix_bound : (st : Setting) (id : Bytes) (e : Entry) (a : Option Bytes) (p : Pattern) → as_message (find_in v.items id) ≡ some e
       → part_of a e ≡ some p → (x y : Trace) → trace_of st (find_in v.items) p ≡ x ++ y → length (enc_errors (reports x)) ≤ 20000000
-  prefix-bound st id e a p h q x y d =
+  prefix_bound st id e a p h q x y d =
       let t : Trace = trace_of st (find_in v.items) p in
       omega (arith, added st id e a p h q, list_length x, tally_append listing x y, ap (tally listing) d)
 

@@ -10,13 +10,13 @@ use lib.Dec.{ltb}
 use Rattle.numbers.specs.Number.{Number}
 use Rattle.numbers.specs.Value.{Value, textual, numeric, nothing, wrong}
 use Rattle.unescape.specs.Unescape.{has_backslash}
-use Rattle.records.specs.Tree.{Literal, Named, Pattern, pattern, Elements, no_more, more, Element, text, placeable, Expression, inline, select, Inline, variable, nested, Arguments, without, with-args, Inlines, no-inline, and, Variants, no_variant, or, Variant, variant}
+use Rattle.records.specs.Tree.{Literal, Named, Pattern, pattern, Elements, no_more, more, Element, text, placeable, Expression, inline, select, Inline, variable, nested, Arguments, without, with_arguments, Inlines, no_inline, and, Variants, no_variant, or, Variant, variant}
 use Rattle.records.specs.Images.{Entry}
-use Rattle.records.specs.Encode.{enc_str, enc_optional, encPattern, encElements, encElement, encExpression, encInline, encArguments, encInlines, encVariants, encVariant}
-use Rattle.records.specs.Errors.{Error, Referred, reference, missingDefault, cyclic, enc_error}
+use Rattle.records.specs.Encode.{enc_str, enc_optional, enc_pattern, enc_elements, enc_element, enc_expression, enc_inline, enc_arguments, enc_inlines, enc_variants, enc_variant}
+use Rattle.records.specs.Errors.{Error, Referred, reference, missing_default, cyclic, enc_error}
 use Rattle.entries.specs.Lookup.{Holder, Find, part_of}
-use Rattle.resolution.specs.Effect.{Bytes, Effect, put, report, begin, expand, unfound, open-text, keep-text, free, merged, Locals, State, M, Done, ret, ◌>>=◌, ◌>>◌, emit, write, is_dirty, get_locals, set_locals, max_placeables, enter_if, enter, only_if, entered, capture, release}
-use Rattle.resolution.specs.Resolve.{Setting, Trail, Given, mark, cut_short, held, string_if, string_value, literal_value, named_values, write_ref_error, look_for, look_up, as_message, as_term, trackIf, track, onPart, missingPart, messageFound, termFound, writeMessage, writeTerm, note_if, note_one, note_merges, merges_of, call, call_function, write_result, or_wrong, found_or, variable_in, get_variable, write_variable, writePattern, writeElements, writeElement, writeExpression, writeNth, writeVariant, writeInline, resolveInline, termArguments, getArguments, resolve}
+use Rattle.resolution.specs.Effect.{Bytes, Effect, put, report, begin, expand, unfound, open_text, keep_text, free, merged, Locals, State, M, Done, ret, ◌>>=◌, ◌>>◌, emit, write, is_dirty, get_locals, set_locals, max_placeables, enter_if, enter, only_if, entered, capture, release}
+use Rattle.resolution.specs.Resolve.{Setting, Trail, Given, mark, cut_short, held, string_if, string_value, literal_value, named_values, write_ref_error, look_for, look_up, as_message, as_term, track_if, track, on_part, missing_piece, message_found, term_found, write_message, write_term, note_if, note_one, note_merges, merges_of, call, call_function, write_result, or_wrong, found_or, variable_in, get_variable, write_variable, write_pattern, write_elements, write_element, write_expression, write_nth, write_variant, write_inline, resolve_inline, term_arguments, get_arguments, resolve}
 use Rattle.theorems.proofs.Held.{message_held, term_held}
 use Rattle.theorems.proofs.Tally.{tally, tally_append}
 use Rattle.theorems.proofs.Lengths.{small_length, reference_length, no_value_length, none_length, elements_size, more_size, placeable_size, inline_size, select_size, or_size, variant_size, variable_size, function_size, message_size, term_size, nested_size, arguments_size, and_size}
@@ -28,8 +28,8 @@ listing (report e) = length (enc_error e)
 listing begin = 0
 listing expand = 0
 listing unfound = 1
-listing open-text = 0
-listing keep-text = 0
+listing open_text = 0
+listing keep_text = 0
 listing (free n) = 0
 listing (merged n) = 0
 
@@ -104,7 +104,7 @@ expand_cost = record { bound = λ s. omega arith }
 
 capture_cost : {w : ℕ} {m : M Done} → Costs w Done m → Costs w Bytes (capture m)
 unfolding capture
-capture_cost {m = m} h = record { bound = λ s. omega (arith, h.bound s, tally_append listing (m s).trace (keep-text ∷ [])) }
+capture_cost {m = m} h = record { bound = λ s. omega (arith, h.bound s, tally_append listing (m s).trace (keep_text ∷ [])) }
 
 release_cost : {A : Type 0} {w : ℕ} {m : M A} → Costs w A m → Costs w A (release m)
 unfolding release
@@ -239,137 +239,137 @@ variable_text_cost i (some v) = write_cost _
 
 -- a pattern of no more bytes than a resource image has
 abbrev pub ImageSized : Pattern → Type 0
-ImageSized p = 3 * length (encPattern p) ≤ most
+ImageSized p = 3 * length (enc_pattern p) ≤ most
 
 -- every pattern that a reference can name is one
 abbrev pub AllImageSized : Find → Type 0
 AllImageSized find = (i : Bytes) (e : Entry) → find i ≡ some (Holder.entry e) → (a : Option Bytes) (p : Pattern) → part_of a e ≡ some p → ImageSized p
 
 module _ (find : Find) (fit : AllImageSized find) (cross : Pattern → Trail → M Done) (trail : Trail) (crossed : (p : Pattern) (t : Trail) → ImageSized p → Costs 0 Done (cross p t)) where
-  track-if-cost : (b : Bool) (t : Bytes) (p : Pattern) → ImageSized p → Costs 3 Done (trackIf cross trail b t p)
-  unfolding trackIf
-  track-if-cost true t p f = more_cost 3 (omega (arith, small_length.1)) (error_cost cyclic t)
-  track-if-cost false t p f = more_cost 3 (omega arith) (crossed p _ f)
+  track_if_cost : (b : Bool) (t : Bytes) (p : Pattern) → ImageSized p → Costs 3 Done (track_if cross trail b t p)
+  unfolding track_if
+  track_if_cost true t p f = more_cost 3 (omega (arith, small_length.1)) (error_cost cyclic t)
+  track_if_cost false t p f = more_cost 3 (omega arith) (crossed p _ f)
 
-  track-cost : (t : Bytes) (p : Pattern) → ImageSized p → Costs 3 Done (track cross trail t p)
+  track_cost : (t : Bytes) (p : Pattern) → ImageSized p → Costs 3 Done (track cross trail t p)
   unfolding track
-  track-cost t p f = track-if-cost _ t p f
+  track_cost t p f = track_if_cost _ t p f
 
-  part-cost : (w : ℕ) (e : Error) (t : Bytes) (o : Option Pattern) → length (enc_error e) ≤ w → 3 ≤ w → ((p : Pattern) → o ≡ some p → ImageSized p)
-      → Costs w Done (onPart cross trail e t o)
-  unfolding onPart
-  part-cost w e t none le l f = more_cost w le (error_cost e t)
-  part-cost w e t (some p) le l f = more_cost w l (track-cost t p (f p refl))
+  part_cost : (w : ℕ) (e : Error) (t : Bytes) (o : Option Pattern) → length (enc_error e) ≤ w → 3 ≤ w → ((p : Pattern) → o ≡ some p → ImageSized p)
+      → Costs w Done (on_part cross trail e t o)
+  unfolding on_part
+  part_cost w e t none le l f = more_cost w le (error_cost e t)
+  part_cost w e t (some p) le l f = more_cost w l (track_cost t p (f p refl))
 
   -- what a reference may add: a Reference with its id and attribute
-  abbrev reference-most : Bytes → Option Bytes → ℕ
-  reference-most i a = 6 + length i + length (enc_optional enc_str a)
+  abbrev reference_most : Bytes → Option Bytes → ℕ
+  reference_most i a = 6 + length i + length (enc_optional enc_str a)
 
-  missing-cost : (i : Bytes) (a : Option Bytes) → length (enc_error (missingPart cross trail i a)) ≤ reference-most i a
-  unfolding missingPart
-  missing-cost i none = omega (arith, no_value_length i)
-  missing-cost i (some a) = omega (arith, reference_length Referred.message i (some a))
+  missing_cost : (i : Bytes) (a : Option Bytes) → length (enc_error (missing_piece cross trail i a)) ≤ reference_most i a
+  unfolding missing_piece
+  missing_cost i none = omega (arith, no_value_length i)
+  missing_cost i (some a) = omega (arith, reference_length Referred.message i (some a))
 
-  message-found-cost : (i : Bytes) (a : Option Bytes) (o : Option Entry) → ((e : Entry) (p : Pattern) → o ≡ some e → part_of a e ≡ some p → ImageSized p)
-      → Costs (reference-most i a) Done (messageFound cross trail i a o)
-  unfolding messageFound
-  message-found-cost i a none f = more_cost (reference-most i a) (omega (arith, reference_length Referred.message i a)) (error_cost (reference Referred.message i a) _)
-  message-found-cost i a (some e) f = part-cost (reference-most i a) (missingPart cross trail i a) _ _ (missing-cost i a) (omega arith) (λ p q. f e p refl q)
+  message_found_cost : (i : Bytes) (a : Option Bytes) (o : Option Entry) → ((e : Entry) (p : Pattern) → o ≡ some e → part_of a e ≡ some p → ImageSized p)
+      → Costs (reference_most i a) Done (message_found cross trail i a o)
+  unfolding message_found
+  message_found_cost i a none f = more_cost (reference_most i a) (omega (arith, reference_length Referred.message i a)) (error_cost (reference Referred.message i a) _)
+  message_found_cost i a (some e) f = part_cost (reference_most i a) (missing_piece cross trail i a) _ _ (missing_cost i a) (omega arith) (λ p q. f e p refl q)
 
-  term-found-cost : (i : Bytes) (a : Option Bytes) (o : Option Entry) → ((e : Entry) (p : Pattern) → o ≡ some e → part_of a e ≡ some p → ImageSized p)
-      → Costs (reference-most i a) Done (termFound cross trail i a o)
-  unfolding termFound
-  term-found-cost i a none f = more_cost (reference-most i a) (omega (arith, reference_length Referred.term i a)) (error_cost (reference Referred.term i a) _)
-  term-found-cost i a (some e) f = part-cost (reference-most i a) (reference Referred.term i a) _ _ (omega (arith, reference_length Referred.term i a)) (omega arith) (λ p q. f e p refl q)
+  term_found_cost : (i : Bytes) (a : Option Bytes) (o : Option Entry) → ((e : Entry) (p : Pattern) → o ≡ some e → part_of a e ≡ some p → ImageSized p)
+      → Costs (reference_most i a) Done (term_found cross trail i a o)
+  unfolding term_found
+  term_found_cost i a none f = more_cost (reference_most i a) (omega (arith, reference_length Referred.term i a)) (error_cost (reference Referred.term i a) _)
+  term_found_cost i a (some e) f = part_cost (reference_most i a) (reference Referred.term i a) _ _ (omega (arith, reference_length Referred.term i a)) (omega arith) (λ p q. f e p refl q)
 
-  message-cost : (i : Bytes) (a : Option Bytes) → Costs (1 + reference-most i a) Done (writeMessage cross trail find i a)
-  unfolding writeMessage look_up
-  message-cost i a = look_cost (find i) (λ o. messageFound cross trail i a (as_message o)) (message-found-cost i a (as_message (find i)) (λ e p h q. fit i e (message_held (find i) e h) a p q))
+  message_cost : (i : Bytes) (a : Option Bytes) → Costs (1 + reference_most i a) Done (write_message cross trail find i a)
+  unfolding write_message look_up
+  message_cost i a = look_cost (find i) (λ o. message_found cross trail i a (as_message o)) (message_found_cost i a (as_message (find i)) (λ e p h q. fit i e (message_held (find i) e h) a p q))
 
-  term-cost : (i : Bytes) (a : Option Bytes) (ns : List (Bytes × Value)) → Costs (1 + reference-most i a) Done (writeTerm cross trail find i a ns)
-  unfolding writeTerm look_up
-  term-cost i a ns =
-      let c = term-found-cost i a (as_term (find i)) (λ e p h q. fit i e (term_held (find i) e h) a p q) in
-      none_then (set_cost _) (look_cost (find i) (λ o. termFound cross trail i a (as_term o) >> set_locals none) (then_none c (set_cost none)))
+  term_cost : (i : Bytes) (a : Option Bytes) (ns : List (Bytes × Value)) → Costs (1 + reference_most i a) Done (write_term cross trail find i a ns)
+  unfolding write_term look_up
+  term_cost i a ns =
+      let c = term_found_cost i a (as_term (find i)) (λ e p h q. fit i e (term_held (find i) e h) a p q) in
+      none_then (set_cost _) (look_cost (find i) (λ o. term_found cross trail i a (as_term o) >> set_locals none) (then_none c (set_cost none)))
 
   module _ (st : Setting) where
     mutual
-      unfolding writePattern
+      unfolding write_pattern
 
-      p-cost : (p : Pattern) → ImageSized p → Costs 0 Done (writePattern st find cross trail p)
-      p-cost (pattern b es) f = es-cost es _ (omega (arith, elements_size b es))
+      p_cost : (p : Pattern) → ImageSized p → Costs 0 Done (write_pattern st find cross trail p)
+      p_cost (pattern b es) f = es_cost es _ (omega (arith, elements_size b es))
 
-      es-cost : (es : Elements) (iso : Bool) → 3 * length (encElements es) ≤ most → Costs 0 Done (writeElements st find cross trail es iso)
-      es-cost no_more iso f = ret_cost tt
-      es-cost (more e es) iso f = none_then (e-cost e iso (omega (arith, more_size e es))) (es-cost es iso (omega (arith, more_size e es)))
+      es_cost : (es : Elements) (iso : Bool) → 3 * length (enc_elements es) ≤ most → Costs 0 Done (write_elements st find cross trail es iso)
+      es_cost no_more iso f = ret_cost tt
+      es_cost (more e es) iso f = none_then (e_cost e iso (omega (arith, more_size e es))) (es_cost es iso (omega (arith, more_size e es)))
 
-      e-cost : (e : Element) (iso : Bool) → 3 * length (encElement e) ≤ most → Costs 0 Done (writeElement st find cross trail e iso)
-      e-cost (text t) iso f = none_bind dirty_cost (λ d. only_cost _ (write_cost t))
-      e-cost (placeable x) iso f =
+      e_cost : (e : Element) (iso : Bool) → 3 * length (enc_element e) ≤ most → Costs 0 Done (write_element st find cross trail e iso)
+      e_cost (text t) iso f = none_bind dirty_cost (λ d. only_cost _ (write_cost t))
+      e_cost (placeable x) iso f =
           entered_cost (mark_cost _ _)
-          (more_cost most (omega (arith, placeable_size x)) (then_none (x-cost x (omega (arith, placeable_size x))) (none_then (cut_cost _) (mark_cost _ _))))
+          (more_cost most (omega (arith, placeable_size x)) (then_none (x_cost x (omega (arith, placeable_size x))) (none_then (cut_cost _) (mark_cost _ _))))
 
-      x-cost : (x : Expression) → 3 * length (encExpression x) ≤ most
-          → Costs (3 * length (encExpression x)) Done (writeExpression st find cross trail x)
-      x-cost (inline x) f = more_cost (3 * length (encExpression (inline x))) (omega (arith, inline_size x)) (i-cost x (omega (arith, inline_size x)))
-      x-cost (select x vs) f =
-          more_cost (3 * length (encExpression (select x vs))) (omega (arith, select_size x vs))
-          (bind_cost (release_cost (h-cost x (omega (arith, select_size x vs)))) (λ v. n-cost vs _ (omega (arith, select_size x vs))))
+      x_cost : (x : Expression) → 3 * length (enc_expression x) ≤ most
+          → Costs (3 * length (enc_expression x)) Done (write_expression st find cross trail x)
+      x_cost (inline x) f = more_cost (3 * length (enc_expression (inline x))) (omega (arith, inline_size x)) (i_cost x (omega (arith, inline_size x)))
+      x_cost (select x vs) f =
+          more_cost (3 * length (enc_expression (select x vs))) (omega (arith, select_size x vs))
+          (bind_cost (release_cost (h_cost x (omega (arith, select_size x vs)))) (λ v. n_cost vs _ (omega (arith, select_size x vs))))
 
-      n-cost : (vs : Variants) (n : Option ℕ) → 3 * length (encVariants vs) ≤ most → Costs 3 Done (writeNth st find cross trail vs n)
-      n-cost no_variant none f = more_cost 3 (omega (arith, small_length.0)) (report_cost missingDefault)
-      n-cost no_variant (some n) f = more_cost 3 (omega arith) (ret_cost tt)
-      n-cost (or v vs) none f = more_cost 3 (omega (arith, small_length.0)) (report_cost missingDefault)
-      n-cost (or v vs) (some zero) f = more_cost 3 (omega arith) (v-cost v (omega (arith, or_size v vs)))
-      n-cost (or v vs) (some (suc n)) f = n-cost vs (some n) (omega (arith, or_size v vs))
+      n_cost : (vs : Variants) (n : Option ℕ) → 3 * length (enc_variants vs) ≤ most → Costs 3 Done (write_nth st find cross trail vs n)
+      n_cost no_variant none f = more_cost 3 (omega (arith, small_length.0)) (report_cost missing_default)
+      n_cost no_variant (some n) f = more_cost 3 (omega arith) (ret_cost tt)
+      n_cost (or v vs) none f = more_cost 3 (omega (arith, small_length.0)) (report_cost missing_default)
+      n_cost (or v vs) (some zero) f = more_cost 3 (omega arith) (v_cost v (omega (arith, or_size v vs)))
+      n_cost (or v vs) (some (suc n)) f = n_cost vs (some n) (omega (arith, or_size v vs))
 
-      v-cost : (v : Variant) → 3 * length (encVariant v) ≤ most → Costs 0 Done (writeVariant st find cross trail v)
-      v-cost (variant k d p) f = p-cost p (omega (arith, variant_size k d p))
+      v_cost : (v : Variant) → 3 * length (enc_variant v) ≤ most → Costs 0 Done (write_variant st find cross trail v)
+      v_cost (variant k d p) f = p_cost p (omega (arith, variant_size k d p))
 
-      i-cost : (x : Inline) → 3 * length (encInline x) ≤ most → Costs (3 * length (encInline x)) Done (writeInline st find cross trail x)
-      i-cost (Inline.string t) f = more_cost (3 * length (encInline (Inline.string t))) (omega arith) (write_cost _)
-      i-cost (Inline.number t) f = more_cost (3 * length (encInline (Inline.number t))) (omega arith) (write_cost _)
-      i-cost (variable i) f =
-          more_cost (3 * length (encInline (variable i))) (omega (arith, variable_size i)) (bind_none (variable_cost _ i) (λ v. variable_text_cost i v))
-      i-cost (Inline.function i xs ns) f =
-          more_cost (3 * length (encInline (Inline.function i xs ns))) (omega (arith, function_size i xs ns))
-          (bind_cost (release_cost (bind_cost (g-cost xs ns (omega (arith, function_size i xs ns))) (λ g. function_cost find i g))) (λ v. result_cost i v))
-      i-cost (Inline.message i a) f = more_cost (3 * length (encInline (Inline.message i a))) (omega (arith, message_size i a)) (message-cost i a)
-      i-cost (Inline.term i a r) f =
-          more_cost (3 * length (encInline (Inline.term i a r))) (omega (arith, term_size i a r))
-          (release_cost (bind_cost (a-cost r (omega (arith, term_size i a r))) (λ g. term-cost i a g.named)))
-      i-cost (nested x) f = more_cost (3 * length (encInline (nested x))) (omega (arith, nested_size x)) (x-cost x (omega (arith, nested_size x)))
+      i_cost : (x : Inline) → 3 * length (enc_inline x) ≤ most → Costs (3 * length (enc_inline x)) Done (write_inline st find cross trail x)
+      i_cost (Inline.string t) f = more_cost (3 * length (enc_inline (Inline.string t))) (omega arith) (write_cost _)
+      i_cost (Inline.number t) f = more_cost (3 * length (enc_inline (Inline.number t))) (omega arith) (write_cost _)
+      i_cost (variable i) f =
+          more_cost (3 * length (enc_inline (variable i))) (omega (arith, variable_size i)) (bind_none (variable_cost _ i) (λ v. variable_text_cost i v))
+      i_cost (Inline.function i xs ns) f =
+          more_cost (3 * length (enc_inline (Inline.function i xs ns))) (omega (arith, function_size i xs ns))
+          (bind_cost (release_cost (bind_cost (g_cost xs ns (omega (arith, function_size i xs ns))) (λ g. function_cost find i g))) (λ v. result_cost i v))
+      i_cost (Inline.message i a) f = more_cost (3 * length (enc_inline (Inline.message i a))) (omega (arith, message_size i a)) (message_cost i a)
+      i_cost (Inline.term i a r) f =
+          more_cost (3 * length (enc_inline (Inline.term i a r))) (omega (arith, term_size i a r))
+          (release_cost (bind_cost (a_cost r (omega (arith, term_size i a r))) (λ g. term_cost i a g.named)))
+      i_cost (nested x) f = more_cost (3 * length (enc_inline (nested x))) (omega (arith, nested_size x)) (x_cost x (omega (arith, nested_size x)))
 
-      h-cost : (x : Inline) → 3 * length (encInline x) ≤ most → Costs (3 * length (encInline x)) Value (resolveInline st find cross trail x)
-      h-cost (Inline.string t) f = more_cost (3 * length (encInline (Inline.string t))) (omega arith) (string_cost t)
-      h-cost (Inline.number t) f = more_cost (3 * length (encInline (Inline.number t))) (omega arith) (ret_cost _)
-      h-cost (variable i) f =
-          more_cost (3 * length (encInline (variable i))) (omega (arith, variable_size i)) (bind_none (variable_cost _ i) (λ v. or_wrong_cost v))
-      h-cost (Inline.function i xs ns) f =
-          more_cost (3 * length (encInline (Inline.function i xs ns))) (omega (arith, function_size i xs ns))
-          (bind_none (release_cost (bind_cost (g-cost xs ns (omega (arith, function_size i xs ns))) (λ g. function_cost find i g))) (λ v. or_wrong_cost v))
-      h-cost (Inline.message i a) f =
-          more_cost (3 * length (encInline (Inline.message i a))) (omega (arith, message_size i a)) (held_cost (capture_cost (message-cost i a)))
-      h-cost (Inline.term i a r) f =
-          more_cost (3 * length (encInline (Inline.term i a r))) (omega (arith, term_size i a r))
-          (held_cost (capture_cost (release_cost (bind_cost (a-cost r (omega (arith, term_size i a r))) (λ g. term-cost i a g.named)))))
-      h-cost (nested x) f =
-          more_cost (3 * length (encInline (nested x))) (omega (arith, nested_size x)) (held_cost (capture_cost (x-cost x (omega (arith, nested_size x)))))
+      h_cost : (x : Inline) → 3 * length (enc_inline x) ≤ most → Costs (3 * length (enc_inline x)) Value (resolve_inline st find cross trail x)
+      h_cost (Inline.string t) f = more_cost (3 * length (enc_inline (Inline.string t))) (omega arith) (string_cost t)
+      h_cost (Inline.number t) f = more_cost (3 * length (enc_inline (Inline.number t))) (omega arith) (ret_cost _)
+      h_cost (variable i) f =
+          more_cost (3 * length (enc_inline (variable i))) (omega (arith, variable_size i)) (bind_none (variable_cost _ i) (λ v. or_wrong_cost v))
+      h_cost (Inline.function i xs ns) f =
+          more_cost (3 * length (enc_inline (Inline.function i xs ns))) (omega (arith, function_size i xs ns))
+          (bind_none (release_cost (bind_cost (g_cost xs ns (omega (arith, function_size i xs ns))) (λ g. function_cost find i g))) (λ v. or_wrong_cost v))
+      h_cost (Inline.message i a) f =
+          more_cost (3 * length (enc_inline (Inline.message i a))) (omega (arith, message_size i a)) (held_cost (capture_cost (message_cost i a)))
+      h_cost (Inline.term i a r) f =
+          more_cost (3 * length (enc_inline (Inline.term i a r))) (omega (arith, term_size i a r))
+          (held_cost (capture_cost (release_cost (bind_cost (a_cost r (omega (arith, term_size i a r))) (λ g. term_cost i a g.named)))))
+      h_cost (nested x) f =
+          more_cost (3 * length (enc_inline (nested x))) (omega (arith, nested_size x)) (held_cost (capture_cost (x_cost x (omega (arith, nested_size x)))))
 
-      a-cost : (r : Arguments) → 3 * length (encArguments r) ≤ most → Costs (3 * length (encArguments r)) Given (termArguments st find cross trail r)
-      a-cost without f = more_cost (3 * length (encArguments without)) (omega arith) (ret_cost _)
-      a-cost (with-args xs ns) f =
-          more_cost (3 * length (encArguments (with-args xs ns))) (omega (arith, arguments_size xs ns)) (g-cost xs ns (omega (arith, arguments_size xs ns)))
+      a_cost : (r : Arguments) → 3 * length (enc_arguments r) ≤ most → Costs (3 * length (enc_arguments r)) Given (term_arguments st find cross trail r)
+      a_cost without f = more_cost (3 * length (enc_arguments without)) (omega arith) (ret_cost _)
+      a_cost (with_arguments xs ns) f =
+          more_cost (3 * length (enc_arguments (with_arguments xs ns))) (omega (arith, arguments_size xs ns)) (g_cost xs ns (omega (arith, arguments_size xs ns)))
 
-      g-cost : (xs : Inlines) (ns : Named) → 3 * length (encInlines xs) ≤ most
-          → Costs (3 * length (encInlines xs)) Given (getArguments st find cross trail xs ns)
-      g-cost no-inline ns f = more_cost (3 * length (encInlines no-inline)) (omega arith) (none_bind (named_cost ns) (λ n. ret_cost _))
-      g-cost (and x xs) ns f =
-          more_cost (3 * length (encInlines (and x xs))) (omega (arith, and_size x xs))
-          (bind_cost (h-cost x (omega (arith, and_size x xs))) (λ v. bind_none (g-cost xs ns (omega (arith, and_size x xs))) (λ g. ret_cost _)))
+      g_cost : (xs : Inlines) (ns : Named) → 3 * length (enc_inlines xs) ≤ most
+          → Costs (3 * length (enc_inlines xs)) Given (get_arguments st find cross trail xs ns)
+      g_cost no_inline ns f = more_cost (3 * length (enc_inlines no_inline)) (omega arith) (none_bind (named_cost ns) (λ n. ret_cost _))
+      g_cost (and x xs) ns f =
+          more_cost (3 * length (enc_inlines (and x xs))) (omega (arith, and_size x xs))
+          (bind_cost (h_cost x (omega (arith, and_size x xs))) (λ v. bind_none (g_cost xs ns (omega (arith, and_size x xs))) (λ g. ret_cost _)))
 
 -- a resolution adds no more than its placeables may
 pub resolve_cost : (st : Setting) (find : Find) → AllImageSized find → (n : ℕ) (p : Pattern) (t : Trail) → ImageSized p → Costs 0 Done (resolve st find n p t)
 unfolding resolve
 resolve_cost st find fit zero p t f = ret_cost tt
-resolve_cost st find fit (suc n) p t f = p-cost find fit (λ q u. resolve st find n q u) t (λ q u g. resolve_cost st find fit n q u g) st p f
+resolve_cost st find fit (suc n) p t f = p_cost find fit (λ q u. resolve st find n q u) t (λ q u g. resolve_cost st find fit n q u g) st p f

@@ -8,9 +8,9 @@ use native.Mathlib.Omega.{arith}
 use lib.Dec.{ltb}
 use borrow.Author.Tests.{ltb-true, ltb-false, lt-ltb, le-ltb}
 use Rattle.records.specs.Tree.{Pattern}
-use Rattle.records.specs.Errors.{Error, overriding, reference, no_value, missingDefault, cyclic, tooManyPlaceables}
+use Rattle.records.specs.Errors.{Error, overriding, reference, no_value, missing_default, cyclic, too_many_placeables}
 use Rattle.entries.specs.Lookup.{Holder, Find}
-use Rattle.resolution.specs.Effect.{Bytes, Effect, report, expand, unfound, open-text, keep-text, free, Trace, State, M, Done, ret, ◌>>=◌, ◌>>◌, emit, write, is_dirty, get_locals, set_locals, max_placeables, enter_if, enter, only_if, entered, capture, release}
+use Rattle.resolution.specs.Effect.{Bytes, Effect, report, expand, unfound, open_text, keep_text, free, Trace, State, M, Done, ret, ◌>>=◌, ◌>>◌, emit, write, is_dirty, get_locals, set_locals, max_placeables, enter_if, enter, only_if, entered, capture, release}
 use Rattle.resolution.specs.Resolve.{Setting, Trail, look_for, look_up, resolve}
 use Rattle.theorems.proofs.Walk.{Rel, Closed, Plain, r_resolve}
 use Rattle.theorems.proofs.Tally.{is_begin, is_expand, is_over, tally, tally_append}
@@ -95,16 +95,16 @@ plain_report : (e : Error) → Plain e → (s : State) → Ok s → Counted s (r
 plain_report (overriding k i) p = quiet _ refl refl refl
 plain_report (reference k i a) p = quiet _ refl refl refl
 plain_report (no_value i) p = quiet _ refl refl refl
-plain_report missingDefault p = quiet _ refl refl refl
+plain_report missing_default p = quiet _ refl refl refl
 plain_report cyclic p = quiet _ refl refl refl
-plain_report tooManyPlaceables p = absurd p
+plain_report too_many_placeables p = absurd p
 
 counts_capture : (m : M Done) → Counts Done m m → Counts Bytes (capture m) (capture m)
 unfolding capture
 counts_capture m h s o =
     let r : Counted s (m s).trace (m s).state = h s o in
-    follows (open-text ∷ []) ((m s).trace ++ (keep-text ∷ [])) s s (m s).state (quiet _ refl refl refl s o)
-    (follows (m s).trace (keep-text ∷ []) s (m s).state (m s).state r (quiet _ refl refl refl _ r.ok))
+    follows (open_text ∷ []) ((m s).trace ++ (keep_text ∷ [])) s s (m s).state (quiet _ refl refl refl s o)
+    (follows (m s).trace (keep_text ∷ []) s (m s).state (m s).state r (quiet _ refl refl refl _ r.ok))
 
 counts_release : {A : Type 0} (m : M A) → Counts A m m → Counts A (release m) (release m)
 unfolding release

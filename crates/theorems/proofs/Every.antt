@@ -48,65 +48,65 @@ module _ (G : Pattern → Type 0) where
   InHolder (Holder.entry e) = InEntry G e
   InHolder Holder.function = Unit {0}
 
-  in-first : (i : List ℕ) (es : List Entry) → All (InEntry G) es → IfAny InHolder (first_entry i es)
+  in_first : (i : List ℕ) (es : List Entry) → All (InEntry G) es → IfAny InHolder (first_entry i es)
   unfolding first_entry
-  in-first i [] h = tt
-  in-first i (e ∷ es) h = either_any InHolder _ _ (only_any InHolder (same_bytes e.id i) (Holder.entry e) h.0) (in-first i es h.1)
+  in_first i [] h = tt
+  in_first i (e ∷ es) h = either_any InHolder _ _ (only_any InHolder (same_bytes e.id i) (Holder.entry e) h.0) (in_first i es h.1)
 
-  in-last : (i : List ℕ) (es : List Entry) → All (InEntry G) es → IfAny InHolder (last_entry i es)
+  in_last : (i : List ℕ) (es : List Entry) → All (InEntry G) es → IfAny InHolder (last_entry i es)
   unfolding last_entry
-  in-last i [] h = tt
-  in-last i (e ∷ es) h = either_any InHolder _ _ (in-last i es h.1) (only_any InHolder (same_bytes e.id i) (Holder.entry e) h.0)
+  in_last i [] h = tt
+  in_last i (e ∷ es) h = either_any InHolder _ _ (in_last i es h.1) (only_any InHolder (same_bytes e.id i) (Holder.entry e) h.0)
 
   in_after : (x : Item) → InItem G x → (i : List ℕ) (o : Option Holder) → IfAny InHolder o → IfAny InHolder (holder_after x i o)
   unfolding holder_after
-  in_after (Item.plain es) h i o k = either_any InHolder o _ k (in-first i es h)
-  in_after (Item.overriding es) h i o k = either_any InHolder _ o (in-last i es h) k
+  in_after (Item.plain es) h i o k = either_any InHolder o _ k (in_first i es h)
+  in_after (Item.overriding es) h i o k = either_any InHolder _ o (in_last i es h) k
   in_after (Item.function n) h i o k = either_any InHolder o _ k (only_any InHolder (same_bytes n i) Holder.function tt)
 
-  in-from : (xs : List Item) → All (InItem G) xs → (i : List ℕ) (o : Option Holder) → IfAny InHolder o → IfAny InHolder (find_from xs i o)
+  in_from : (xs : List Item) → All (InItem G) xs → (i : List ℕ) (o : Option Holder) → IfAny InHolder o → IfAny InHolder (find_from xs i o)
   unfolding find_from
-  in-from [] h i o k = k
-  in-from (x ∷ xs) h i o k = in-from xs h.1 i (holder_after x i o) (in_after x h.0 i o k)
+  in_from [] h i o k = k
+  in_from (x ∷ xs) h i o k = in_from xs h.1 i (holder_after x i o) (in_after x h.0 i o k)
 
   -- what holds of every pattern of the items holds of those of the entry that an id has
-  pub in-found : (xs : List Item) → All (InItem G) xs → (i : List ℕ) (e : Entry) → find_in xs i ≡ some (Holder.entry e) → InEntry G e
+  pub in_found : (xs : List Item) → All (InItem G) xs → (i : List ℕ) (e : Entry) → find_in xs i ≡ some (Holder.entry e) → InEntry G e
   unfolding find_in
-  in-found xs h i e q = subst (IfAny InHolder) q (in-from xs h i none tt)
+  in_found xs h i e q = subst (IfAny InHolder) q (in_from xs h i none tt)
 
-  in-attribute : (a : List ℕ) (l : List Attribute) → All (λ (x : Attribute). G x.1) l → IfAny G (first_named a l)
+  in_attribute : (a : List ℕ) (l : List Attribute) → All (λ (x : Attribute). G x.1) l → IfAny G (first_named a l)
   unfolding first_named
-  in-attribute a [] h = tt
-  in-attribute a (x ∷ l) h = either_any G _ _ (only_any G (same_bytes x.0 a) x.1 h.0) (in-attribute a l h.1)
+  in_attribute a [] h = tt
+  in_attribute a (x ∷ l) h = either_any G _ _ (only_any G (same_bytes x.0 a) x.1 h.0) (in_attribute a l h.1)
 
-  in-any : (a : Option (List ℕ)) (e : Entry) → InEntry G e → IfAny G (part_of a e)
+  in_any : (a : Option (List ℕ)) (e : Entry) → InEntry G e → IfAny G (part_of a e)
   unfolding part_of
-  in-any none e h = h.0
-  in-any (some a) e h = in-attribute a e.attributes h.1
+  in_any none e h = h.0
+  in_any (some a) e h = in_attribute a e.attributes h.1
 
   -- and so of the part that a reference names
-  pub in-part : (a : Option (List ℕ)) (e : Entry) (p : Pattern) → InEntry G e → part_of a e ≡ some p → G p
-  in-part a e p h q = subst (IfAny G) q (in-any a e h)
+  pub in_part : (a : Option (List ℕ)) (e : Entry) (p : Pattern) → InEntry G e → part_of a e ≡ some p → G p
+  in_part a e p h q = subst (IfAny G) q (in_any a e h)
 
 -- what follows of each pattern follows of all patterns of the items
 module _ (G H K : Pattern → Type 0) (f : (p : Pattern) → G p → H p → K p) where
-  any-both : (o : Option Pattern) → IfAny G o → IfAny H o → IfAny K o
-  any-both none h k = tt
-  any-both (some p) h k = f p h k
+  any_both : (o : Option Pattern) → IfAny G o → IfAny H o → IfAny K o
+  any_both none h k = tt
+  any_both (some p) h k = f p h k
 
-  entry-both : (e : Entry) → InEntry G e → InEntry H e → InEntry K e
-  entry-both e h k = (
-    any-both e.value h.0 k.0,
+  entry_both : (e : Entry) → InEntry G e → InEntry H e → InEntry K e
+  entry_both e h k = (
+    any_both e.value h.0 k.0,
     all_both (λ (a : Attribute). G a.1) (λ (a : Attribute). H a.1) (λ (a : Attribute). K a.1) (λ a x y. f a.1 x y) e.attributes h.1 k.1,
   )
 
-  item-both : (x : Item) → InItem G x → InItem H x → InItem K x
-  item-both (Item.plain es) h k = all_both (InEntry G) (InEntry H) (InEntry K) entry-both es h k
-  item-both (Item.overriding es) h k = all_both (InEntry G) (InEntry H) (InEntry K) entry-both es h k
-  item-both (Item.function i) h k = tt
+  item_both : (x : Item) → InItem G x → InItem H x → InItem K x
+  item_both (Item.plain es) h k = all_both (InEntry G) (InEntry H) (InEntry K) entry_both es h k
+  item_both (Item.overriding es) h k = all_both (InEntry G) (InEntry H) (InEntry K) entry_both es h k
+  item_both (Item.function i) h k = tt
 
-  pub items-both : (xs : List Item) → All (InItem G) xs → All (InItem H) xs → All (InItem K) xs
-  items-both xs h k = all_both (InItem G) (InItem H) (InItem K) item-both xs h k
+  pub items_both : (xs : List Item) → All (InItem G) xs → All (InItem H) xs → All (InItem K) xs
+  items_both xs h k = all_both (InItem G) (InItem H) (InItem K) item_both xs h k
 
 pub items_map : (G K : Pattern → Type 0) → ((p : Pattern) → G p → K p) → (xs : List Item) → All (InItem G) xs → All (InItem K) xs
-items_map G K f xs h = items-both G G K (λ p x y. f p x) xs h h
+items_map G K f xs h = items_both G G K (λ p x y. f p x) xs h h

@@ -18,16 +18,16 @@ use Rattle.growth.specs.Items.{at_front}
 use Rattle.resolution.specs.Effect.{Bytes}
 use Rattle.resolution.specs.Resolve.{Setting, as_message}
 use Rattle.resolution.specs.Exec.{Machine, Ran, ran, refused, start}
-use Rattle.resolution.specs.Format.{Answer, finished, refusedBefore, refusedRunning, Buffers, Formatted, limits_of, refuse, ended, run_pattern, format}
+use Rattle.resolution.specs.Format.{Answer, finished, refused_before, refused_running, Buffers, Formatted, limits_of, refuse, ended, run_pattern, format}
 use Rattle.theorems.specs.Finished.{trace_of, setting_of, Reached, Finished}
 use Rattle.theorems.specs.Steadiness.{slices_after, Longer, Same}
 use Rattle.theorems.specs.HighestUse.{empty, highest, arguments_use, part_use, entry_use, message_use, store_use, highest_use}
 use Rattle.theorems.specs.Figures.{FigureIs, FiguresHighest, AsLong, FinishesAlike, Decides, FiguresExact, FiguresUnchanged, ShortWorkspaces}
-use Rattle.theorems.proofs.Work.{AsWide, work-enough, work_short}
+use Rattle.theorems.proofs.Work.{AsWide, work_enough, work_short}
 use Rattle.theorems.proofs.Within.{within}
-use Rattle.theorems.proofs.Highest.{Resting, MessageRun, message-highest, message-starved}
+use Rattle.theorems.proofs.Highest.{Resting, MessageRun, message_highest, message_starved}
 use Rattle.theorems.proofs.Lists.{list_of_front}
-use Rattle.theorems.proofs.Judged.{Judged, run_of, reached-ends, judged}
+use Rattle.theorems.proofs.Judged.{Judged, run_of, reached_ends, judged}
 use Rattle.theorems.proofs.Parts.{parts, finish, says}
 use Rattle.theorems.proofs.Steadiness.{steadiness}
 
@@ -55,14 +55,14 @@ figures_highest s id a image b t e k u w h =
     let r = f.reached in
     let st : Setting = setting_of r.store r.arguments in
     let find : Find = find_in r.store.items in
-    let m : MessageRun (trace_of st find r.part) start f.machine = message-highest (limits_of b) st find r.part start start_rests f.machine f.runs in
+    let m : MessageRun (trace_of st find r.part) start f.machine = message_highest (limits_of b) st find r.part start start_rests f.machine f.runs in
     omega (arith, (says s id a image b f t e k u w h).work, m.high, reached_use s id a image b r)
 
 -- a figure is n, where every figure that is answered is
 pub figure_is : (x : Answer) (n : ℕ) → ((t e k u w : ℕ) → x ≡ finished t e k u w → w ≡ n) → FigureIs x n
 figure_is (finished t e k u w) n h = h t e k u w refl
-figure_is (refusedBefore c) n h = tt
-figure_is (refusedRunning c) n h = tt
+figure_is (refused_before c) n h = tt
+figure_is (refused_running c) n h = tt
 
 -- so of every answer
 pub answers_highest : (s id : Bytes) (a : Option Bytes) (image : Bytes) (b : Buffers) → FigureIs (format s id a image b).answer (highest_use s id a image)
@@ -116,7 +116,7 @@ module _ (s id : Bytes) (a : Option Bytes) (image : Bytes) (b : Buffers) (t e k 
       let y = says s id a image b f t e k u w h in
       let r = reached_again s id a image b b' l f.reached in
       let tr = trace_of (setting_of r.store r.arguments) (find_in r.store.items) r.part in
-      let g : Finished s id a image b' = record { reached = r; machine = f.machine; runs = work-enough (limits_of b) (limits_of b') (as_wide b b' l) tr start f.machine (omega (arith, y.work, le)) f.runs } in
+      let g : Finished s id a image b' = record { reached = r; machine = f.machine; runs = work_enough (limits_of b) (limits_of b') (as_wide b b' l) tr start f.machine (omega (arith, y.work, le)) f.runs } in
       let fits = within (limits_of b) (setting_of r.store r.arguments) (find_in r.store.items) r.part f.machine f.runs in
       rw (finish s id a image b f, finish s id a image b' g) (alike_end f.machine b b' t y.text fits.stated)
 
@@ -128,7 +128,7 @@ module _ (s id : Bytes) (a : Option Bytes) (image : Bytes) (b : Buffers) (t e k 
       let y = says s id a image b f t e k u w h in
       let r = reached_again s id a image b b' l f.reached in
       let tr = trace_of (setting_of r.store r.arguments) (find_in r.store.items) r.part in
-      reached-ends s id a image b' r
+      reached_ends s id a image b' r
       ∙ ap (λ (x : Ran). ended x b') (work_short (limits_of b) (limits_of b') (as_wide b b' l) tr start f.machine (omega arith) (omega (arith, y.work, lt)) f.runs)
 
 -- "A workspace of that length finishes alike, and for a figure above 0 one byte less gives 16"
@@ -163,11 +163,11 @@ figures_unchanged s oct xs bytes id a image b t e k w h =
       decides = decides_again (format s id a image) (format (slices_after xs s) id a image) b t w same (figures_exact (slices_after xs s) id a image b t e k 0 w again);
     }
 
-pub not_refused_before : (n c : ℕ) → refusedBefore n ≡ refusedRunning c → ⊥
+pub not_refused_before : (n c : ℕ) → refused_before n ≡ refused_running c → ⊥
 not_refused_before n c h = let z : ◌≡◌ {A = ℕ} 0 1 = cc in omega arith
 
 -- a run that ended in a refusal was refused with it
-ended_refused : (r : Ran) (b : Buffers) (c : ℕ) → (ended r b).answer ≡ refusedRunning c → r ≡ refused c
+ended_refused : (r : Ran) (b : Buffers) (c : ℕ) → (ended r b).answer ≡ refused_running c → r ≡ refused c
 unfolding ended
 ended_refused (ran m) b c h = absurd (let z : ◌≡◌ {A = ℕ} 0 1 = cc in omega arith)
 ended_refused (refused n) b c h = cc
@@ -180,5 +180,5 @@ short_workspaces s id a image b h = go (judged s id a image b)
     go : Judged s id a image b → length b.work < highest_use s id a image
     go (Judged.before n q) = absurd (not_refused_before n 16 (sym (ap (λ (x : Formatted). x.answer) q) ∙ h))
     go (Judged.reached r) =
-        let starved : run_of s id a image b r ≡ refused 16 = ended_refused (run_of s id a image b r) b 16 (sym (ap (λ (x : Formatted). x.answer) (reached-ends s id a image b r)) ∙ h) in
-        omega (arith, reached_use s id a image b r, message-starved (limits_of b) (setting_of r.store r.arguments) (find_in r.store.items) r.part start start_rests starved)
+        let starved : run_of s id a image b r ≡ refused 16 = ended_refused (run_of s id a image b r) b 16 (sym (ap (λ (x : Formatted). x.answer) (reached_ends s id a image b r)) ∙ h) in
+        omega (arith, reached_use s id a image b r, message_starved (limits_of b) (setting_of r.store r.arguments) (find_in r.store.items) r.part start start_rests starved)

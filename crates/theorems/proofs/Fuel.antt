@@ -9,9 +9,9 @@ use borrow.Author.Tests.{lt-ltb}
 use Rattle.records.specs.Tree.{Pattern, pattern, Elements, no_more, more, Element, text, placeable}
 use Rattle.entries.specs.Lookup.{Holder, Find}
 use Rattle.resolution.specs.Effect.{Bytes, expand, State, M, Done, ret, ◌>>=◌, ◌>>◌, emit, write, is_dirty, get_locals, set_locals, max_placeables, enter_if, enter, only_if, entered, capture, release}
-use Rattle.resolution.specs.Resolve.{Setting, Trail, look_for, look_up, writePattern, writeElements, writeElement, resolve}
+use Rattle.resolution.specs.Resolve.{Setting, Trail, look_for, look_up, write_pattern, write_elements, write_element, resolve}
 use Rattle.resolution.specs.Format.{max_patterns, fresh}
-use Rattle.theorems.proofs.Walk.{Rels, Closed, rPattern}
+use Rattle.theorems.proofs.Walk.{Rels, Closed, r_pattern}
 use Rattle.theorems.proofs.Counts.{Ok, ok_entered, ok_over}
 
 -- two actions do the same from a state, and no fewer placeables are begun after
@@ -113,31 +113,31 @@ unfolding ◌>>◌ ◌>>=◌ ret
 then_cut m n s h k = rw h (rw k)
 
 module _ (st : Setting) (find : Find) (cross : Pattern → Trail → M Done) (trail : Trail) where
-  element-cut : (e : Element) (iso : Bool) (s : State) → s.dirty ≡ true → writeElement st find cross trail e iso s ≡ ret tt s
-  unfolding writeElement
-  element-cut (text t) iso s d = text_cut _ s d
-  element-cut (placeable x) iso s d = entered_cut _ _ s d
+  element_cut : (e : Element) (iso : Bool) (s : State) → s.dirty ≡ true → write_element st find cross trail e iso s ≡ ret tt s
+  unfolding write_element
+  element_cut (text t) iso s d = text_cut _ s d
+  element_cut (placeable x) iso s d = entered_cut _ _ s d
 
-  elements-cut : (es : Elements) (iso : Bool) (s : State) → s.dirty ≡ true → writeElements st find cross trail es iso s ≡ ret tt s
-  unfolding writeElements
-  elements-cut no_more iso s d = refl
-  elements-cut (more e es) iso s d = then_cut _ _ s (element-cut e iso s d) (elements-cut es iso s d)
+  elements_cut : (es : Elements) (iso : Bool) (s : State) → s.dirty ≡ true → write_elements st find cross trail es iso s ≡ ret tt s
+  unfolding write_elements
+  elements_cut no_more iso s d = refl
+  elements_cut (more e es) iso s d = then_cut _ _ s (element_cut e iso s d) (elements_cut es iso s d)
 
-  pub pattern-cut : (p : Pattern) (s : State) → s.dirty ≡ true → writePattern st find cross trail p s ≡ ret tt s
-  unfolding writePattern
-  pattern-cut (pattern b es) s d = elements-cut es _ s d
+  pub pattern_cut : (p : Pattern) (s : State) → s.dirty ≡ true → write_pattern st find cross trail p s ≡ ret tt s
+  unfolding write_pattern
+  pattern_cut (pattern b es) s d = elements_cut es _ s d
 
 -- where depth and placeables begun make 101, one more of depth changes nothing
 pub deeper : (st : Setting) (find : Find) (n k : ℕ) → 101 ≤ n + k → (p : Pattern) (t : Trail)
     → Agree k Done (resolve st find n p t) (resolve st find (suc n) p t)
 unfolding resolve ret
 deeper st find zero k h p t = λ s o q. record {
-  same_run = pattern-cut st find _ t p s (o.over ∙ lt-ltb 100 s.begun (omega arith));
+  same_run = pattern_cut st find _ t p s (o.over ∙ lt-ltb 100 s.begun (omega arith));
   ok = o;
   up = omega arith;
 }
 deeper st find (suc n) k h p t =
-    rPattern Agree agree_closed find find (agree_look find) (λ q u. resolve st find n q u) (λ q u. resolve st find (suc n) q u) t k
+    r_pattern Agree agree_closed find find (agree_look find) (λ q u. resolve st find n q u) (λ q u. resolve st find (suc n) q u) t k
     (λ j lt q u. deeper st find n j (omega arith) q u) st p
 
 pub ok_fresh : Ok fresh

@@ -12,7 +12,7 @@ use Rattle.records.specs.Images.{Entry}
 use Rattle.records.specs.Errors.{Error}
 use Rattle.entries.specs.Lookup.{Holder, Find}
 use Rattle.resolution.specs.Effect.{Bytes, Effect, report, expand, Locals, State, M, Done, ret, ◌>>=◌, ◌>>◌, emit, write, is_dirty, get_locals, set_locals, max_placeables, enter_if, enter, only_if, entered, release}
-use Rattle.resolution.specs.Resolve.{Setting, Trail, mark, cut_short, write_ref_error, look_for, look_up, as_message, trackIf, track, onPart, messageFound, termFound, writeMessage, write_result, found_or, variable_in, get_variable, write_variable, writePattern, writeElements, writeElement, writeExpression, writeNth, writeVariant, writeInline, resolve}
+use Rattle.resolution.specs.Resolve.{Setting, Trail, mark, cut_short, write_ref_error, look_for, look_up, as_message, track_if, track, on_part, message_found, term_found, write_message, write_result, found_or, variable_in, get_variable, write_variable, write_pattern, write_elements, write_element, write_expression, write_nth, write_variant, write_inline, resolve}
 
 -- an action that keeps nothing
 abbrev pub Keepless : (A : Type 0) → M A → Type 0
@@ -125,74 +125,74 @@ variable_text_none i none = write_none _
 variable_text_none i (some v) = write_none _
 
 module _ (find : Find) (cross : Pattern → Trail → M Done) (trail : Trail) (h : (p : Pattern) (t : Trail) → Keepless Done (cross p t)) where
-  track-if-none : (b : Bool) (t : Bytes) (p : Pattern) → Keepless Done (trackIf cross trail b t p)
-  unfolding trackIf
-  track-if-none true t p = error_none _ _
-  track-if-none false t p = h p _
+  track_if_none : (b : Bool) (t : Bytes) (p : Pattern) → Keepless Done (track_if cross trail b t p)
+  unfolding track_if
+  track_if_none true t p = error_none _ _
+  track_if_none false t p = h p _
 
-  track-none : (t : Bytes) (p : Pattern) → Keepless Done (track cross trail t p)
+  track_none : (t : Bytes) (p : Pattern) → Keepless Done (track cross trail t p)
   unfolding track
-  track-none t p = track-if-none _ t p
+  track_none t p = track_if_none _ t p
 
-  part_none : (e : Error) (t : Bytes) (o : Option Pattern) → Keepless Done (onPart cross trail e t o)
-  unfolding onPart
+  part_none : (e : Error) (t : Bytes) (o : Option Pattern) → Keepless Done (on_part cross trail e t o)
+  unfolding on_part
   part_none e t none = error_none _ _
-  part_none e t (some p) = track-none t p
+  part_none e t (some p) = track_none t p
 
-  message-found-none : (i : Bytes) (a : Option Bytes) (o : Option Entry) → Keepless Done (messageFound cross trail i a o)
-  unfolding messageFound
-  message-found-none i a none = error_none _ _
-  message-found-none i a (some e) = part_none _ _ _
+  message_found_none : (i : Bytes) (a : Option Bytes) (o : Option Entry) → Keepless Done (message_found cross trail i a o)
+  unfolding message_found
+  message_found_none i a none = error_none _ _
+  message_found_none i a (some e) = part_none _ _ _
 
-  term-found-none : (i : Bytes) (a : Option Bytes) (o : Option Entry) → Keepless Done (termFound cross trail i a o)
-  unfolding termFound
-  term-found-none i a none = error_none _ _
-  term-found-none i a (some e) = part_none _ _ _
+  term_found_none : (i : Bytes) (a : Option Bytes) (o : Option Entry) → Keepless Done (term_found cross trail i a o)
+  unfolding term_found
+  term_found_none i a none = error_none _ _
+  term_found_none i a (some e) = part_none _ _ _
 
-  message-none : (i : Bytes) (a : Option Bytes) → Keepless Done (writeMessage cross trail find i a)
-  unfolding writeMessage
-  message-none i a = bind_none (look_up find i) (λ o. messageFound cross trail i a (as_message o)) (look_none find i) (λ o. message-found-none i a (as_message o))
+  message_none : (i : Bytes) (a : Option Bytes) → Keepless Done (write_message cross trail find i a)
+  unfolding write_message
+  message_none i a = bind_none (look_up find i) (λ o. message_found cross trail i a (as_message o)) (look_none find i) (λ o. message_found_none i a (as_message o))
 
   module _ (st : Setting) where
     mutual
-      unfolding writePattern
+      unfolding write_pattern
 
-      p-none : (p : Pattern) → Keepless Done (writePattern st find cross trail p)
-      p-none (pattern b es) = es-none es _
+      p_none : (p : Pattern) → Keepless Done (write_pattern st find cross trail p)
+      p_none (pattern b es) = es_none es _
 
-      es-none : (es : Elements) (iso : Bool) → Keepless Done (writeElements st find cross trail es iso)
-      es-none no_more iso = ret_none tt
-      es-none (more e es) iso = then_none _ _ (e-none e iso) (es-none es iso)
+      es_none : (es : Elements) (iso : Bool) → Keepless Done (write_elements st find cross trail es iso)
+      es_none no_more iso = ret_none tt
+      es_none (more e es) iso = then_none _ _ (e_none e iso) (es_none es iso)
 
-      e-none : (e : Element) (iso : Bool) → Keepless Done (writeElement st find cross trail e iso)
-      e-none (text t) iso = bind_none is_dirty (λ d. only_if (not d) (write t)) dirty_none (λ d. only_none _ _ (write_none t))
-      e-none (placeable x) iso = entered_none _ _ (mark_none _ _) (then_none _ _ (x-none x) (then_none _ _ (cut_none _) (mark_none _ _)))
+      e_none : (e : Element) (iso : Bool) → Keepless Done (write_element st find cross trail e iso)
+      e_none (text t) iso = bind_none is_dirty (λ d. only_if (not d) (write t)) dirty_none (λ d. only_none _ _ (write_none t))
+      e_none (placeable x) iso = entered_none _ _ (mark_none _ _) (then_none _ _ (x_none x) (then_none _ _ (cut_none _) (mark_none _ _)))
 
-      x-none : (x : Expression) → Keepless Done (writeExpression st find cross trail x)
-      x-none (inline x) = i-none x
-      x-none (select x vs) = bind_none _ _ (release_none _) (λ v. n-none vs _)
+      x_none : (x : Expression) → Keepless Done (write_expression st find cross trail x)
+      x_none (inline x) = i_none x
+      x_none (select x vs) = bind_none _ _ (release_none _) (λ v. n_none vs _)
 
-      n-none : (vs : Variants) (n : Option ℕ) → Keepless Done (writeNth st find cross trail vs n)
-      n-none no_variant none = emit_none _
-      n-none no_variant (some n) = ret_none tt
-      n-none (or v vs) none = emit_none _
-      n-none (or v vs) (some zero) = v-none v
-      n-none (or v vs) (some (suc n)) = n-none vs (some n)
+      n_none : (vs : Variants) (n : Option ℕ) → Keepless Done (write_nth st find cross trail vs n)
+      n_none no_variant none = emit_none _
+      n_none no_variant (some n) = ret_none tt
+      n_none (or v vs) none = emit_none _
+      n_none (or v vs) (some zero) = v_none v
+      n_none (or v vs) (some (suc n)) = n_none vs (some n)
 
-      v-none : (v : Variant) → Keepless Done (writeVariant st find cross trail v)
-      v-none (variant k d p) = p-none p
+      v_none : (v : Variant) → Keepless Done (write_variant st find cross trail v)
+      v_none (variant k d p) = p_none p
 
-      i-none : (x : Inline) → Keepless Done (writeInline st find cross trail x)
-      i-none (Inline.string s) = write_none _
-      i-none (Inline.number n) = write_none _
-      i-none (variable i) = bind_none (get_variable st.arguments i) (λ v. write_variable i v) (variable_none _ i) (λ v. variable_text_none i v)
-      i-none (Inline.function i xs ns) = bind_none _ _ (release_none _) (λ v. result_none i v)
-      i-none (Inline.message i a) = message-none i a
-      i-none (Inline.term i a r) = release_none _
-      i-none (nested x) = x-none x
+      i_none : (x : Inline) → Keepless Done (write_inline st find cross trail x)
+      i_none (Inline.string s) = write_none _
+      i_none (Inline.number n) = write_none _
+      i_none (variable i) = bind_none (get_variable st.arguments i) (λ v. write_variable i v) (variable_none _ i) (λ v. variable_text_none i v)
+      i_none (Inline.function i xs ns) = bind_none _ _ (release_none _) (λ v. result_none i v)
+      i_none (Inline.message i a) = message_none i a
+      i_none (Inline.term i a r) = release_none _
+      i_none (nested x) = x_none x
 
 -- a resolution keeps nothing
 pub keeps_none : (st : Setting) (find : Find) (n : ℕ) (p : Pattern) (t : Trail) → Keepless Done (resolve st find n p t)
 unfolding resolve
 keeps_none st find zero p t = ret_none tt
-keeps_none st find (suc n) p t = p-none find (λ q u. resolve st find n q u) t (λ q u. keeps_none st find n q u) st p
+keeps_none st find (suc n) p t = p_none find (λ q u. resolve st find n q u) t (λ q u. keeps_none st find n q u) st p

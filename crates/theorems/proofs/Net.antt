@@ -11,7 +11,7 @@ use Rattle.resolution.specs.Resolve.{Setting, Trail, resolve}
 use Rattle.resolution.specs.Exec.{Machine, Limits, ran, exec}
 use Rattle.theorems.specs.HighestUse.{Workspace, total, use_of, longer, highest}
 use Rattle.theorems.proofs.Spaces.{space_after, out_to, text_out, grown, Spaced, spaced}
-use Rattle.theorems.proofs.Highest.{Holds, Follows, exec-held}
+use Rattle.theorems.proofs.Highest.{Holds, Follows, exec_held}
 
 -- the part of a text that goes to the text buffer (`out_to`, by how many workspace texts are open), and the bytes of it that go to the workspace
 abbrev pub outward : ℕ → Bytes → Bytes
@@ -59,7 +59,7 @@ netted st find n p t s L m m' q =
     let o : Out Done = resolve st find n p t s in
     let w : Workspace = bare m.nest m.used in
     let a : Spaced o.trace w o.text o.kept = spaced st find n p t s w in
-    let h : Follows m m' (space_after o.trace w) (text_out o.trace w) (highest o.trace w) = exec-held L o.trace m m' w a.frees (record { nest = sym (length-replicate m.nest 0); used = omega (arith, no_bytes m.nest) }) q in
+    let h : Follows m m' (space_after o.trace w) (text_out o.trace w) (highest o.trace w) = exec_held L o.trace m m' w a.frees (record { nest = sym (length-replicate m.nest 0); used = omega (arith, no_bytes m.nest) }) q in
     let z : Holds m' (grown (length o.text) o.kept w) = subst (λ (x : Workspace). Holds m' x) a.leaves h.holds in
     record {
       level = z.nest ∙ open_grown (length o.text) (replicate m.nest 0) ∙ length-replicate m.nest 0;

@@ -30,7 +30,7 @@ use Rattle.resolution.specs.Format.{finished, Buffers, limits_of, value_of, valu
 use Rattle.theorems.specs.Finished.{reports, too_many_in, Placeables, setting_of, Finished, Sound, out_of}
 use Rattle.theorems.specs.Written.{TextWellFormed, ReadBack, ListReadBack, PlaceablesListed, AllPlaceablesListed}
 use Rattle.theorems.proofs.Within.{within}
-use Rattle.theorems.proofs.Formattings.{sound, text-taken}
+use Rattle.theorems.proofs.Formattings.{sound, text_taken}
 use Rattle.theorems.specs.Leaves.{Leaf}
 use Rattle.theorems.proofs.Every.{all_map}
 use Rattle.theorems.proofs.Ascii.{Ascii}
@@ -93,18 +93,18 @@ begun_over m p h = go (leb m.begun 100) refl
 
 module _ (s : Bytes) (os : Octets s) (id : Bytes) (a : Option Bytes) (image : Bytes) (oi : Octets image) (b : Buffers) where
   -- what resolution wrote and reported
-  parts-good : (f : Finished s id a image b) → Good Utf8 Brief Any (out_of f)
-  parts-good f =
+  parts_good : (f : Finished s id a image b) → Good Utf8 Brief Any (out_of f)
+  parts_good f =
       let v : Store = f.reached.store in
       let l : List (Bytes × Argument) = f.reached.arguments in
       let valid : ValidStore v = (store_sound s os f.reached.stored).0 in
       resolves Utf8 ValidLeaf utf8_keeps v valid (store_leaves v valid) l (image_fine l (arguments_sound oi (accepted_read image l f.reached.given).1).0) id a f.reached.entry f.reached.part f.reached.found f.reached.has
 
   module _ (t e k u w : ℕ) (h : (format s id a image b).answer ≡ finished t e k u w) where
-    utf8-finished : Utf8 (take t (format s id a image b).buffers.text)
-    utf8-finished =
+    utf8_finished : Utf8 (take t (format s id a image b).buffers.text)
+    utf8_finished =
         let r : Sound s id a image b t e k u w = sound s id a image b t e k u w h in
-        subst Utf8 (sym (text-taken s id a image b t e k u w r)) (parts-good r.parts).text
+        subst Utf8 (sym (text_taken s id a image b t e k u w r)) (parts_good r.parts).text
 
     -- the errors reported fit their records and their list
     listable : (f : Finished s id a image b) → f.machine.errors ≡ reports (out_of f).trace → Listable (reports (out_of f).trace)
@@ -112,10 +112,10 @@ module _ (s : Bytes) (os : Octets s) (id : Bytes) (a : Option Bytes) (image : By
         let m : Machine = f.machine in
         let stated : length (enc_errors m.errors) ≤ 4294967295 = (within (limits_of b) (setting_of f.reached.store f.reached.arguments) (find_in f.reached.store.items) f.reached.part m f.runs).stated in
         let size : length (enc_errors m.errors) ≡ length (enc_errors (reports (out_of f).trace)) = ap (λ (l : List Error). length (enc_errors l)) q in
-        (all_map Brief Recordable recordable (reports (out_of f).trace) (parts-good f).listed, omega (arith, stated, size))
+        (all_map Brief Recordable recordable (reports (out_of f).trace) (parts_good f).listed, omega (arith, stated, size))
 
-    read-finished : ReadBack s id a image b e
-    read-finished =
+    read_finished : ReadBack s id a image b e
+    read_finished =
         let r : Sound s id a image b t e k u w = sound s id a image b t e k u w h in
         record {
           parts = r.parts;
@@ -123,8 +123,8 @@ module _ (s : Bytes) (os : Octets s) (id : Bytes) (a : Option Bytes) (image : By
           counted = r.says.errors ∙ ap length r.errors;
         }
 
-    placeables-finished : PlaceablesListed s id a image b k
-    placeables-finished =
+    placeables_finished : PlaceablesListed s id a image b k
+    placeables_finished =
         let r : Sound s id a image b t e k u w = sound s id a image b t e k u w h in
         let m : Machine = r.parts.machine in
         let p : Placeables m = r.placeables in
@@ -145,12 +145,12 @@ module _ (s : Bytes) (os : Octets s) (id : Bytes) (a : Option Bytes) (image : By
 
 -- every finished text is well-formed
 pub text_well_formed : TextWellFormed
-text_well_formed s os id a image oi b t e k u w h = utf8-finished s os id a image oi b t e k u w h
+text_well_formed s os id a image oi b t e k u w h = utf8_finished s os id a image oi b t e k u w h
 
 -- every finished list reads back as the errors reported, in order
 pub list_read_back : ListReadBack
-list_read_back s os id a image oi b t e k u w h = read-finished s os id a image oi b t e k u w h
+list_read_back s os id a image oi b t e k u w h = read_finished s os id a image oi b t e k u w h
 
 -- the placeables of every finished formatting
 pub placeables_listed : AllPlaceablesListed
-placeables_listed s os id a image oi b t e k u w h = placeables-finished s os id a image oi b t e k u w h
+placeables_listed s os id a image oi b t e k u w h = placeables_finished s os id a image oi b t e k u w h

@@ -12,7 +12,7 @@ use Rattle.numbers.specs.Value.{Value}
 use Rattle.unescape.specs.Unescape.{unescape}
 use Rattle.records.specs.Tree.{Pattern}
 use Rattle.records.specs.Images.{Entry, Store, Argument}
-use Rattle.records.specs.Errors.{Referred, reference, no_value, missingDefault, cyclic, tooManyPlaceables}
+use Rattle.records.specs.Errors.{Referred, reference, no_value, missing_default, cyclic, too_many_placeables}
 use Rattle.records.specs.Valid.{All, IfAny, ValidId, ValidEntryPattern, ValidStore}
 use Rattle.texts.specs.ErrorList.{Brief}
 use Rattle.layout.proofs.Octets.{and_right}
@@ -21,13 +21,13 @@ use Rattle.resolution.specs.Effect.{Bytes}
 use Rattle.resolution.specs.Resolve.{bytes_of, as_message, resolve}
 use Rattle.resolution.specs.Format.{value_of, values_of, max_patterns, fresh}
 use Rattle.theorems.specs.Finished.{setting_of}
-use Rattle.theorems.specs.Leaves.{Leaf, leavesOf, InLeaves, InItems}
+use Rattle.theorems.specs.Leaves.{Leaf, leaves_of, InLeaves, InItems}
 use Rattle.theorems.proofs.Held.{message_held, term_held}
-use Rattle.theorems.proofs.Every.{all_both, in-found, in-part}
+use Rattle.theorems.proofs.Every.{all_both, in_found, in_part}
 use Rattle.theorems.proofs.Ascii.{Ascii}
 use Rattle.theorems.proofs.Valid.{ValidLeaf, leaves_valid, valid_ascii, valid_any_ascii, store_patterns}
-use Rattle.theorems.proofs.WalkLeaves.{Any, Fine, GoodLeaf, FineNamed, kResolve}
-use Rattle.theorems.proofs.Written.{Joins, Good, Goods, goods-closed, goods-look}
+use Rattle.theorems.proofs.WalkLeaves.{Any, Fine, GoodLeaf, FineNamed, k_resolve}
+use Rattle.theorems.proofs.Written.{Joins, Good, Goods, goods_closed, goods_look}
 
 -- errors whose Ids are Ids
 id_brief : (i : Bytes) → ValidId i → length i ≤ 255
@@ -43,7 +43,7 @@ no_value_brief : (i : Bytes) → ValidId i → Brief (no_value i)
 unfolding Brief
 no_value_brief i h = id_brief i h
 
-plain_brief : Brief missingDefault × Brief cyclic × Brief tooManyPlaceables
+plain_brief : Brief missing_default × Brief cyclic × Brief too_many_placeables
 unfolding Brief
 plain_brief = (tt, tt, tt)
 
@@ -67,28 +67,28 @@ module _ (T : Bytes → Type 0) (U : Leaf → Type 0) (keeps : Keeps T U) (v : S
   abbrev Asked : Pattern → Type 0
   Asked q = ValidEntryPattern q × InLeaves U q
 
-  found-asked : (i : Bytes) (a : Option Bytes) (e : Entry) (q : Pattern) → find_in v.items i ≡ some (Holder.entry e) → part_of a e ≡ some q → Asked q
-  found-asked i a e q h k = (
-    in-part ValidEntryPattern a e q (in-found ValidEntryPattern v.items (store_patterns v valid) i e h) k,
-    in-part (InLeaves U) a e q (in-found (InLeaves U) v.items leaves i e h) k,
+  found_asked : (i : Bytes) (a : Option Bytes) (e : Entry) (q : Pattern) → find_in v.items i ≡ some (Holder.entry e) → part_of a e ≡ some q → Asked q
+  found_asked i a e q h k = (
+    in_part ValidEntryPattern a e q (in_found ValidEntryPattern v.items (store_patterns v valid) i e h) k,
+    in_part (InLeaves U) a e q (in_found (InLeaves U) v.items leaves i e h) k,
   )
 
   module _ (l : List (Bytes × Value)) where
     abbrev Leafy : Leaf → Type 0
     Leafy x = GoodLeaf T Brief l (find_in v.items) Asked x
 
-    leaf-good : (x : Leaf) → ValidLeaf x → U x → Leafy x
-    leaf-good (Leaf.text t) h k = keeps.texts t h k
-    leaf-good (Leaf.string s) h k = keeps.strings s h k
-    leaf-good (Leaf.variable i) h k = (valid_ascii i h, λ e. reference_brief Referred.variable i none h tt)
-    leaf-good (Leaf.function i) h k = (valid_ascii i h, reference_brief Referred.function i none h tt)
-    leaf-good (Leaf.message i a) h k =
-        (valid_ascii i h.0, valid_any_ascii a h.1, reference_brief Referred.message i a h.0 h.1, no_value_brief i h.0, λ e q f z. found-asked i a e q (message_held _ e f) z)
-    leaf-good (Leaf.term i a) h k =
-        (valid_ascii i h.0, valid_any_ascii a h.1, reference_brief Referred.term i a h.0 h.1, λ e q f z. found-asked i a e q (term_held _ e f) z)
+    leaf_good : (x : Leaf) → ValidLeaf x → U x → Leafy x
+    leaf_good (Leaf.text t) h k = keeps.texts t h k
+    leaf_good (Leaf.string s) h k = keeps.strings s h k
+    leaf_good (Leaf.variable i) h k = (valid_ascii i h, λ e. reference_brief Referred.variable i none h tt)
+    leaf_good (Leaf.function i) h k = (valid_ascii i h, reference_brief Referred.function i none h tt)
+    leaf_good (Leaf.message i a) h k =
+        (valid_ascii i h.0, valid_any_ascii a h.1, reference_brief Referred.message i a h.0 h.1, no_value_brief i h.0, λ e q f z. found_asked i a e q (message_held _ e f) z)
+    leaf_good (Leaf.term i a) h k =
+        (valid_ascii i h.0, valid_any_ascii a h.1, reference_brief Referred.term i a h.0 h.1, λ e q f z. found_asked i a e q (term_held _ e f) z)
 
-    pattern-good : (q : Pattern) → Asked q → All Leafy (leavesOf q)
-    pattern-good q h = all_both ValidLeaf U Leafy leaf-good (leavesOf q) (leaves_valid q h.0) h.1
+    pattern_good : (q : Pattern) → Asked q → All Leafy (leaves_of q)
+    pattern_good q h = all_both ValidLeaf U Leafy leaf_good (leaves_of q) (leaves_valid q h.0) h.1
 
   -- a message or attribute, given arguments whose texts are as T asks
   pub resolves : (l : List (Bytes × Argument)) → All (FineNamed T) (values_of l)
@@ -96,5 +96,5 @@ module _ (T : Bytes → Type 0) (U : Leaf → Type 0) (keeps : Keeps T U) (v : S
       → Good T Brief Any (resolve (setting_of v l) (find_in v.items) max_patterns p (bytes_of p ∷ []) fresh)
   unfolding fresh
   resolves l fine id a e p f k =
-      kResolve T Brief (Goods T Brief) (goods-closed T Brief keeps.joins plain_brief.2) keeps.ascii plain_brief.1 plain_brief.0 (values_of l) fine (find_in v.items) Asked (goods-look T Brief keeps.joins plain_brief.2 (find_in v.items))
-      (pattern-good (values_of l)) v.locale v.isolating max_patterns p (found-asked id a e p (message_held _ e f) k) (bytes_of p ∷ []) fresh tt
+      k_resolve T Brief (Goods T Brief) (goods_closed T Brief keeps.joins plain_brief.2) keeps.ascii plain_brief.1 plain_brief.0 (values_of l) fine (find_in v.items) Asked (goods_look T Brief keeps.joins plain_brief.2 (find_in v.items))
+      (pattern_good (values_of l)) v.locale v.isolating max_patterns p (found_asked id a e p (message_held _ e f) k) (bytes_of p ∷ []) fresh tt

@@ -6,7 +6,7 @@ use Prim.Native.Nat.{ℕ, zero, suc, ◌+◌, ◌<◌}
 use native.Mathlib.Omega.{arith}
 use lib.Dec.{leb}
 use borrow.Author.Tests.{leb-false}
-use Rattle.resolution.specs.Effect.{Bytes, Effect, put, report, begin, expand, unfound, open-text, keep-text, free, merged, Trace}
+use Rattle.resolution.specs.Effect.{Bytes, Effect, put, report, begin, expand, unfound, open_text, keep_text, free, merged, Trace}
 use Rattle.resolution.specs.Exec.{Machine, Limits, Ran, ran, refused, allow_if, allow, put_text, put_work, put_at, listed, step, and_then, exec}
 use Rattle.theorems.specs.Finished.{reported, reports}
 use Rattle.theorems.proofs.Tally.{is_begin, is_expand, is_unfound, tally}
@@ -113,8 +113,8 @@ step_counted L (report e) m m' h =
 step_counted L begin m m' h = unlisted _ m _ m' (same_machine _ m' h) refl refl (omega arith) (omega arith) (omega arith)
 step_counted L expand m m' h = unlisted _ m _ m' (same_machine _ m' h) refl refl (omega arith) (omega arith) (omega arith)
 step_counted L unfound m m' h = unlisted _ m _ m' (same_machine _ m' h) refl refl (omega arith) (omega arith) (omega arith)
-step_counted L open-text m m' h = unlisted _ m _ m' (same_machine _ m' h) refl refl (omega arith) (omega arith) (omega arith)
-step_counted L keep-text m m' h = unlisted _ m _ m' (same_machine _ m' h) refl refl (omega arith) (omega arith) (omega arith)
+step_counted L open_text m m' h = unlisted _ m _ m' (same_machine _ m' h) refl refl (omega arith) (omega arith) (omega arith)
+step_counted L keep_text m m' h = unlisted _ m _ m' (same_machine _ m' h) refl refl (omega arith) (omega arith) (omega arith)
 step_counted L (free n) m m' h = unlisted _ m _ m' (same_machine _ m' h) refl refl (omega arith) (omega arith) (omega arith)
 step_counted L (merged n) m m' h = unlisted _ m _ m' (allowed _ _ _ _ m' h) refl refl (omega arith) (omega arith) (omega arith)
 

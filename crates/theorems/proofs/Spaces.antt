@@ -10,7 +10,7 @@ use lib.ListN.{length, length-append}
 use lib.Dec.{ltb}
 use Rattle.records.specs.Tree.{Pattern}
 use Rattle.entries.specs.Lookup.{Holder, Find}
-use Rattle.resolution.specs.Effect.{Bytes, Effect, put, report, begin, expand, unfound, open-text, keep-text, free, merged, Trace, State, M, Done, ret, ◌>>=◌, ◌>>◌, emit, write, is_dirty, get_locals, set_locals, max_placeables, enter_if, enter, only_if, entered, capture, release}
+use Rattle.resolution.specs.Effect.{Bytes, Effect, put, report, begin, expand, unfound, open_text, keep_text, free, merged, Trace, State, M, Done, ret, ◌>>=◌, ◌>>◌, emit, write, is_dirty, get_locals, set_locals, max_placeables, enter_if, enter, only_if, entered, capture, release}
 use Rattle.resolution.specs.Resolve.{Setting, Trail, bytes_of, look_for, look_up, resolve}
 use Rattle.resolution.specs.Format.{max_patterns, fresh}
 use Rattle.theorems.specs.Finished.{trace_of}
@@ -30,8 +30,8 @@ Freeable (report e) w = Unit {0}
 Freeable begin w = Unit {0}
 Freeable expand w = Unit {0}
 Freeable unfound w = Unit {0}
-Freeable open-text w = Unit {0}
-Freeable keep-text w = Unit {0}
+Freeable open_text w = Unit {0}
+Freeable keep_text w = Unit {0}
 Freeable (free n) w = n ≤ w.back
 Freeable (merged n) w = Unit {0}
 
@@ -50,8 +50,8 @@ put_out (report e) f = []
 put_out begin f = []
 put_out expand f = []
 put_out unfound f = []
-put_out open-text f = []
-put_out keep-text f = []
+put_out open_text f = []
+put_out keep_text f = []
 put_out (free n) f = []
 put_out (merged n) f = []
 
@@ -159,11 +159,11 @@ spaces_capture x h s w =
     let v : Workspace = record { front = 0 ∷ w.front; back = w.back } in
     let p : Spaced r.trace v r.text r.kept = h s v in
     record {
-      frees = (tt, frees_append r.trace (keep-text ∷ []) v p.frees (tt, tt));
+      frees = (tt, frees_append r.trace (keep_text ∷ []) v p.frees (tt, tt));
       leaves =
-          after_append r.trace (keep-text ∷ []) v ∙ ap (λ (u : Workspace). workspace_after keep-text u) p.leaves
+          after_append r.trace (keep_text ∷ []) v ∙ ap (λ (u : Workspace). workspace_after keep_text u) p.leaves
           ∙ same_space _ _ _ _ (sym (longer_none w.front)) (omega arith);
-      writes = out_append r.trace (keep-text ∷ []) v ∙ append-nil _ ∙ p.writes ∙ sym (out_none w.front);
+      writes = out_append r.trace (keep_text ∷ []) v ∙ append-nil _ ∙ p.writes ∙ sym (out_none w.front);
     }
 
 spaces_release : {A : Type 0} (x : M A) → Spaces A x x → Spaces A (release x) (release x)

@@ -18,7 +18,7 @@ use Rattle.growth.specs.Items.{at_front}
 use Rattle.bundle.specs.Additions.{refuse, add_resource, add_function}
 use Rattle.bundle.specs.Growth.{Accepted}
 use Rattle.entries.proofs.Holders.{Extends, FirstWins, AllFirstWins, extends}
-use Rattle.bundle.proofs.Accepted.{resource-accepted, resource_refused, function-accepted, function_refused}
+use Rattle.bundle.proofs.Accepted.{resource_accepted, resource_refused, function_accepted, function_refused}
 use Rattle.resolution.specs.Effect.{Bytes}
 use Rattle.resolution.specs.Resolve.{as_message}
 use Rattle.resolution.specs.Exec.{Machine, ran}
@@ -28,7 +28,7 @@ use Rattle.theorems.specs.Steadiness.{Addition, InBytes, AllInBytes, added_by, s
 use Rattle.theorems.proofs.Held.{message_held}
 use Rattle.theorems.proofs.Wider.{Wider}
 use Rattle.theorems.proofs.Parts.{parts, finish, says}
-use Rattle.theorems.proofs.Whole.{whole-steady}
+use Rattle.theorems.proofs.Whole.{whole_steady}
 use Rattle.theorems.proofs.Lists.{list_of_front}
 use Rattle.theorems.proofs.Within.{within}
 use Rattle.theorems.proofs.Formattings.{sound}
@@ -76,12 +76,12 @@ unfolding slice_after added_by refuse
 one_extends (Addition.resource image list) b v used s oct h = go (add_resource s image list).answer refl
   where
     go : (a : adding.Answer) → (add_resource s image list).answer ≡ a → Extended v (add_resource s image list).slice
-    go (adding.done n) q = accepted_extends v used s _ _ tt h (resource-accepted s image oct b list n q).accepted
+    go (adding.done n) q = accepted_extends v used s _ _ tt h (resource_accepted s image oct b list n q).accepted
     go (adding.refused k) q = rw (resource_refused s image list k q) (unchanged v s used h)
 one_extends (Addition.function id code) b v used s oct h = go (add_function s id code).answer refl
   where
     go : (a : adding.Answer) → (add_function s id code).answer ≡ a → Extended v (add_function s id code).slice
-    go (adding.done n) q = accepted_extends v used s _ _ tt h (function-accepted s id oct code n q)
+    go (adding.done n) q = accepted_extends v used s _ _ tt h (function_accepted s id oct code n q)
     go (adding.refused k) q = rw (function_refused s id code k q) (unchanged v s used h)
 
 -- a call leaves bytes, as many as there were, whether the slice is a store or not
@@ -91,13 +91,13 @@ one_sized (Addition.resource image list) b s oct = go (add_resource s image list
   where
     go : (a : adding.Answer) → (add_resource s image list).answer ≡ a
         → (length (add_resource s image list).slice ≡ length s) × Octets (add_resource s image list).slice
-    go (adding.done n) q = let r = (resource-accepted s image oct b list n q).accepted.grown in (r.size, r.octets)
+    go (adding.done n) q = let r = (resource_accepted s image oct b list n q).accepted.grown in (r.size, r.octets)
     go (adding.refused k) q = rw (resource_refused s image list k q) (refl, oct)
 one_sized (Addition.function id code) b s oct = go (add_function s id code).answer refl
   where
     go : (a : adding.Answer) → (add_function s id code).answer ≡ a
         → (length (add_function s id code).slice ≡ length s) × Octets (add_function s id code).slice
-    go (adding.done n) q = let r = (function-accepted s id oct code n q).grown in (r.size, r.octets)
+    go (adding.done n) q = let r = (function_accepted s id oct code n q).grown in (r.size, r.octets)
     go (adding.refused k) q = rw (function_refused s id code k q) (refl, oct)
 
 -- the whole list
@@ -154,14 +154,14 @@ module _ (s : Bytes) (oct : Octets s) (xs : List Addition) (bytes : AllInBytes x
             header = le-leb list_header (length b'.list) room;
           };
           machine = f.machine;
-          runs = whole-steady (setting_of v f.reached.arguments) (find_in v.items) f.reached.part (limits_of b) f.machine f.runs (find_in (v.items ++ e.new)) (limits_of b') more wider z;
+          runs = whole_steady (setting_of v f.reached.arguments) (find_in v.items) f.reached.part (limits_of b) f.machine f.runs (find_in (v.items ++ e.new)) (limits_of b') more wider z;
         },
         refl,
       )
 
-  same-again : (f : Finished s id a image b) → f.machine.unfounds ≡ 0
+  same_again : (f : Finished s id a image b) → f.machine.unfounds ≡ 0
       → Same (length f.machine.written) (format s id a image b) (format (slices_after xs s) id a image b')
-  same-again f z =
+  same_again f z =
       let m : Machine = f.machine in
       let g = again f z in
       let first : format s id a image b ≡ ended (ran m) b = finish s id a image b f in
@@ -173,7 +173,7 @@ pub steadiness : Steadiness
 steadiness s oct xs bytes id a image b b' longer t e n w h =
     let f : Finished s id a image b = parts s id a image b t e n 0 w h in
     let y : Says f.machine t e n 0 w = says s id a image b f t e n 0 w h in
-    let same : Same (length f.machine.written) (format s id a image b) (format (slices_after xs s) id a image b') = same-again s oct xs bytes id a image b b' longer f (sym y.unfound) in
+    let same : Same (length f.machine.written) (format s id a image b) (format (slices_after xs s) id a image b') = same_again s oct xs bytes id a image b b' longer f (sym y.unfound) in
     subst (λ (j : ℕ). Same j (format s id a image b) (format (slices_after xs s) id a image b')) (sym y.text) same
 
 -- what one addition did, accepted or refused
@@ -181,12 +181,12 @@ added_to : (x : Addition) → InBytes x → (s : Bytes) → Octets s → AddedTo
 unfolding slice_after added_by
 added_to (Addition.resource image list) b s oct = record {
   size = (one_sized (Addition.resource image list) b s oct).0;
-  accepted = λ n q. resource-accepted s image oct b list n q;
+  accepted = λ n q. resource_accepted s image oct b list n q;
   refused = λ n q. resource_refused s image list n q;
 }
 added_to (Addition.function id code) b s oct = record {
   size = (one_sized (Addition.function id code) b s oct).0;
-  accepted = λ n q. function-accepted s id oct code n q;
+  accepted = λ n q. function_accepted s id oct code n q;
   refused = λ n q. function_refused s id code n q;
 }
 

@@ -8,7 +8,7 @@ use native.Mathlib.Omega.{arith}
 use Rattle.records.specs.Tree.{Pattern}
 use Rattle.entries.specs.Lookup.{Holder, Find}
 use Rattle.entries.proofs.Holders.{Extends}
-use Rattle.resolution.specs.Effect.{Bytes, keep-text, free, State, M, Done, ◌>>=◌, ◌>>◌, only_if, entered, capture, release}
+use Rattle.resolution.specs.Effect.{Bytes, keep_text, free, State, M, Done, ◌>>=◌, ◌>>◌, only_if, entered, capture, release}
 use Rattle.resolution.specs.Resolve.{Setting, Trail, look_for, look_up, resolve}
 use Rattle.theorems.proofs.Walk.{Rel, Closed, r_resolve}
 use Rattle.theorems.proofs.Tally.{is_unfound, tally, tally_append}
@@ -29,7 +29,7 @@ steady_then h k = steady_bind h (λ a. k)
 
 steady_capture : {m m' : M Done} → Steady Done m m' → Steady Bytes (capture m) (capture m')
 unfolding capture
-steady_capture {m = m} h s cl = rw (h s (omega (arith, tally_append is_unfound (m s).trace (keep-text ∷ []))))
+steady_capture {m = m} h s cl = rw (h s (omega (arith, tally_append is_unfound (m s).trace (keep_text ∷ []))))
 
 steady_release : {A : Type 0} {m m' : M A} → Steady A m m' → Steady A (release m) (release m')
 unfolding release

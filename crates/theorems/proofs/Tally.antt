@@ -3,7 +3,7 @@ use mathlib.Core.Path.{◌≡◌}
 use mathlib.Core.List.{[], ◌∷◌, ◌++◌}
 use Prim.Native.Nat.{ℕ, ◌+◌}
 use native.Mathlib.Omega.{arith}
-use Rattle.resolution.specs.Effect.{Effect, put, report, begin, expand, unfound, open-text, keep-text, free, merged, Trace}
+use Rattle.resolution.specs.Effect.{Effect, put, report, begin, expand, unfound, open_text, keep_text, free, merged, Trace}
 use Rattle.theorems.specs.Finished.{is_too_many}
 
 abbrev pub is_begin : Effect → ℕ
@@ -12,8 +12,8 @@ is_begin (report e) = 0
 is_begin begin = 1
 is_begin expand = 0
 is_begin unfound = 0
-is_begin open-text = 0
-is_begin keep-text = 0
+is_begin open_text = 0
+is_begin keep_text = 0
 is_begin (free n) = 0
 is_begin (merged n) = 0
 
@@ -23,8 +23,8 @@ is_expand (report e) = 0
 is_expand begin = 0
 is_expand expand = 1
 is_expand unfound = 0
-is_expand open-text = 0
-is_expand keep-text = 0
+is_expand open_text = 0
+is_expand keep_text = 0
 is_expand (free n) = 0
 is_expand (merged n) = 0
 
@@ -34,8 +34,8 @@ is_unfound (report e) = 0
 is_unfound begin = 0
 is_unfound expand = 0
 is_unfound unfound = 1
-is_unfound open-text = 0
-is_unfound keep-text = 0
+is_unfound open_text = 0
+is_unfound keep_text = 0
 is_unfound (free n) = 0
 is_unfound (merged n) = 0
 
@@ -46,8 +46,8 @@ is_over (report e) = is_too_many e
 is_over begin = 0
 is_over expand = 0
 is_over unfound = 0
-is_over open-text = 0
-is_over keep-text = 0
+is_over open_text = 0
+is_over keep_text = 0
 is_over (free n) = 0
 is_over (merged n) = 0
 

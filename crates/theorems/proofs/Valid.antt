@@ -2,12 +2,12 @@
 use mathlib.Core.List.{List, [], ◌∷◌}
 use mathlib.Core.Option.{Option, none, some}
 use Prim.Native.Nat.{ℕ, zero, suc}
-use Rattle.records.specs.Tree.{Literal, Named, Pattern, pattern, Elements, no_more, more, Element, text, placeable, Expression, inline, select, Inline, variable, nested, Arguments, without, with-args, Inlines, no-inline, and, Variants, no_variant, or, Variant, variant}
+use Rattle.records.specs.Tree.{Literal, Named, Pattern, pattern, Elements, no_more, more, Element, text, placeable, Expression, inline, select, Inline, variable, nested, Arguments, without, with_arguments, Inlines, no_inline, and, Variants, no_variant, or, Variant, variant}
 use Rattle.rules.specs.Rules.{is_text, is_string}
 use Rattle.records.specs.Images.{Attribute, Entry, Item, Store}
 use Rattle.records.specs.Decode.{max_depth}
 use Rattle.records.specs.Valid.{All, IfAny, Ruled, ValidId, ValidLiteral, ValidNamed, ValidElement, ValidElements, PatternOver, ValidVariant, ValidVariants, ValidInlines, ValidArguments, InlineOver, ExpressionOver, ValidExpression, ValidInline, ValidPattern, ValidEntryPattern, ValidAttribute, ValidEntry, ValidResource, ValidItem, ValidStore}
-use Rattle.theorems.specs.Leaves.{Leaf, literal_leaves, named_leaves, leavesOf, elementsLeaves, elementLeaves, expressionLeaves, inlineLeaves, argumentsLeaves, inlinesLeaves, variantsLeaves, variantLeaves, InEntry, InItem, InItems, InLeaves}
+use Rattle.theorems.specs.Leaves.{Leaf, literal_leaves, named_leaves, leaves_of, elements_leaves, element_leaves, expression_leaves, inline_leaves, arguments_leaves, inlines_leaves, variants_leaves, variant_leaves, InEntry, InItem, InItems, InLeaves}
 use Rattle.theorems.proofs.Every.{all_append, all_map, items_map}
 use Rattle.theorems.proofs.Ascii.{Ascii, id_ascii}
 
@@ -27,15 +27,15 @@ abbrev DeepInline : ℕ → Inline → Type 0
 DeepInline d y = ValidInline d y
 
 module _ {Z : Type 0} where
-  open-expression : (x : Expression) (d : ℕ) → ValidExpression d x → ((n : ℕ) → ExpressionOver (Deep n) (DeepInline n) x → Z) → Z
+  open_expression : (x : Expression) (d : ℕ) → ValidExpression d x → ((n : ℕ) → ExpressionOver (Deep n) (DeepInline n) x → Z) → Z
   unfolding ValidExpression
-  open-expression x zero h f = absurd h
-  open-expression x (suc d) h f = f d h
+  open_expression x zero h f = absurd h
+  open_expression x (suc d) h f = f d h
 
-  open-inline : (x : Inline) (d : ℕ) → ValidInline d x → ((n : ℕ) → InlineOver (Deep n) (DeepInline n) x → Z) → Z
+  open_inline : (x : Inline) (d : ℕ) → ValidInline d x → ((n : ℕ) → InlineOver (Deep n) (DeepInline n) x → Z) → Z
   unfolding ValidInline
-  open-inline x zero h f = absurd h
-  open-inline x (suc d) h f = f d h
+  open_inline x zero h f = absurd h
+  open_inline x (suc d) h f = f d h
 
 literal_valid : (l : Literal) → ValidLiteral l → All ValidLeaf (literal_leaves l)
 unfolding literal_leaves
@@ -48,51 +48,51 @@ named_valid [] h = tt
 named_valid (e ∷ es) h = all_append ValidLeaf (literal_leaves e.1) (named_leaves es) (literal_valid e.1 h.0.1) (named_valid es h.1)
 
 mutual
-  unfolding leavesOf
+  unfolding leaves_of
 
-  p-valid : (p : Pattern) (d : ℕ) → PatternOver (Deep d) p → All ValidLeaf (leavesOf p)
-  p-valid (pattern b es) d h = es-valid es d h.0
+  p_valid : (p : Pattern) (d : ℕ) → PatternOver (Deep d) p → All ValidLeaf (leaves_of p)
+  p_valid (pattern b es) d h = es_valid es d h.0
 
-  es-valid : (es : Elements) (d : ℕ) → ValidElements (Deep d) es → All ValidLeaf (elementsLeaves es)
-  es-valid no_more d h = tt
-  es-valid (more e es) d h = all_append ValidLeaf (elementLeaves e) (elementsLeaves es) (e-valid e d h.0) (es-valid es d h.1)
+  es_valid : (es : Elements) (d : ℕ) → ValidElements (Deep d) es → All ValidLeaf (elements_leaves es)
+  es_valid no_more d h = tt
+  es_valid (more e es) d h = all_append ValidLeaf (element_leaves e) (elements_leaves es) (e_valid e d h.0) (es_valid es d h.1)
 
-  e-valid : (e : Element) (d : ℕ) → ValidElement (Deep d) e → All ValidLeaf (elementLeaves e)
-  e-valid (text t) d h = (h, tt)
-  e-valid (placeable x) d h = open-expression x d h (λ n k. x-valid x n k)
+  e_valid : (e : Element) (d : ℕ) → ValidElement (Deep d) e → All ValidLeaf (element_leaves e)
+  e_valid (text t) d h = (h, tt)
+  e_valid (placeable x) d h = open_expression x d h (λ n k. x_valid x n k)
 
-  x-valid : (x : Expression) (d : ℕ) → ExpressionOver (Deep d) (DeepInline d) x → All ValidLeaf (expressionLeaves x)
-  x-valid (inline x) d h = i-valid x d h
-  x-valid (select x vs) d h = all_append ValidLeaf (inlineLeaves x) (variantsLeaves vs) (open-inline x d h.0 (λ n k. i-valid x n k)) (vs-valid vs d h.1)
+  x_valid : (x : Expression) (d : ℕ) → ExpressionOver (Deep d) (DeepInline d) x → All ValidLeaf (expression_leaves x)
+  x_valid (inline x) d h = i_valid x d h
+  x_valid (select x vs) d h = all_append ValidLeaf (inline_leaves x) (variants_leaves vs) (open_inline x d h.0 (λ n k. i_valid x n k)) (vs_valid vs d h.1)
 
-  i-valid : (x : Inline) (d : ℕ) → InlineOver (Deep d) (DeepInline d) x → All ValidLeaf (inlineLeaves x)
-  i-valid (Inline.string s) d h = (h, tt)
-  i-valid (Inline.number s) d h = tt
-  i-valid (variable i) d h = (h, tt)
-  i-valid (Inline.function i xs ns) d h = (h.0, all_append ValidLeaf (inlinesLeaves xs) (named_leaves ns) (xs-valid xs d h.1.0) (named_valid ns h.1.2.0.0))
-  i-valid (Inline.message i a) d h = (h, tt)
-  i-valid (Inline.term i a r) d h = ((h.0, h.1), r-valid r d h.2)
-  i-valid (nested x) d h = open-expression x d h (λ n k. x-valid x n k)
+  i_valid : (x : Inline) (d : ℕ) → InlineOver (Deep d) (DeepInline d) x → All ValidLeaf (inline_leaves x)
+  i_valid (Inline.string s) d h = (h, tt)
+  i_valid (Inline.number s) d h = tt
+  i_valid (variable i) d h = (h, tt)
+  i_valid (Inline.function i xs ns) d h = (h.0, all_append ValidLeaf (inlines_leaves xs) (named_leaves ns) (xs_valid xs d h.1.0) (named_valid ns h.1.2.0.0))
+  i_valid (Inline.message i a) d h = (h, tt)
+  i_valid (Inline.term i a r) d h = ((h.0, h.1), r_valid r d h.2)
+  i_valid (nested x) d h = open_expression x d h (λ n k. x_valid x n k)
 
-  r-valid : (r : Arguments) (d : ℕ) → ValidArguments (DeepInline d) r → All ValidLeaf (argumentsLeaves r)
-  r-valid without d h = tt
-  r-valid (with-args xs ns) d h = all_append ValidLeaf (inlinesLeaves xs) (named_leaves ns) (xs-valid xs d h.0) (named_valid ns h.2.0.0)
+  r_valid : (r : Arguments) (d : ℕ) → ValidArguments (DeepInline d) r → All ValidLeaf (arguments_leaves r)
+  r_valid without d h = tt
+  r_valid (with_arguments xs ns) d h = all_append ValidLeaf (inlines_leaves xs) (named_leaves ns) (xs_valid xs d h.0) (named_valid ns h.2.0.0)
 
-  xs-valid : (xs : Inlines) (d : ℕ) → ValidInlines (DeepInline d) xs → All ValidLeaf (inlinesLeaves xs)
-  xs-valid no-inline d h = tt
-  xs-valid (and x xs) d h = all_append ValidLeaf (inlineLeaves x) (inlinesLeaves xs) (open-inline x d h.0 (λ n k. i-valid x n k)) (xs-valid xs d h.1)
+  xs_valid : (xs : Inlines) (d : ℕ) → ValidInlines (DeepInline d) xs → All ValidLeaf (inlines_leaves xs)
+  xs_valid no_inline d h = tt
+  xs_valid (and x xs) d h = all_append ValidLeaf (inline_leaves x) (inlines_leaves xs) (open_inline x d h.0 (λ n k. i_valid x n k)) (xs_valid xs d h.1)
 
-  vs-valid : (vs : Variants) (d : ℕ) → ValidVariants (Deep d) vs → All ValidLeaf (variantsLeaves vs)
-  vs-valid no_variant d h = tt
-  vs-valid (or v vs) d h = all_append ValidLeaf (variantLeaves v) (variantsLeaves vs) (v-valid v d h.0) (vs-valid vs d h.1)
+  vs_valid : (vs : Variants) (d : ℕ) → ValidVariants (Deep d) vs → All ValidLeaf (variants_leaves vs)
+  vs_valid no_variant d h = tt
+  vs_valid (or v vs) d h = all_append ValidLeaf (variant_leaves v) (variants_leaves vs) (v_valid v d h.0) (vs_valid vs d h.1)
 
-  v-valid : (v : Variant) (d : ℕ) → ValidVariant (Deep d) v → All ValidLeaf (variantLeaves v)
-  v-valid (variant k f p) d h = p-valid p d h.1
+  v_valid : (v : Variant) (d : ℕ) → ValidVariant (Deep d) v → All ValidLeaf (variant_leaves v)
+  v_valid (variant k f p) d h = p_valid p d h.1
 
 -- the leaves of an entry's pattern
-pub leaves_valid : (p : Pattern) → ValidEntryPattern p → All ValidLeaf (leavesOf p)
+pub leaves_valid : (p : Pattern) → ValidEntryPattern p → All ValidLeaf (leaves_of p)
 unfolding ValidEntryPattern ValidPattern
-leaves_valid p h = p-valid p max_depth h
+leaves_valid p h = p_valid p max_depth h
 
 -- identifiers are ASCII
 pub valid_ascii : (i : List ℕ) → ValidId i → Ascii i

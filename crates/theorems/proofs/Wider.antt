@@ -6,7 +6,7 @@ use Prim.Native.Nat.{ℕ, zero, suc, ◌≤◌}
 use native.Mathlib.Omega.{arith}
 use lib.Dec.{leb}
 use borrow.Author.Tests.{leb-true, le-leb}
-use Rattle.resolution.specs.Effect.{Bytes, Effect, put, report, begin, expand, unfound, open-text, keep-text, free, merged, Trace}
+use Rattle.resolution.specs.Effect.{Bytes, Effect, put, report, begin, expand, unfound, open_text, keep_text, free, merged, Trace}
 use Rattle.resolution.specs.Exec.{Machine, Limits, ran, allow_if, allow, list_limit, put_text, put_work, put_at, step, exec}
 use Rattle.theorems.proofs.Runs.{not_refused, Onward, onward, exec_step}
 
@@ -30,27 +30,27 @@ unfolding list_limit
 list_wider k k' h = omega arith
 
 module _ (L L' : Limits) (w : Wider L L') where
-  put-wider : (b : Bytes) (n : ℕ) (m m' : Machine) → put_at L b m n ≡ ran m' → put_at L' b m n ≡ ran m'
+  put_wider : (b : Bytes) (n : ℕ) (m m' : Machine) → put_at L b m n ≡ ran m' → put_at L' b m n ≡ ran m'
   unfolding put_at put_text put_work
-  put-wider b zero m m' h = allow_wider _ _ _ _ _ m' w.text h
-  put-wider b (suc n) m m' h = allow_wider _ _ _ _ _ m' w.work h
+  put_wider b zero m m' h = allow_wider _ _ _ _ _ m' w.text h
+  put_wider b (suc n) m m' h = allow_wider _ _ _ _ _ m' w.work h
 
-  step-wider : (e : Effect) (m m' : Machine) → step L e m ≡ ran m' → step L' e m ≡ ran m'
+  step_wider : (e : Effect) (m m' : Machine) → step L e m ≡ ran m' → step L' e m ≡ ran m'
   unfolding step
-  step-wider (put b) m m' h = put-wider b m.nest m m' h
-  step-wider (report e) m m' h = allow_wider _ _ _ _ _ m' (list_wider _ _ w.list) h
-  step-wider begin m m' h = h
-  step-wider expand m m' h = h
-  step-wider unfound m m' h = h
-  step-wider open-text m m' h = h
-  step-wider keep-text m m' h = h
-  step-wider (free n) m m' h = h
-  step-wider (merged n) m m' h = h
+  step_wider (put b) m m' h = put_wider b m.nest m m' h
+  step_wider (report e) m m' h = allow_wider _ _ _ _ _ m' (list_wider _ _ w.list) h
+  step_wider begin m m' h = h
+  step_wider expand m m' h = h
+  step_wider unfound m m' h = h
+  step_wider open_text m m' h = h
+  step_wider keep_text m m' h = h
+  step_wider (free n) m m' h = h
+  step_wider (merged n) m m' h = h
 
   -- a run that is not refused leads to the same machine where the buffers are longer
-  pub exec-wider : (t : Trace) (m m' : Machine) → exec L t m ≡ ran m' → exec L' t m ≡ ran m'
+  pub exec_wider : (t : Trace) (m m' : Machine) → exec L t m ≡ ran m' → exec L' t m ≡ ran m'
   unfolding exec
-  exec-wider [] m m' h = h
-  exec-wider (e ∷ t) m m' h =
+  exec_wider [] m m' h = h
+  exec_wider (e ∷ t) m m' h =
       let o : Onward L e t m m' = onward L e t m m' h in
-      exec_step L' e t m o.mid (step-wider e m o.mid o.first) ∙ exec-wider t o.mid m' o.rest
+      exec_step L' e t m o.mid (step_wider e m o.mid o.first) ∙ exec_wider t o.mid m' o.rest

@@ -12,7 +12,7 @@ use Rattle.records.specs.Tree.{Pattern}
 use Rattle.records.specs.Encode.{enc_all, enc_whole}
 use Rattle.records.specs.Errors.{enc_errors, list_header}
 use Rattle.entries.specs.Lookup.{Find}
-use Rattle.resolution.specs.Effect.{Bytes, Effect, put, report, begin, expand, unfound, open-text, keep-text, free, merged, Trace}
+use Rattle.resolution.specs.Effect.{Bytes, Effect, put, report, begin, expand, unfound, open_text, keep_text, free, merged, Trace}
 use Rattle.resolution.specs.Resolve.{Setting}
 use Rattle.resolution.specs.Exec.{Machine, Limits, ran, allow_if, allow, list_limit, put_text, put_work, put_at, step, exec, start}
 use Rattle.resolution.specs.Format.{run_pattern}
@@ -37,16 +37,16 @@ allowed_fits n k r m m' = go (leb n k) refl
     go false e h = absurd (not_refused r m' h)
 
 module _ (L : Limits) where
-  put-within : (b : Bytes) (n : ℕ) (m m' : Machine) → Within L m → put_at L b m n ≡ ran m' → Within L m'
+  put_within : (b : Bytes) (n : ℕ) (m m' : Machine) → Within L m → put_at L b m n ≡ ran m' → Within L m'
   unfolding put_at put_text put_work
-  put-within b zero m m' f h = subst (λ x. Within L x) (allowed _ _ _ _ m' h) (record {
+  put_within b zero m m' f h = subst (λ x. Within L x) (allowed _ _ _ _ m' h) (record {
     text = omega (arith, length-append m.written b, allowed_fits _ _ _ _ m' h);
     list = f.list;
     stated = f.stated;
     work = f.work;
     used = f.used;
   })
-  put-within b (suc n) m m' f h = subst (λ x. Within L x) (allowed _ _ _ _ m' h) (record {
+  put_within b (suc n) m m' f h = subst (λ x. Within L x) (allowed _ _ _ _ m' h) (record {
     text = f.text;
     list = f.list;
     stated = f.stated;
@@ -54,36 +54,36 @@ module _ (L : Limits) where
     used = omega arith;
   })
 
-  step-within : (e : Effect) (m m' : Machine) → Within L m → step L e m ≡ ran m' → Within L m'
+  step_within : (e : Effect) (m m' : Machine) → Within L m → step L e m ≡ ran m' → Within L m'
   unfolding step list_limit
-  step-within (put b) m m' f h = put-within b m.nest m m' f h
-  step-within (report e) m m' f h = subst (λ x. Within L x) (allowed _ _ _ _ m' h) (record {
+  step_within (put b) m m' f h = put_within b m.nest m m' f h
+  step_within (report e) m m' f h = subst (λ x. Within L x) (allowed _ _ _ _ m' h) (record {
     text = f.text;
     list = λ z. omega (arith, allowed_fits _ _ _ _ m' h);
     stated = omega (arith, allowed_fits _ _ _ _ m' h);
     work = f.work;
     used = f.used;
   })
-  step-within begin m m' f h = subst (λ x. Within L x) (same_machine _ m' h) (record { text = f.text; list = f.list; stated = f.stated; work = f.work; used = f.used })
-  step-within expand m m' f h = subst (λ x. Within L x) (same_machine _ m' h) (record { text = f.text; list = f.list; stated = f.stated; work = f.work; used = f.used })
-  step-within unfound m m' f h = subst (λ x. Within L x) (same_machine _ m' h) (record { text = f.text; list = f.list; stated = f.stated; work = f.work; used = f.used })
-  step-within open-text m m' f h = subst (λ x. Within L x) (same_machine _ m' h) (record { text = f.text; list = f.list; stated = f.stated; work = f.work; used = f.used })
-  step-within keep-text m m' f h = subst (λ x. Within L x) (same_machine _ m' h) (record { text = f.text; list = f.list; stated = f.stated; work = f.work; used = f.used })
-  step-within (free n) m m' f h = subst (λ x. Within L x) (same_machine _ m' h) (record { text = f.text; list = f.list; stated = f.stated; work = f.work; used = omega (arith, f.used) })
-  step-within (merged n) m m' f h = subst (λ x. Within L x) (allowed _ _ _ _ m' h) f
+  step_within begin m m' f h = subst (λ x. Within L x) (same_machine _ m' h) (record { text = f.text; list = f.list; stated = f.stated; work = f.work; used = f.used })
+  step_within expand m m' f h = subst (λ x. Within L x) (same_machine _ m' h) (record { text = f.text; list = f.list; stated = f.stated; work = f.work; used = f.used })
+  step_within unfound m m' f h = subst (λ x. Within L x) (same_machine _ m' h) (record { text = f.text; list = f.list; stated = f.stated; work = f.work; used = f.used })
+  step_within open_text m m' f h = subst (λ x. Within L x) (same_machine _ m' h) (record { text = f.text; list = f.list; stated = f.stated; work = f.work; used = f.used })
+  step_within keep_text m m' f h = subst (λ x. Within L x) (same_machine _ m' h) (record { text = f.text; list = f.list; stated = f.stated; work = f.work; used = f.used })
+  step_within (free n) m m' f h = subst (λ x. Within L x) (same_machine _ m' h) (record { text = f.text; list = f.list; stated = f.stated; work = f.work; used = omega (arith, f.used) })
+  step_within (merged n) m m' f h = subst (λ x. Within L x) (allowed _ _ _ _ m' h) f
 
-  pub exec-within : (t : Trace) (m m' : Machine) → Within L m → exec L t m ≡ ran m' → Within L m'
+  pub exec_within : (t : Trace) (m m' : Machine) → Within L m → exec L t m ≡ ran m' → Within L m'
   unfolding exec
-  exec-within [] m m' f h = subst (λ x. Within L x) (same_machine m m' h) f
-  exec-within (e ∷ t) m m' f h =
+  exec_within [] m m' f h = subst (λ x. Within L x) (same_machine m m' h) f
+  exec_within (e ∷ t) m m' f h =
       let o : Onward L e t m m' = onward L e t m m' h in
-      exec-within t o.mid m' (step-within e m o.mid f o.first) o.rest
+      exec_within t o.mid m' (step_within e m o.mid f o.first) o.rest
 
-  pub start-within : Within L start
+  pub start_within : Within L start
   unfolding start enc_errors enc_whole enc_all to_be list_header
-  start-within = record { text = omega arith; list = λ z. z; stated = omega arith; work = omega arith; used = omega arith }
+  start_within = record { text = omega arith; list = λ z. z; stated = omega arith; work = omega arith; used = omega arith }
 
   -- what a run that ends has made fits
   pub within : (st : Setting) (find : Find) (p : Pattern) (m : Machine) → run_pattern st find L p ≡ ran m → Within L m
   unfolding run_pattern
-  within st find p m h = exec-within (trace_of st find p) start m start-within h
+  within st find p m h = exec_within (trace_of st find p) start m start_within h

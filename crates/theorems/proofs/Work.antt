@@ -6,7 +6,7 @@ use Prim.Native.Nat.{ℕ, zero, suc, ◌≤◌, ◌<◌}
 use native.Mathlib.Omega.{arith}
 use lib.Dec.{leb}
 use borrow.Author.Tests.{leb-true, leb-false, le-leb, lt-leb}
-use Rattle.resolution.specs.Effect.{Bytes, Effect, put, report, begin, expand, unfound, open-text, keep-text, free, merged, Trace}
+use Rattle.resolution.specs.Effect.{Bytes, Effect, put, report, begin, expand, unfound, open_text, keep_text, free, merged, Trace}
 use Rattle.resolution.specs.Exec.{Machine, Limits, ran, refused, allow_if, allow, put_text, put_work, put_at, step, and_then, exec}
 use Rattle.theorems.proofs.Runs.{same_machine, allowed, Onward, onward, exec_step}
 use Rattle.theorems.proofs.Wider.{allow_wider, list_wider}
@@ -31,8 +31,8 @@ step_high L (report e) m m' h = omega (arith, same_high _ m' (allowed _ _ _ _ m'
 step_high L begin m m' h = omega (arith, same_high _ m' (same_machine _ m' h))
 step_high L expand m m' h = omega (arith, same_high _ m' (same_machine _ m' h))
 step_high L unfound m m' h = omega (arith, same_high _ m' (same_machine _ m' h))
-step_high L open-text m m' h = omega (arith, same_high _ m' (same_machine _ m' h))
-step_high L keep-text m m' h = omega (arith, same_high _ m' (same_machine _ m' h))
+step_high L open_text m m' h = omega (arith, same_high _ m' (same_machine _ m' h))
+step_high L keep_text m m' h = omega (arith, same_high _ m' (same_machine _ m' h))
 step_high L (free n) m m' h = omega (arith, same_high _ m' (same_machine _ m' h))
 step_high L (merged n) m m' h = omega (arith, same_high _ m' (allowed _ _ _ _ m' h))
 
@@ -50,56 +50,56 @@ unfolding allow allow_if
 fits n k k' r m m' le h = rw (le-leb n k' le) (ap ran (allowed n k r m m' h))
 
 module _ (L L' : Limits) (wide : AsWide L L') where
-  put-fits : (b : Bytes) (n : ℕ) (m m' : Machine) → m'.high ≤ L'.work_len → put_at L b m n ≡ ran m' → put_at L' b m n ≡ ran m'
+  put_fits : (b : Bytes) (n : ℕ) (m m' : Machine) → m'.high ≤ L'.work_len → put_at L b m n ≡ ran m' → put_at L' b m n ≡ ran m'
   unfolding put_at put_text put_work
-  put-fits b zero m m' le h = allow_wider _ _ _ _ _ m' wide.text h
-  put-fits b (suc n) m m' le h = fits _ _ _ _ _ m' (omega (arith, same_high _ m' (allowed _ _ _ _ m' h))) h
+  put_fits b zero m m' le h = allow_wider _ _ _ _ _ m' wide.text h
+  put_fits b (suc n) m m' le h = fits _ _ _ _ _ m' (omega (arith, same_high _ m' (allowed _ _ _ _ m' h))) h
 
   step_fits : (e : Effect) (m m' : Machine) → m'.high ≤ L'.work_len → step L e m ≡ ran m' → step L' e m ≡ ran m'
   unfolding step
-  step_fits (put b) m m' le h = put-fits b m.nest m m' le h
+  step_fits (put b) m m' le h = put_fits b m.nest m m' le h
   step_fits (report e) m m' le h = allow_wider _ _ _ _ _ m' (list_wider _ _ wide.list) h
   step_fits begin m m' le h = h
   step_fits expand m m' le h = h
   step_fits unfound m m' le h = h
-  step_fits open-text m m' le h = h
-  step_fits keep-text m m' le h = h
+  step_fits open_text m m' le h = h
+  step_fits keep_text m m' le h = h
   step_fits (free n) m m' le h = h
   step_fits (merged n) m m' le h = h
 
   -- a workspace that holds the highest use: the same run
-  pub work-enough : (t : Trace) (m m' : Machine) → m'.high ≤ L'.work_len → exec L t m ≡ ran m' → exec L' t m ≡ ran m'
+  pub work_enough : (t : Trace) (m m' : Machine) → m'.high ≤ L'.work_len → exec L t m ≡ ran m' → exec L' t m ≡ ran m'
   unfolding exec
-  work-enough [] m m' le h = h
-  work-enough (e ∷ t) m m' le h =
+  work_enough [] m m' le h = h
+  work_enough (e ∷ t) m m' le h =
       let o : Onward L e t m m' = onward L e t m m' h in
       let up : o.mid.high ≤ m'.high = exec_high L t o.mid m' o.rest in
-      exec_step L' e t m o.mid (step_fits e m o.mid (omega arith) o.first) ∙ work-enough t o.mid m' le o.rest
+      exec_step L' e t m o.mid (step_fits e m o.mid (omega arith) o.first) ∙ work_enough t o.mid m' le o.rest
 
   too_long : (n r : ℕ) (m : Machine) → L'.work_len < n → allow n L'.work_len r m ≡ refused r
   unfolding allow allow_if
   too_long n r m lt = rw (lt-leb n L'.work_len lt)
 
-  put-short : (b : Bytes) (n : ℕ) (m m' : Machine) → m.high ≤ L'.work_len → L'.work_len < m'.high → put_at L b m n ≡ ran m' → put_at L' b m n ≡ refused 16
+  put_short : (b : Bytes) (n : ℕ) (m m' : Machine) → m.high ≤ L'.work_len → L'.work_len < m'.high → put_at L b m n ≡ ran m' → put_at L' b m n ≡ refused 16
   unfolding put_at put_text put_work
-  put-short b zero m m' le lt h = absurd (omega (arith, same_high _ m' (allowed _ _ _ _ m' h)))
-  put-short b (suc n) m m' le lt h = too_long _ _ _ (omega (arith, same_high _ m' (allowed _ _ _ _ m' h)))
+  put_short b zero m m' le lt h = absurd (omega (arith, same_high _ m' (allowed _ _ _ _ m' h)))
+  put_short b (suc n) m m' le lt h = too_long _ _ _ (omega (arith, same_high _ m' (allowed _ _ _ _ m' h)))
 
-  step-short : (e : Effect) (m m' : Machine) → m.high ≤ L'.work_len → L'.work_len < m'.high → step L e m ≡ ran m' → step L' e m ≡ refused 16
+  step_short : (e : Effect) (m m' : Machine) → m.high ≤ L'.work_len → L'.work_len < m'.high → step L e m ≡ ran m' → step L' e m ≡ refused 16
   unfolding step
-  step-short (put b) m m' le lt h = put-short b m.nest m m' le lt h
-  step-short (report e) m m' le lt h = absurd (omega (arith, same_high _ m' (allowed _ _ _ _ m' h)))
-  step-short begin m m' le lt h = absurd (omega (arith, same_high _ m' (same_machine _ m' h)))
-  step-short expand m m' le lt h = absurd (omega (arith, same_high _ m' (same_machine _ m' h)))
-  step-short unfound m m' le lt h = absurd (omega (arith, same_high _ m' (same_machine _ m' h)))
-  step-short open-text m m' le lt h = absurd (omega (arith, same_high _ m' (same_machine _ m' h)))
-  step-short keep-text m m' le lt h = absurd (omega (arith, same_high _ m' (same_machine _ m' h)))
-  step-short (free n) m m' le lt h = absurd (omega (arith, same_high _ m' (same_machine _ m' h)))
-  step-short (merged n) m m' le lt h = absurd (omega (arith, same_high _ m' (allowed _ _ _ _ m' h)))
+  step_short (put b) m m' le lt h = put_short b m.nest m m' le lt h
+  step_short (report e) m m' le lt h = absurd (omega (arith, same_high _ m' (allowed _ _ _ _ m' h)))
+  step_short begin m m' le lt h = absurd (omega (arith, same_high _ m' (same_machine _ m' h)))
+  step_short expand m m' le lt h = absurd (omega (arith, same_high _ m' (same_machine _ m' h)))
+  step_short unfound m m' le lt h = absurd (omega (arith, same_high _ m' (same_machine _ m' h)))
+  step_short open_text m m' le lt h = absurd (omega (arith, same_high _ m' (same_machine _ m' h)))
+  step_short keep_text m m' le lt h = absurd (omega (arith, same_high _ m' (same_machine _ m' h)))
+  step_short (free n) m m' le lt h = absurd (omega (arith, same_high _ m' (same_machine _ m' h)))
+  step_short (merged n) m m' le lt h = absurd (omega (arith, same_high _ m' (allowed _ _ _ _ m' h)))
 
-  step-stops : (e : Effect) (t : Trace) (m : Machine) (r : ℕ) → step L' e m ≡ refused r → exec L' (e ∷ t) m ≡ refused r
+  step_stops : (e : Effect) (t : Trace) (m : Machine) (r : ℕ) → step L' e m ≡ refused r → exec L' (e ∷ t) m ≡ refused r
   unfolding exec and_then
-  step-stops e t m r h = rw h
+  step_stops e t m r h = rw h
 
   -- a workspace that does not hold the highest use: 16
   pub work_short : (t : Trace) (m m' : Machine) → m.high ≤ L'.work_len → L'.work_len < m'.high → exec L t m ≡ ran m' → exec L' t m ≡ refused 16
@@ -113,4 +113,4 @@ module _ (L L' : Limits) (wide : AsWide L L') where
           → (o.mid.high ≤ L'.work_len → L'.work_len < m'.high → exec L t o.mid ≡ ran m' → exec L' t o.mid ≡ refused 16)
           → exec L' (e ∷ t) m ≡ refused 16
       go o true q ih = exec_step L' e t m o.mid (step_fits e m o.mid (leb-true _ _ q) o.first) ∙ ih (leb-true _ _ q) lt o.rest
-      go o false q ih = step-stops e t m 16 (step-short e m o.mid le (leb-false _ _ q) o.first)
+      go o false q ih = step_stops e t m 16 (step_short e m o.mid le (leb-false _ _ q) o.first)

@@ -4,10 +4,10 @@ use mathlib.Core.List.{[], ◌∷◌, ◌++◌, append_assoc}
 use mathlib.Core.Bool.{Bool, true, false}
 use mathlib.Core.Option.{Option, none, some}
 use lib.Dec.{ltb}
-use Rattle.records.specs.Errors.{Error, tooManyPlaceables}
+use Rattle.records.specs.Errors.{Error, too_many_placeables}
 use Rattle.records.specs.Valid.{All}
 use Rattle.entries.specs.Lookup.{Holder, Find}
-use Rattle.resolution.specs.Effect.{Bytes, put, Trace, keep-text, free, expand, State, Out, M, Done, ret, ◌>>=◌, ◌>>◌, emit, write, is_dirty, get_locals, set_locals, max_placeables, enter_if, enter, only_if, entered, capture, release}
+use Rattle.resolution.specs.Effect.{Bytes, put, Trace, keep_text, free, expand, State, Out, M, Done, ret, ◌>>=◌, ◌>>◌, emit, write, is_dirty, get_locals, set_locals, max_placeables, enter_if, enter, only_if, entered, capture, release}
 use Rattle.resolution.specs.Resolve.{fsi, pdi, mark, look_for, look_up}
 use Rattle.theorems.specs.Finished.{reported, reports}
 use Rattle.theorems.proofs.Every.{all_append}
@@ -37,7 +37,7 @@ module _ (T : Bytes → Type 0) (E : Error → Type 0) where
   joined : (a b : Trace) → All E (reports a) → All E (reports b) → All E (reports (a ++ b))
   joined a b h k = rw (reports_append a b) (all_append E (reports a) (reports b) h k)
 
-  module _ (j : Joins T) (over : E tooManyPlaceables) where
+  module _ (j : Joins T) (over : E too_many_placeables) where
     quiet : {A : Type 0} {Ok : A → Type 0} (a : A) → Ok a → Goods A Ok (ret a)
     unfolding ret
     quiet a h s l = record { text = j.none; listed = tt; value = h; locals = l }
@@ -73,10 +73,10 @@ module _ (T : Bytes → Type 0) (E : Error → Type 0) where
     unfolding enter
     enters s l = entering s.dirty (ltb s.begun max_placeables) s l
 
-    only-if : (b : Bool) {m : M Done} → Goods Done Any m → Goods Done Any (only_if b m)
+    only_if_law : (b : Bool) {m : M Done} → Goods Done Any m → Goods Done Any (only_if b m)
     unfolding only_if
-    only-if true h = h
-    only-if false h = quiet tt tt
+    only_if_law true h = h
+    only_if_law false h = quiet tt tt
 
     -- a placeable that is expanded: the marks, if it has them, about what its expression and the cut write
     inside : (c : Bool) {x y : M Done} → Goods Done Any x → Goods Done Any y → Goods Done Any (mark c fsi >> (emit expand >> (x >> (y >> mark c pdi))))
@@ -95,13 +95,13 @@ module _ (T : Bytes → Type 0) (E : Error → Type 0) where
 
     placeable : (c : Bool) {x y : M Done} → Goods Done Any x → Goods Done Any y → Goods Done Any (entered (mark c fsi) (x >> (y >> mark c pdi)))
     unfolding entered
-    placeable c h k = bind enters (λ go q. only-if go (inside c h k))
+    placeable c h k = bind enters (λ go q. only_if_law go (inside c h k))
 
     captured : {m : M Done} → Goods Done Any m → Goods Bytes T (capture m)
     unfolding capture
     captured {m} h s l =
         let r : Good Any (m s) = h s l in
-        record { text = j.none; listed = joined (m s).trace (keep-text ∷ []) r.listed tt; value = r.text; locals = r.locals }
+        record { text = j.none; listed = joined (m s).trace (keep_text ∷ []) r.listed tt; value = r.text; locals = r.locals }
 
     released : {A : Type 0} {Ok : A → Type 0} {m : M A} → Goods A Ok m → Goods A Ok (release m)
     unfolding release
@@ -109,9 +109,9 @@ module _ (T : Bytes → Type 0) (E : Error → Type 0) where
         let r : Good Ok (m s) = h s l in
         record { text = r.text; listed = joined (m s).trace (free (m s).kept ∷ []) r.listed tt; value = r.value; locals = r.locals }
 
-    pub goods-closed : Closed T E Goods
+    pub goods_closed : Closed T E Goods
     unfolding emit write is_dirty get_locals set_locals
-    goods-closed = record {
+    goods_closed = record {
       k_ret = λ {A} {Ok} a h. quiet a h;
       k_bind = λ {A} {B} {Ok} {Ok'} {m} {f} h k. bind h k;
       k_report = λ e h s l. record { text = j.none; listed = (h, tt); value = tt; locals = l };
@@ -125,11 +125,11 @@ module _ (T : Bytes → Type 0) (E : Error → Type 0) where
       k_release = λ {A} {Ok} {m} h. released h;
     }
 
-    look-for : (o : Option Holder) → Goods (Option Holder) (λ r. r ≡ o) (look_for o)
+    look_for_law : (o : Option Holder) → Goods (Option Holder) (λ r. r ≡ o) (look_for o)
     unfolding look_for
-    look-for none s l = record { text = j.none; listed = tt; value = refl; locals = l }
-    look-for (some e) s l = record { text = j.none; listed = tt; value = refl; locals = l }
+    look_for_law none s l = record { text = j.none; listed = tt; value = refl; locals = l }
+    look_for_law (some e) s l = record { text = j.none; listed = tt; value = refl; locals = l }
 
-    pub goods-look : (find : Find) (i : Bytes) → Goods (Option Holder) (λ r. r ≡ find i) (look_up find i)
+    pub goods_look : (find : Find) (i : Bytes) → Goods (Option Holder) (λ r. r ≡ find i) (look_up find i)
     unfolding look_up
-    goods-look find i = look-for (find i)
+    goods_look find i = look_for_law (find i)

@@ -6,7 +6,7 @@ use Rattle.growth.specs.Items.{at_front}
 use Rattle.layout.specs.Exact.{Octets}
 use Rattle.resolution.specs.Effect.{Bytes}
 use Rattle.resolution.specs.Exec.{refused}
-use Rattle.resolution.specs.Format.{Answer, finished, refusedBefore, refusedRunning, Buffers, Formatted, zeros, ended, format}
+use Rattle.resolution.specs.Format.{Answer, finished, refused_before, refused_running, Buffers, Formatted, zeros, ended, format}
 use Rattle.theorems.specs.Finished.{list_of}
 use Rattle.theorems.specs.Steadiness.{Addition, AllInBytes, slices_after}
 use Rattle.theorems.specs.HighestUse.{highest_use}
@@ -14,8 +14,8 @@ use Rattle.theorems.specs.HighestUse.{highest_use}
 -- the workspace figure of an answer, where it has one, is n
 abbrev pub FigureIs : Answer → ℕ → Type 0
 FigureIs (finished t e k u w) n = w ≡ n
-FigureIs (refusedBefore c) n = Unit {0}
-FigureIs (refusedRunning c) n = Unit {0}
+FigureIs (refused_before c) n = Unit {0}
+FigureIs (refused_running c) n = Unit {0}
 
 -- "It shall be exactly the highest use by the definition"
 abbrev pub FiguresHighest : Type 0
@@ -65,4 +65,4 @@ FiguresUnchanged =
 
 -- 16 is answered only where the workspace is shorter than the highest use
 abbrev pub ShortWorkspaces : Type 0
-ShortWorkspaces = (s id : Bytes) (a : Option Bytes) (image : Bytes) (b : Buffers) → (format s id a image b).answer ≡ refusedRunning 16 → length b.work < highest_use s id a image
+ShortWorkspaces = (s id : Bytes) (a : Option Bytes) (image : Bytes) (b : Buffers) → (format s id a image b).answer ≡ refused_running 16 → length b.work < highest_use s id a image

@@ -7,13 +7,13 @@ use Rattle.rules.specs.Rules.{is_id}
 use Rattle.records.specs.Tree.{Pattern}
 use Rattle.records.specs.Images.{Entry, Store, Argument, store_of}
 use Rattle.order.specs.Accepted.{accepted, judge}
-use Rattle.records.specs.Errors.{Error, overriding, reference, no_value, missingDefault, cyclic, tooManyPlaceables, enc_errors, list_header}
+use Rattle.records.specs.Errors.{Error, overriding, reference, no_value, missing_default, cyclic, too_many_placeables, enc_errors, list_header}
 use Rattle.entries.specs.Lookup.{Find, find_in, part_of}
 use Rattle.growth.specs.Items.{at_front}
-use Rattle.resolution.specs.Effect.{Bytes, Effect, put, report, begin, expand, unfound, open-text, keep-text, free, merged, Trace, Out, Done}
+use Rattle.resolution.specs.Effect.{Bytes, Effect, put, report, begin, expand, unfound, open_text, keep_text, free, merged, Trace, Out, Done}
 use Rattle.resolution.specs.Resolve.{Setting, bytes_of, as_message, resolve}
 use Rattle.resolution.specs.Exec.{Machine, ran}
-use Rattle.resolution.specs.Format.{Answer, finished, refusedBefore, refusedRunning, Buffers, values_of, limits_of, is_id_or_none, max_patterns, fresh, zeros, run_pattern, format}
+use Rattle.resolution.specs.Format.{Answer, finished, refused_before, refused_running, Buffers, values_of, limits_of, is_id_or_none, max_patterns, fresh, zeros, run_pattern, format}
 
 -- the errors that a trace reports, in order
 abbrev pub reported : Effect → List Error
@@ -22,8 +22,8 @@ reported (report e) = e ∷ []
 reported begin = []
 reported expand = []
 reported unfound = []
-reported open-text = []
-reported keep-text = []
+reported open_text = []
+reported keep_text = []
 reported (free n) = []
 reported (merged n) = []
 
@@ -40,9 +40,9 @@ abbrev pub is_too_many : Error → ℕ
 is_too_many (overriding k i) = 0
 is_too_many (reference k i a) = 0
 is_too_many (no_value i) = 0
-is_too_many missingDefault = 0
+is_too_many missing_default = 0
 is_too_many cyclic = 0
-is_too_many tooManyPlaceables = 1
+is_too_many too_many_placeables = 1
 
 abbrev pub too_many_in : List Error → ℕ
 too_many_in [] = 0
@@ -133,5 +133,5 @@ pub data Running : ℕ → Type 0 where
 -- each refusal in its place
 abbrev pub Numbered : Answer → Type 0
 Numbered (finished t e k u w) = Unit {0}
-Numbered (refusedBefore n) = Before n
-Numbered (refusedRunning n) = Running n
+Numbered (refused_before n) = Before n
+Numbered (refused_running n) = Running n

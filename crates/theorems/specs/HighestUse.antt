@@ -8,7 +8,7 @@ use Rattle.records.specs.Tree.{Pattern}
 use Rattle.records.specs.Images.{Entry, Store, store_of}
 use Rattle.order.specs.Accepted.{Judged, accepted, refused_for, judge}
 use Rattle.entries.specs.Lookup.{find_in, part_of}
-use Rattle.resolution.specs.Effect.{Bytes, Effect, put, report, begin, expand, unfound, open-text, keep-text, free, merged, Trace}
+use Rattle.resolution.specs.Effect.{Bytes, Effect, put, report, begin, expand, unfound, open_text, keep_text, free, merged, Trace}
 use Rattle.resolution.specs.Resolve.{as_message}
 use Rattle.theorems.specs.Finished.{trace_of, setting_of}
 
@@ -47,8 +47,8 @@ workspace_after (report e) w = w
 workspace_after begin w = w
 workspace_after expand w = w
 workspace_after unfound w = w
-workspace_after open-text w = record { front = 0 ∷ w.front; back = w.back }
-workspace_after keep-text w = moved w.front w.back
+workspace_after open_text w = record { front = 0 ∷ w.front; back = w.back }
+workspace_after keep_text w = moved w.front w.back
 workspace_after (free n) w = record { front = w.front; back = w.back - n }
 workspace_after (merged n) w = w
 

@@ -3,7 +3,7 @@
 -- whether it is found there or not.
 use Rattle.std.specs.Prelude.{List, [], ◌∷◌, ◌++◌, ℕ}
 use Rattle.std.proofs.Math.Option.{Option}
-use Rattle.records.specs.Tree.{Literal, Named, Pattern, pattern, Elements, no_more, more, Element, placeable, Expression, inline, select, Inline, nested, Arguments, without, with-args, Inlines, no-inline, and, Variants, no_variant, or, Variant, variant}
+use Rattle.records.specs.Tree.{Literal, Named, Pattern, pattern, Elements, no_more, more, Element, placeable, Expression, inline, select, Inline, nested, Arguments, without, with_arguments, Inlines, no_inline, and, Variants, no_variant, or, Variant, variant}
 use Rattle.records.specs.Valid.{All, IfAny}
 use Rattle.records.specs.Images.{Attribute, Entry, Item}
 
@@ -24,44 +24,44 @@ named_leaves (e ∷ es) = literal_leaves e.1 ++ named_leaves es
 
 -- of a pattern, and of all that it is made of
 unfoldable mutual
-  pub leavesOf : Pattern → List Leaf
-  leavesOf (pattern b es) = elementsLeaves es
+  pub leaves_of : Pattern → List Leaf
+  leaves_of (pattern b es) = elements_leaves es
 
-  pub elementsLeaves : Elements → List Leaf
-  elementsLeaves no_more = []
-  elementsLeaves (more e es) = elementLeaves e ++ elementsLeaves es
+  pub elements_leaves : Elements → List Leaf
+  elements_leaves no_more = []
+  elements_leaves (more e es) = element_leaves e ++ elements_leaves es
 
-  pub elementLeaves : Element → List Leaf
-  elementLeaves (Element.text t) = Leaf.text t ∷ []
-  elementLeaves (placeable x) = expressionLeaves x
+  pub element_leaves : Element → List Leaf
+  element_leaves (Element.text t) = Leaf.text t ∷ []
+  element_leaves (placeable x) = expression_leaves x
 
-  pub expressionLeaves : Expression → List Leaf
-  expressionLeaves (inline x) = inlineLeaves x
-  expressionLeaves (select x vs) = inlineLeaves x ++ variantsLeaves vs
+  pub expression_leaves : Expression → List Leaf
+  expression_leaves (inline x) = inline_leaves x
+  expression_leaves (select x vs) = inline_leaves x ++ variants_leaves vs
 
-  pub inlineLeaves : Inline → List Leaf
-  inlineLeaves (Inline.string s) = Leaf.string s ∷ []
-  inlineLeaves (Inline.number n) = []
-  inlineLeaves (Inline.variable i) = Leaf.variable i ∷ []
-  inlineLeaves (Inline.function i xs ns) = Leaf.function i ∷ (inlinesLeaves xs ++ named_leaves ns)
-  inlineLeaves (Inline.message i a) = Leaf.message i a ∷ []
-  inlineLeaves (Inline.term i a r) = Leaf.term i a ∷ argumentsLeaves r
-  inlineLeaves (nested x) = expressionLeaves x
+  pub inline_leaves : Inline → List Leaf
+  inline_leaves (Inline.string s) = Leaf.string s ∷ []
+  inline_leaves (Inline.number n) = []
+  inline_leaves (Inline.variable i) = Leaf.variable i ∷ []
+  inline_leaves (Inline.function i xs ns) = Leaf.function i ∷ (inlines_leaves xs ++ named_leaves ns)
+  inline_leaves (Inline.message i a) = Leaf.message i a ∷ []
+  inline_leaves (Inline.term i a r) = Leaf.term i a ∷ arguments_leaves r
+  inline_leaves (nested x) = expression_leaves x
 
-  pub argumentsLeaves : Arguments → List Leaf
-  argumentsLeaves without = []
-  argumentsLeaves (with-args xs ns) = inlinesLeaves xs ++ named_leaves ns
+  pub arguments_leaves : Arguments → List Leaf
+  arguments_leaves without = []
+  arguments_leaves (with_arguments xs ns) = inlines_leaves xs ++ named_leaves ns
 
-  pub inlinesLeaves : Inlines → List Leaf
-  inlinesLeaves no-inline = []
-  inlinesLeaves (and x xs) = inlineLeaves x ++ inlinesLeaves xs
+  pub inlines_leaves : Inlines → List Leaf
+  inlines_leaves no_inline = []
+  inlines_leaves (and x xs) = inline_leaves x ++ inlines_leaves xs
 
-  pub variantsLeaves : Variants → List Leaf
-  variantsLeaves no_variant = []
-  variantsLeaves (or v vs) = variantLeaves v ++ variantsLeaves vs
+  pub variants_leaves : Variants → List Leaf
+  variants_leaves no_variant = []
+  variants_leaves (or v vs) = variant_leaves v ++ variants_leaves vs
 
-  pub variantLeaves : Variant → List Leaf
-  variantLeaves (variant k d p) = leavesOf p
+  pub variant_leaves : Variant → List Leaf
+  variant_leaves (variant k d p) = leaves_of p
 
 -- of every pattern of an entry: its value and its attributes
 abbrev pub InEntry : (Pattern → Type 0) → Entry → Type 0
@@ -75,7 +75,7 @@ InItem G (Item.function i) = Unit {0}
 
 -- of every leaf of a pattern
 abbrev pub InLeaves : (Leaf → Type 0) → Pattern → Type 0
-InLeaves U p = All U (leavesOf p)
+InLeaves U p = All U (leaves_of p)
 
 -- of every leaf of every pattern of all items of a bundle, whether or not an id leads there
 abbrev pub InItems : (Leaf → Type 0) → List Item → Type 0

@@ -5,7 +5,7 @@ use Rattle.records.specs.Tree.{Pattern}
 use Rattle.records.specs.Errors.{enc_errors}
 use Rattle.layout.specs.Exact.{Octets}
 use Rattle.entries.specs.Lookup.{Find, find_in}
-use Rattle.resolution.specs.Effect.{Bytes, Effect, put, report, begin, expand, unfound, open-text, keep-text, free, merged, Trace}
+use Rattle.resolution.specs.Effect.{Bytes, Effect, put, report, begin, expand, unfound, open_text, keep_text, free, merged, Trace}
 use Rattle.resolution.specs.Resolve.{Setting, bytes_of, resolve}
 use Rattle.resolution.specs.Exec.{Machine, Limits, Ran, ran, allow, listed, step, and_then, start}
 use Rattle.resolution.specs.Format.{Buffers, Formatted, limits_of, refuse, ended, max_patterns, fresh, format}
@@ -20,8 +20,8 @@ step_freely L (report e) m =
 step_freely L begin m = step L begin m
 step_freely L expand m = step L expand m
 step_freely L unfound m = step L unfound m
-step_freely L open-text m = step L open-text m
-step_freely L keep-text m = step L keep-text m
+step_freely L open_text m = step L open_text m
+step_freely L keep_text m = step L keep_text m
 step_freely L (free n) m = step L (free n) m
 step_freely L (merged k) m = step L (merged k) m
 

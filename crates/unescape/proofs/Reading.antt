@@ -13,7 +13,7 @@ use borrow.Author.Tests.{eq-eqb, ne_eqb, leb-true, le-leb}
 use Rattle.rules.specs.Rules.{hex}
 use Rattle.decimals.specs.Bytes.{given}
 use Rattle.buffers.specs.Relations.Append.{over}
-use Rattle.buffers.proofs.Place.{over_none, over-over, then-over, length_over}
+use Rattle.buffers.proofs.Place.{over_none, over_over, then_over, length_over}
 use Rattle.scalars.specs.Scalars.{hex_value, scalar_or, enc_scalar}
 use Rattle.scalars.proofs.Scalars.{never, scalar_length}
 use Rattle.unescape.specs.Unescape.{has_backslash, digits_of, scalar_piece, scalar_of, escape_of, piece_of, reads_as, more_of, unescape_from, unescape}
@@ -46,17 +46,17 @@ unescape_at s i {p} h e =
 
 -- a backslash among the bytes from a place on
 module _ (s : List ℕ) (i : ℕ) where
-  pub backslash-here : i < length s → get_or s i 0 ≡ 92 → has_backslash (drop i s) ≡ true
+  pub backslash_here : i < length s → get_or s i 0 ≡ 92 → has_backslash (drop i s) ≡ true
   unfolding has_backslash
-  backslash-here h e = rw (drop-cons s i 0 h, eq-eqb _ _ e)
+  backslash_here h e = rw (drop-cons s i 0 h, eq-eqb _ _ e)
 
-  pub backslash-next : i < length s → (get_or s i 0 ≡ 92 → ⊥) → has_backslash (drop i s) ≡ has_backslash (drop (i + 1) s)
+  pub backslash_next : i < length s → (get_or s i 0 ≡ 92 → ⊥) → has_backslash (drop i s) ≡ has_backslash (drop (i + 1) s)
   unfolding has_backslash
-  backslash-next h e = rw (add-one, drop-cons s i 0 h, ne_eqb _ _ e)
+  backslash_next h e = rw (add-one, drop-cons s i 0 h, ne_eqb _ _ e)
 
-  pub backslash-none : length s ≤ i → has_backslash (drop i s) ≡ false
+  pub backslash_none : length s ≤ i → has_backslash (drop i s) ≡ false
   unfolding has_backslash
-  backslash-none h = rw (drop_of_length-le s h)
+  backslash_none h = rw (drop_of_length-le s h)
 
 -- six digits fit
 pub digits_room : (v k x : ℕ) → v < 16 ^ k → k < 6 → x < 16 → (v * 16 + x < 16 ^ (k + 1)) × (v * 16 + x < 16777216)
@@ -83,29 +83,29 @@ module _ (s : List ℕ) (i v n : ℕ) where
       let f : digits_of v (suc (n - 1)) (get_or s i 0 ∷ drop (suc i) s) ≡ digits_of (v * 16 + hex_value (get_or s i 0)) (n - 1) (drop (suc i) s) = rw e in
       rw (add-one, drop-cons s i 0 h) (subst (λ (x : ℕ). digits_of v x (get_or s i 0 ∷ drop (suc i) s) ≡ digits_of (v * 16 + hex_value (get_or s i 0)) (n - 1) (drop (suc i) s)) m f)
 
-  pub digits-not : i < length s → 0 < n → hex (get_or s i 0) ≡ false → digits_of v n (drop i s) ≡ Broken
+  pub digits_not : i < length s → 0 < n → hex (get_or s i 0) ≡ false → digits_of v n (drop i s) ≡ Broken
   unfolding digits_of
-  digits-not h g e = let m : n ≡ suc (n - 1) = omega arith in rw (drop-cons s i 0 h, m, e)
+  digits_not h g e = let m : n ≡ suc (n - 1) = omega arith in rw (drop-cons s i 0 h, m, e)
 
-  pub digits-short : length s ≤ i → 0 < n → digits_of v n (drop i s) ≡ Broken
+  pub digits_short : length s ≤ i → 0 < n → digits_of v n (drop i s) ≡ Broken
   unfolding digits_of
-  digits-short h g = let m : n ≡ suc (n - 1) = omega arith in rw (drop_of_length-le s h, m)
+  digits_short h g = let m : n ≡ suc (n - 1) = omega arith in rw (drop_of_length-le s h, m)
 
-  pub digits-done : n ≤ 0 → digits_of v n (drop i s) ≡ Value v
+  pub digits_done : n ≤ 0 → digits_of v n (drop i s) ≡ Value v
   unfolding digits_of
-  digits-done g = let m : n ≡ zero = omega arith in rw m
+  digits_done g = let m : n ≡ zero = omega arith in rw m
 
 pub digits_turn : (s : List ℕ) (i v n : ℕ) {x : ℕ} {d : Digits} → i < length s → 0 < n → hex (get_or s i 0) ≡ true → x ≡ hex_value (get_or s i 0) → digits_of v n (drop i s) ≡ d → digits_of (v * 16 + x) (n - 1) (drop (i + 1) s) ≡ d
 digits_turn s i v n h g e q p = rw q (sym (digits_more s i v n h g e) ∙ p)
 
 module _ (n : ℕ) (t : List ℕ) where
-  pub scalar-value : {v : ℕ} → digits_of 0 n t ≡ Value v → Scalar v (n + 1) ≡ scalar_of n t
+  pub scalar_value : {v : ℕ} → digits_of 0 n t ≡ Value v → Scalar v (n + 1) ≡ scalar_of n t
   unfolding scalar_of scalar_piece
-  scalar-value h = rw h
+  scalar_value h = rw h
 
-  pub scalar-broken : digits_of 0 n t ≡ Broken → Byte 92 0 ≡ scalar_of n t
+  pub scalar_broken : digits_of 0 n t ≡ Broken → Byte 92 0 ≡ scalar_of n t
   unfolding scalar_of scalar_piece
-  scalar-broken h = rw h
+  scalar_broken h = rw h
 
 -- an escape at a place of a text
 module _ (s : List ℕ) (i : ℕ) where
@@ -113,8 +113,8 @@ module _ (s : List ℕ) (i : ℕ) where
   unfolding escape_of
   escape_end h = rw (drop_of_length-le s h)
 
-  pub escape-byte : i < length s → escape_of (drop i s) ≡ escape_of (get_or s i 0 ∷ drop (i + 1) s)
-  escape-byte h = rw (add-one, drop-cons s i 0 h)
+  pub escape_byte : i < length s → escape_of (drop i s) ≡ escape_of (get_or s i 0 ∷ drop (i + 1) s)
+  escape_byte h = rw (add-one, drop-cons s i 0 h)
 
 -- digits that are read are there
 digits_if : (x : Bool) {d : Digits} {w n m : ℕ} → (d ≡ Value w → n ≤ m) → given x d Broken ≡ Value w → suc n ≤ suc m
@@ -250,11 +250,11 @@ module _ (s d₀ : List ℕ) (at : ℕ) where
           let c = length-append w.done (reads_as p) in
           omega arith
 
-      pub written-room : j + length (reads_as p) ≤ length d
-      written-room = let r = room in let a = w.place in let b = w.size in omega arith
+      pub written_room : j + length (reads_as p) ≤ length d
+      written_room = let r = room in let a = w.place in let b = w.size in omega arith
 
-      pub written-turn : {d' : List ℕ} {l m : ℕ} → d' ≡ over d j (reads_as p) → l ≡ length (reads_as p) → m ≡ more_of p → Written s d₀ at d' (j + l) (i + (1 + m))
-      written-turn {d'} {l} {m} q el em =
+      pub written_turn : {d' : List ℕ} {l m : ℕ} → d' ≡ over d j (reads_as p) → l ≡ length (reads_as p) → m ≡ more_of p → Written s d₀ at d' (j + l) (i + (1 + m))
+      written_turn {d'} {l} {m} q el em =
           let r = room in
           let a = w.place in
           let b = w.size in
@@ -266,12 +266,12 @@ module _ (s d₀ : List ℕ) (at : ℕ) where
             size = ap length q ∙ length_over d j (reads_as p) (omega arith) ∙ b;
             done = w.done ++ reads_as p;
             whole = rw f rest_of;
-            bytes = q ∙ then-over d₀ at w.done (reads_as p) w.bytes a r;
+            bytes = q ∙ then_over d₀ at w.done (reads_as p) w.bytes a r;
             place = omega arith;
           }
 
-    pub written-end : length s ≤ i → (j ≡ at + length (unescape s)) × (d ≡ over d₀ at (unescape s))
-    written-end h =
+    pub written_end : length s ≤ i → (j ≡ at + length (unescape s)) × (d ≡ over d₀ at (unescape s))
+    written_end h =
         let a : w.done ≡ unescape s = sym (append-nil w.done) ∙ ap (λ (l : List ℕ). w.done ++ l) (sym (unescape_end s i h)) ∙ w.whole in
         (w.place ∙ ap (λ (l : List ℕ). at + length l) a, w.bytes ∙ ap (over d₀ at) a)
 

@@ -15,19 +15,19 @@ use Rattle.records.specs.Got.{got, after}
 use Rattle.records.specs.Bytes.{part, byte_at, number_at, span_at}
 use Rattle.walks.specs.Outline.{sized_at}
 use Rattle.records.specs.Tree.{Key, Pattern, Variants, no_variant, or, Variant, variant}
-use Rattle.records.specs.Decode.{many, literal_number_at, key_at, patternAt, variant_at, expression}
+use Rattle.records.specs.Decode.{many, literal_number_at, key_at, pattern_at, variant_at, expression}
 use Rattle.records.specs.declared.Next.{Next}
 use Rattle.records.specs.declared.Next.TheVariants as next
-use Rattle.records.proofs.Laws.{number_inv, bytes-in}
-use Rattle.records.proofs.Local.{local-pattern, local-expression}
-use Rattle.records.proofs.Views.{many-cons, many-nil, id_elim, ruled_elim, key_elim, flag_elim, pattern-elim, variant-elim}
+use Rattle.records.proofs.Laws.{number_inv, bytes_in}
+use Rattle.records.proofs.Local.{local_pattern, local_expression}
+use Rattle.records.proofs.Views.{many_cons, many_nil, id_elim, ruled_elim, key_elim, flag_elim, pattern_elim, variant_elim}
 use Rattle.records.specs.Optional.{or_else}
 use Rattle.resolution.specs.Resolve.{matches, next as after_next, this_or, first_by, has_key, is_default, chosen}
 use Rattle.variants.specs.Outline.{Outline, outline, outline_at, outlines, variants_at}
 use Rattle.variants.specs.Choice.{first_of, key_matches, is_default as default-flag, chosen_at}
 use Rattle.variants.specs.Relations.Sought.{pattern_place}
 use Rattle.variants.specs.Relations.Pick.{Pick, picked, no_pick, PickAt, nth_of, pattern_of}
-use Rattle.variants.proofs.Firsts.{First, FirstAt, first-start, first-end, first-here, first_next, outline-is}
+use Rattle.variants.proofs.Firsts.{First, FirstAt, first_start, first_end, first_here, first_next, outline_is}
 use Rattle.variants.proofs.Keys.{or_false, shown_matches}
 
 -- the key that a kind and a Str from a to e are
@@ -44,20 +44,20 @@ module _ {C : Type 0} (s : List ℕ) where
       (λ b t hb ht ek. ruled_elim is_number s b ht (λ a hs et ok. c 2 b a hb hs (stands_number refl (ap is_number (sym et) ∙ ok) (ek ∙ ap Key.number et))))
 
   -- a pattern is passed by the length that it begins with
-  pattern-bytes : (d at : ℕ) {y : Pattern} {f : ℕ} → patternAt (expression d) s at ≡ got y f → ((bs : List ℕ) → sized_at 4 s at ≡ got bs f → C) → C
+  pattern_bytes_law : (d at : ℕ) {y : Pattern} {f : ℕ} → pattern_at (expression d) s at ≡ got y f → ((bs : List ℕ) → sized_at 4 s at ≡ got bs f → C) → C
   unfolding sized_at after
-  pattern-bytes d at {y} {f} h c =
-      pattern-elim (expression d) s at h (λ n b k j es hn _ _ _ ef _.
+  pattern_bytes_law d at {y} {f} h c =
+      pattern_elim (expression d) s at h (λ n b k j es hn _ _ _ ef _.
       let i = number_inv s 4 at hn in let i0 = i.0 in
-      let l = local-pattern (local-expression d) in
+      let l = local_pattern (local_expression d) in
       let le : f ≤ length s = l.inside s at (omega arith) h in
-      c (part s b n) (rw hn (bytes-in s b n (omega arith) ∙ ap (got (part s b n)) (sym ef))))
+      c (part s b n) (rw hn (bytes_in s b n (omega arith) ∙ ap (got (part s b n)) (sym ef))))
 
 -- an outline of what a decoder reads: a key that matches the same values, the same Flag, and the pattern
 record Mirrors (s : List ℕ) (d : ℕ) (v : Variant) (o : Outline) (f : ℕ) : Type 0 where
   key : (locale : ℕ) (w : Value) → key_matches locale w o ≡ has_key locale w v
   flag : default-flag o ≡ is_default v
-  pattern : patternAt (expression d) s o.pattern ≡ got (pattern_of v) f
+  pattern : pattern_at (expression d) s o.pattern ≡ got (pattern_of v) f
 
 key_mirrors : (s : List ℕ) (at tag a e x q : ℕ) (k : Key) (y : Pattern) → Stands s tag a e k → (locale : ℕ) (w : Value) → key_matches locale w (outline at tag (part s a (e - a)) x q) ≡ has_key locale w (variant k (eqb x 1) y)
 unfolding key_matches has_key
@@ -74,25 +74,25 @@ mirrors_as s d o f e m = subst (λ (x : Variant). Mirrors s d x o f) e m
 variant_mirrors : {C : Type 0} (s : List ℕ) (d at : ℕ) {v : Variant} {f : ℕ} → variant_at (expression d) s at ≡ got v f → ((o : Outline) → outline_at s at ≡ got o f → Mirrors s d v o f → C) → C
 unfolding pattern_of
 variant_mirrors {C} s d at {v} {f} h c =
-    variant-elim (expression d) s at h (λ k e flag q y hk hd hy ev.
+    variant_elim (expression d) s at h (λ k e flag q y hk hd hy ev.
     key_reads s at hk (λ tag b a hb hs st.
-    pattern-bytes s d q hy (λ bs hp.
+    pattern_bytes_law s d q hy (λ bs hp.
     let done : (x : ℕ) → byte_at s e ≡ got x q → flag ≡ eqb x 1 → C =
-    λ x hx ed. c (outline at tag (part s a (e - a)) x q) (outline-is s at hb hs hx hp)
+    λ x hx ed. c (outline at tag (part s a (e - a)) x q) (outline_is s at hb hs hx hp)
     (mirrors_as s d (outline at tag (part s a (e - a)) x q) f (sym (ev ∙ ap (λ (t : Bool). variant k t y) ed))
     (record { key = key_mirrors s at tag a e x q k y st; flag = flag_mirrors at tag (part s a (e - a)) x q k y; pattern = hy })) in
     flag_elim s e hd (λ hx ed. done 0 hx ed) (λ hx ed. done 1 hx ed))))
 
 -- the first that passes a test, by its outline
 module _ (s : List ℕ) (d : ℕ) (test : Variant → Bool) (by : Outline → Bool) (agree : (v : Variant) (o : Outline) (f : ℕ) → Mirrors s d v o f → by o ≡ test v) where
-  skip-one : (vs : Variants) (v : Variant) (vs' : Variants) (r : Next) → vs ≡ or v vs' → test v ≡ false → Pick s d (first_by test vs') vs' r → Pick s d (first_by test vs) vs r
+  skip_one : (vs : Variants) (v : Variant) (vs' : Variants) (r : Next) → vs ≡ or v vs' → test v ≡ false → Pick s d (first_by test vs') vs' r → Pick s d (first_by test vs) vs r
   unfolding first_by this_or after_next nth_of
-  skip-one vs v vs' r w t (picked i q p f er o h hp) = picked (suc i) q p f er (rw (w, t, o)) (rw w h) hp
-  skip-one vs v vs' r w t (no_pick er o) = no_pick er (rw (w, t, o))
+  skip_one vs v vs' r w t (picked i q p f er o h hp) = picked (suc i) q p f er (rw (w, t, o)) (rw w h) hp
+  skip_one vs v vs' r w t (no_pick er o) = no_pick er (rw (w, t, o))
 
-  take-one : (vs : Variants) (v : Variant) (vs' : Variants) (o : Outline) (f : ℕ) → vs ≡ or v vs' → test v ≡ true → Mirrors s d v o f → Pick s d (first_by test vs) vs (next.At o.pattern)
+  take_one : (vs : Variants) (v : Variant) (vs' : Variants) (o : Outline) (f : ℕ) → vs ≡ or v vs' → test v ≡ true → Mirrors s d v o f → Pick s d (first_by test vs) vs (next.At o.pattern)
   unfolding first_by this_or nth_of
-  take-one vs v vs' o f w t m = picked 0 o.pattern (pattern_of v) f refl (rw (w, t)) (rw w) m.pattern
+  take_one vs v vs' o f w t m = picked 0 o.pattern (pattern_of v) f refl (rw (w, t)) (rw w) m.pattern
 
   place_at : {x : Option Outline} {o : Outline} → x ≡ some o → pattern_place x ≡ next.At o.pattern
   unfolding pattern_place
@@ -104,24 +104,24 @@ module _ (s : List ℕ) (d : ℕ) (test : Variant → Bool) (by : Outline → Bo
 
   picks : (n at : ℕ) (vs : Variants) (f : ℕ) → many no_variant or n (variant_at (expression d)) s at ≡ got vs f → Pick s d (first_by test vs) vs (pattern_place (First s by n at))
   unfolding first_by
-  picks zero at vs f h = many-nil no_variant or (variant_at (expression d)) s zero at (omega arith) h (λ e _. no_pick (no_place (first-end s by zero at (omega arith))) (rw e))
+  picks zero at vs f h = many_nil no_variant or (variant_at (expression d)) s zero at (omega arith) h (λ e _. no_pick (no_place (first_end s by zero at (omega arith))) (rw e))
   picks (suc n) at vs f h =
       let m : suc n - 1 ≡ n = omega arith in
-      many-cons no_variant or (variant_at (expression d)) s (suc n) at (omega arith) h (λ v g vs' hv hl w.
+      many_cons no_variant or (variant_at (expression d)) s (suc n) at (omega arith) h (λ v g vs' hv hl w.
       variant_mirrors s d at hv (λ o ho mo.
       go v g vs' w o ho mo (picks n g vs' f (subst (λ (k : ℕ). many no_variant or k (variant_at (expression d)) s g ≡ got vs' f) m hl)) (test v) refl))
     where
       go : (v : Variant) (g : ℕ) (vs' : Variants) → vs ≡ or v vs' → (o : Outline) → outline_at s at ≡ got o g → Mirrors s d v o g → Pick s d (first_by test vs') vs' (pattern_place (First s by n g))
           → (t : Bool) → test v ≡ t → Pick s d (first_by test vs) vs (pattern_place (First s by (suc n) at))
       go v g vs' w o ho mo hl true t =
-          subst (λ (r : Next). Pick s d (first_by test vs) vs r) (sym (place_at (first-here s by (suc n) at (omega arith) ho (agree v o g mo ∙ t)))) (take-one vs v vs' o g w t mo)
+          subst (λ (r : Next). Pick s d (first_by test vs) vs r) (sym (place_at (first_here s by (suc n) at (omega arith) ho (agree v o g mo ∙ t)))) (take_one vs v vs' o g w t mo)
       go v g vs' w o ho mo hl false t =
           let m : suc n - 1 ≡ n = omega arith in
           let e : First s by (suc n) at ≡ First s by n g = first_next s by (suc n) at (omega arith) ho (agree v o g mo ∙ t) ∙ ap (λ (k : ℕ). First s by k g) m in
-          subst (λ (r : Next). Pick s d (first_by test vs) vs r) (ap pattern_place (sym e)) (skip-one vs v vs' (pattern_place (First s by n g)) w t hl)
+          subst (λ (r : Next). Pick s d (first_by test vs) vs r) (ap pattern_place (sym e)) (skip_one vs v vs' (pattern_place (First s by n g)) w t hl)
 
   picks_at : (at k c : ℕ) (vs : Variants) (f : ℕ) → number_at 2 s at ≡ got k c → many no_variant or k (variant_at (expression d)) s c ≡ got vs f → Pick s d (first_by test vs) vs (pattern_place (FirstAt s by at))
-  picks_at at k c vs f hk hv = subst (λ (x : Option Outline). Pick s d (first_by test vs) vs (pattern_place x)) (sym (first-start s by at hk)) (picks k c vs f hv)
+  picks_at at k c vs f hk hv = subst (λ (x : Option Outline). Pick s d (first_by test vs) vs (pattern_place x)) (sym (first_start s by at hk)) (picks k c vs f hv)
 
 -- the first default
 pub default_picks : (s : List ℕ) (at : ℕ) → PickAt s at (first_by is_default) (pattern_place (first_of default-flag (variants_at s at)))

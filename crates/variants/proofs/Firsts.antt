@@ -12,7 +12,7 @@ use Rattle.records.specs.Bytes.{byte_at, number_at, span_at, str_at, part}
 use Rattle.walks.specs.Outline.{sized_at}
 use Rattle.records.specs.declared.Next.{Next}
 use Rattle.records.specs.declared.Next.TheVariants as next
-use Rattle.records.proofs.Laws.{span-in, after-elim, got_elim}
+use Rattle.records.proofs.Laws.{span_in, after_elim, got_elim}
 use Rattle.records.specs.Optional.{or_else, option_of}
 use Rattle.variants.specs.Outline.{Outline, outline, outline_at, and_those, outlines, counted, variants_at}
 use Rattle.variants.specs.Choice.{first_of, is_default}
@@ -38,17 +38,17 @@ module _ (s : List ℕ) (at : ℕ) where
       no_flag h = reads_none refl (rw (hk, hs, h))
 
       module _ {flag q : ℕ} (hf : byte_at s to ≡ got flag q) where
-        pub no-pattern-end : sized_at 4 s q ≡ bad → Reads s at read.Bad
+        pub no_pattern_end : sized_at 4 s q ≡ bad → Reads s at read.Bad
         unfolding outline_at after str_at
-        no-pattern-end h = reads_none refl (rw (hk, hs, hf, h))
+        no_pattern_end h = reads_none refl (rw (hk, hs, hf, h))
 
         -- the outline of a variant that can be read
-        pub outline-is : {bs : List ℕ} {e : ℕ} → sized_at 4 s q ≡ got bs e → outline_at s at ≡ got (outline at kind (part s from (to - from)) flag q) e
+        pub outline_is : {bs : List ℕ} {e : ℕ} → sized_at 4 s q ≡ got bs e → outline_at s at ≡ got (outline at kind (part s from (to - from)) flag q) e
         unfolding outline_at after str_at
-        outline-is h = rw (hk, hs, hf, h)
+        outline_is h = rw (hk, hs, hf, h)
 
-        pub whole-read : {bs : List ℕ} {e : ℕ} → sized_at 4 s q ≡ got bs e → Reads s at (read.Is (record { kind = kind; from = from; to = to; flag = flag; pattern = q; end = e }))
-        whole-read {bs} {e} h = reads (record { kind = kind; from = from; to = to; flag = flag; pattern = q; end = e }) refl (outline-is h) (span-in s p hs).0 (span-in s p hs).1
+        pub whole_read : {bs : List ℕ} {e : ℕ} → sized_at 4 s q ≡ got bs e → Reads s at (read.Is (record { kind = kind; from = from; to = to; flag = flag; pattern = q; end = e }))
+        whole_read {bs} {e} h = reads (record { kind = kind; from = from; to = to; flag = flag; pattern = q; end = e }) refl (outline_is h) (span_in s p hs).0 (span_in s p hs).1
 
 read_one : {v w : Span} → read.Is v ≡ read.Is w → v ≡ w
 read_one h = cc
@@ -106,23 +106,23 @@ module _ (s : List ℕ) (test : Outline → Bool) where
   abbrev pub FirstAt : ℕ → Option Outline
   FirstAt at = first_of test (variants_at s at)
 
-  pub first-start : (at : ℕ) {n c : ℕ} → number_at 2 s at ≡ got n c → FirstAt at ≡ First n c
+  pub first_start : (at : ℕ) {n c : ℕ} → number_at 2 s at ≡ got n c → FirstAt at ≡ First n c
   unfolding variants_at counted
-  first-start at h = rw h
+  first_start at h = rw h
 
-  pub first-no-start : (at : ℕ) → number_at 2 s at ≡ bad → FirstAt at ≡ none
+  pub first_no_start : (at : ℕ) → number_at 2 s at ≡ bad → FirstAt at ≡ none
   unfolding variants_at counted first_of
-  first-no-start at h = rw h
+  first_no_start at h = rw h
 
-  pub first-end : (n at : ℕ) → n ≤ 0 → First n at ≡ none
+  pub first_end : (n at : ℕ) → n ≤ 0 → First n at ≡ none
   unfolding outlines first_of
-  first-end zero at z = refl
-  first-end (suc n) at z = absurd (omega arith)
+  first_end zero at z = refl
+  first_end (suc n) at z = absurd (omega arith)
 
-  pub first-lost : (n at : ℕ) → outline_at s at ≡ bad → First n at ≡ none
+  pub first_lost : (n at : ℕ) → outline_at s at ≡ bad → First n at ≡ none
   unfolding outlines first_of and_those
-  first-lost zero at h = refl
-  first-lost (suc n) at h = rw h
+  first_lost zero at h = refl
+  first_lost (suc n) at h = rw h
 
   first_step : (n at : ℕ) → 0 < n → {o : Outline} {e : ℕ} → outline_at s at ≡ got o e → First n at ≡ or_else (option_of (test o) o) (First (n - 1) e)
   unfolding outlines first_of and_those
@@ -132,9 +132,9 @@ module _ (s : List ℕ) (test : Outline → Bool) where
       ap (λ (g : Got Outline). first_of test (and_those g (outlines n s))) h ∙ ap (λ (k : ℕ). or_else (option_of (test o) o) (First k e)) m
 
   module _ (n at : ℕ) (z : 0 < n) {o : Outline} {e : ℕ} (h : outline_at s at ≡ got o e) where
-    pub first-here : test o ≡ true → First n at ≡ some o
+    pub first_here : test o ≡ true → First n at ≡ some o
     unfolding or_else option_of
-    first-here t = first_step n at z h ∙ rw t
+    first_here t = first_step n at z h ∙ rw t
 
     pub first_next : test o ≡ false → First n at ≡ First (n - 1) e
     unfolding or_else option_of
@@ -144,53 +144,53 @@ module _ (s : List ℕ) (test : Outline → Bool) where
   place_is : (at : ℕ) {o : Outline} {e : ℕ} → outline_at s at ≡ got o e → o.place ≡ at
   unfolding outline_at
   place_is at h =
-      after-elim (byte_at s at) _ h (λ _ p _ h.
-      after-elim (str_at s p) _ h (λ _ q _ h.
-      after-elim (byte_at s q) _ h (λ _ b _ h.
-      after-elim (sized_at 4 s b) _ h (λ _ _ _ h. got_elim h (λ eo _. ap (λ (x : Outline). x.place) (sym eo))))))
+      after_elim (byte_at s at) _ h (λ _ p _ h.
+      after_elim (str_at s p) _ h (λ _ q _ h.
+      after_elim (byte_at s q) _ h (λ _ b _ h.
+      after_elim (sized_at 4 s b) _ h (λ _ _ _ h. got_elim h (λ eo _. ap (λ (x : Outline). x.place) (sym eo))))))
 
-  abbrev Read-there : Outline → Type 0
-  Read-there o = (e : ℕ) × (outline_at s o.place ≡ got o e)
+  abbrev ReadThere : Outline → Type 0
+  ReadThere o = (e : ℕ) × (outline_at s o.place ≡ got o e)
 
-  stands : (n at : ℕ) {o : Outline} → First n at ≡ some o → Read-there o
-  stands zero at h = let z : none ≡ some _ = sym (first-end zero at (omega arith)) ∙ h in let y : ◌≡◌ {A = ℕ} 0 1 = cc in absurd (omega arith)
+  stands : (n at : ℕ) {o : Outline} → First n at ≡ some o → ReadThere o
+  stands zero at h = let z : none ≡ some _ = sym (first_end zero at (omega arith)) ∙ h in let y : ◌≡◌ {A = ℕ} 0 1 = cc in absurd (omega arith)
   stands (suc n) at {o} h = go (λ e. stands n e) (outline_at s at) refl
     where
-      there : ((e : ℕ) → First n e ≡ some o → Read-there o) → (x : Outline) (e : ℕ) → outline_at s at ≡ got x e → (t : Bool) → test x ≡ t → Read-there o
+      there : ((e : ℕ) → First n e ≡ some o → ReadThere o) → (x : Outline) (e : ℕ) → outline_at s at ≡ got x e → (t : Bool) → test x ≡ t → ReadThere o
       there more x e hx true t =
-          let eo : x ≡ o = some_one (sym (first-here (suc n) at (omega arith) hx t) ∙ h) in
+          let eo : x ≡ o = some_one (sym (first_here (suc n) at (omega arith) hx t) ∙ h) in
           (e, subst (λ (y : Outline). outline_at s y.place ≡ got y e) eo (ap (outline_at s) (place_is at hx) ∙ hx))
       there more x e hx false t =
           let m : n ≡ suc n - 1 = omega arith in
           more e (ap (λ (k : ℕ). First k e) m ∙ sym (first_next (suc n) at (omega arith) hx t) ∙ h)
 
-      go : ((e : ℕ) → First n e ≡ some o → Read-there o) → (g : Got Outline) → outline_at s at ≡ g → Read-there o
+      go : ((e : ℕ) → First n e ≡ some o → ReadThere o) → (g : Got Outline) → outline_at s at ≡ g → ReadThere o
       go more (got x e) hx = there more x e hx (test x) refl
-      go more bad hx = let z : none ≡ some o = sym (first-lost (suc n) at hx) ∙ h in let y : ◌≡◌ {A = ℕ} 0 1 = cc in absurd (omega arith)
+      go more bad hx = let z : none ≡ some o = sym (first_lost (suc n) at hx) ∙ h in let y : ◌≡◌ {A = ℕ} 0 1 = cc in absurd (omega arith)
 
-  found-there : (at : ℕ) {o : Outline} → FirstAt at ≡ some o → (e : ℕ) × (outline_at s o.place ≡ got o e)
-  found-there at {o} h = go (number_at 2 s at) refl
+  found_there : (at : ℕ) {o : Outline} → FirstAt at ≡ some o → (e : ℕ) × (outline_at s o.place ≡ got o e)
+  found_there at {o} h = go (number_at 2 s at) refl
     where
       go : (g : Got ℕ) → number_at 2 s at ≡ g → (e : ℕ) × (outline_at s o.place ≡ got o e)
-      go (got n c) e = stands n c (sym (first-start at e) ∙ h)
-      go bad e = let z : none ≡ some o = sym (first-no-start at e) ∙ h in let y : ◌≡◌ {A = ℕ} 0 1 = cc in absurd (omega arith)
+      go (got n c) e = stands n c (sym (first_start at e) ∙ h)
+      go bad e = let z : none ≡ some o = sym (first_no_start at e) ∙ h in let y : ◌≡◌ {A = ℕ} 0 1 = cc in absurd (omega arith)
 
   -- the pattern of what is found, by the place at which it is read
-  pub pattern-there : (at : ℕ) {p : ℕ} {r : Next} → r ≡ place_of (FirstAt at) → r ≡ next.At p → pattern_at_place s p ≡ pattern_place (FirstAt at)
+  pub pattern_there : (at : ℕ) {p : ℕ} {r : Next} → r ≡ place_of (FirstAt at) → r ≡ next.At p → pattern_at_place s p ≡ pattern_place (FirstAt at)
   unfolding pattern_at_place one_read place_of
-  pattern-there at {p} {r} h e = go (FirstAt at) refl
+  pattern_there at {p} {r} h e = go (FirstAt at) refl
     where
       go : (o : Option Outline) → FirstAt at ≡ o → pattern_place (one_read (outline_at s p)) ≡ pattern_place (FirstAt at)
       go none eo = let z : next.At p ≡ next.Bad = sym e ∙ h ∙ ap place_of eo in let y : ◌≡◌ {A = ℕ} 0 1 = cc in absurd (omega arith)
       go (some x) eo =
           let z : next.At p ≡ next.At x.place = sym e ∙ h ∙ ap place_of eo in
           let ep : p ≡ x.place = cc in
-          let w = found-there at eo in
+          let w = found_there at eo in
           ap (λ (k : ℕ). pattern_place (one_read (outline_at s k))) ep ∙ ap (λ (g : Got Outline). pattern_place (one_read g)) w.1 ∙ sym (ap pattern_place eo)
 
-  pub pattern-none : (at : ℕ) {r : Next} → r ≡ place_of (FirstAt at) → r ≡ next.Bad → FirstAt at ≡ none
+  pub pattern_none : (at : ℕ) {r : Next} → r ≡ place_of (FirstAt at) → r ≡ next.Bad → FirstAt at ≡ none
   unfolding place_of
-  pattern-none at {r} h e = go (FirstAt at) refl
+  pattern_none at {r} h e = go (FirstAt at) refl
     where
       go : (o : Option Outline) → FirstAt at ≡ o → FirstAt at ≡ none
       go none eo = eo

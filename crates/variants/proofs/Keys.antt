@@ -61,24 +61,24 @@ literal_same k n = ap (λ (x : CodeNumber.Number). same_number (told (shown (lit
 
 -- a key that is a literal, or is none
 module _ (k : List ℕ) (n : CodeNumber.Number) {c : CodeLiteral.Literal} (is : c ≡ literal_of k) where
-  literal-no : (t : Bool) → is_number k ≡ t → c ≡ literals.Bad → is_number k ≡ false
+  literal_no : (t : Bool) → is_number k ≡ t → c ≡ literals.Bad → is_number k ≡ false
   unfolding literal_of
-  literal-no true e w = let z : literals.Is (shown (literal k)) ≡ literals.Bad = sym (rw (e, literal_of) at is) ∙ w in let y : ◌≡◌ {A = ℕ} 0 1 = cc in absurd (omega arith)
-  literal-no false e w = e
+  literal_no true e w = let z : literals.Is (shown (literal k)) ≡ literals.Bad = sym (rw (e, literal_of) at is) ∙ w in let y : ◌≡◌ {A = ℕ} 0 1 = cc in absurd (omega arith)
+  literal_no false e w = e
 
-  pub equals-no : c ≡ literals.Bad → false ≡ equals k n
+  pub equals_no : c ≡ literals.Bad → false ≡ equals k n
   unfolding equals
-  equals-no w = rw (literal-no (is_number k) refl w)
+  equals_no w = rw (literal_no (is_number k) refl w)
 
-  literal-yes : (t : Bool) → is_number k ≡ t → {m : CodeNumber.Number} → c ≡ literals.Is m → (is_number k ≡ true) × (m ≡ shown (literal k))
+  literal_yes : (t : Bool) → is_number k ≡ t → {m : CodeNumber.Number} → c ≡ literals.Is m → (is_number k ≡ true) × (m ≡ shown (literal k))
   unfolding literal_of
-  literal-yes true e w = let z : literals.Is (shown (literal k)) ≡ literals.Is _ = sym (rw (e, literal_of) at is) ∙ w in (e, (cc))
-  literal-yes false e w = let z : literals.Bad ≡ literals.Is _ = sym (rw (e, literal_of) at is) ∙ w in let y : ◌≡◌ {A = ℕ} 0 1 = cc in absurd (omega arith)
+  literal_yes true e w = let z : literals.Is (shown (literal k)) ≡ literals.Is _ = sym (rw (e, literal_of) at is) ∙ w in (e, (cc))
+  literal_yes false e w = let z : literals.Bad ≡ literals.Is _ = sym (rw (e, literal_of) at is) ∙ w in let y : ◌≡◌ {A = ℕ} 0 1 = cc in absurd (omega arith)
 
-  pub equals-is : {m : CodeNumber.Number} {r : Bool} → c ≡ literals.Is m → r ≡ same_number (told m) (told n) → r ≡ equals k n
+  pub equals_is : {m : CodeNumber.Number} {r : Bool} → c ≡ literals.Is m → r ≡ same_number (told m) (told n) → r ≡ equals k n
   unfolding equals
-  equals-is w er =
-      let q = literal-yes (is_number k) refl w in
+  equals_is w er =
+      let q = literal_yes (is_number k) refl w in
       er ∙ ap (λ (x : CodeNumber.Number). same_number (told x) (told n)) q.1 ∙ literal_same k n ∙ sym (ap (λ (t : Bool). t && same_number (literal k) (told n)) q.0)
 
 -- a key of a kind, and what is sought
@@ -87,17 +87,17 @@ unfolding matches_by
 by_text kind k t ex er = rw ex er
 
 module _ (kind : ℕ) (k t : List ℕ) {x : Sought} {n : CodeNumber.Number} {c : Category} (ex : x ≡ sought.Number n c) where
-  pub by-category : {r : Bool} → kind ≡ 1 → r ≡ same_bytes k (keyword (category_number c)) → r ≡ matches_by kind k t x
+  pub by_category : {r : Bool} → kind ≡ 1 → r ≡ same_bytes k (keyword (category_number c)) → r ≡ matches_by kind k t x
   unfolding matches_by
-  by-category ek er = rw (ex, ek) (er ∙ sym (or_false (same_bytes k (keyword (category_number c)))))
+  by_category ek er = rw (ex, ek) (er ∙ sym (or_false (same_bytes k (keyword (category_number c)))))
 
   pub by_number : {r : Bool} → kind ≡ 2 → r ≡ equals k n → r ≡ matches_by kind k t x
   unfolding matches_by
   by_number ek er = rw (ex, ek) er
 
-  pub by-none : (kind ≡ 1 → ⊥) → (kind ≡ 2 → ⊥) → false ≡ matches_by kind k t x
+  pub by_none : (kind ≡ 1 → ⊥) → (kind ≡ 2 → ⊥) → false ≡ matches_by kind k t x
   unfolding matches_by
-  by-none n1 n2 = rw (ex, ne_eqb kind 1 n1, ne_eqb kind 2 n2)
+  by_none n1 n2 = rw (ex, ne_eqb kind 1 n1, ne_eqb kind 2 n2)
 
 -- a key of the kind that is tried, or of another
 pub kind_other : (a b : ℕ) (m : Bool) → (a ≡ b → ⊥) → false ≡ (eqb a b && m)
@@ -117,22 +117,22 @@ unfolding tried
 tried_is s t at v kind x is e = sym is ∙ e
 
 module _ (t : List ℕ) (o : Outline) where
-  pub tried-more : (x : Sought) {kind : ℕ} → ((j : ℕ) → 1 ≤ j → j < kind → tried j t x o ≡ false) → tried kind t x o ≡ false → (j : ℕ) → 1 ≤ j → j < kind + 1 → tried j t x o ≡ false
-  tried-more x {kind} all h j lo hi = go (eqb j kind) refl
+  pub tried_more : (x : Sought) {kind : ℕ} → ((j : ℕ) → 1 ≤ j → j < kind → tried j t x o ≡ false) → tried kind t x o ≡ false → (j : ℕ) → 1 ≤ j → j < kind + 1 → tried j t x o ≡ false
+  tried_more x {kind} all h j lo hi = go (eqb j kind) refl
     where
       go : (b : Bool) → eqb j kind ≡ b → tried j t x o ≡ false
       go true e = subst (λ (k : ℕ). tried k t x o ≡ false) (sym (eqb-true j kind e)) h
       go false e = let n = eqb-false j kind e in all j lo (omega arith)
 
-  pub tried-all : (x : Sought) {kinds kind : ℕ} → kinds ≡ kinds_of x → kinds < kind → ((j : ℕ) → 1 ≤ j → j < kind → tried j t x o ≡ false) → answers t x o ≡ false
+  pub tried_all : (x : Sought) {kinds kind : ℕ} → kinds ≡ kinds_of x → kinds < kind → ((j : ℕ) → 1 ≤ j → j < kind → tried j t x o ≡ false) → answers t x o ≡ false
   unfolding answers kinds_of
-  tried-all sought.Text ek lt all = all 1 (omega arith) (omega arith)
-  tried-all (sought.Number n c) ek lt all = rw (all 1 (omega arith) (omega arith), all 2 (omega arith) (omega arith))
+  tried_all sought.Text ek lt all = all 1 (omega arith) (omega arith)
+  tried_all (sought.Number n c) ek lt all = rw (all 1 (omega arith) (omega arith), all 2 (omega arith) (omega arith))
 
-  pub tried-one : (x : Sought) {kinds kind : ℕ} → kinds ≡ kinds_of x → 1 ≤ kind → kind ≤ kinds → tried kind t x o ≡ true → answers t x o ≡ true
+  pub tried_one : (x : Sought) {kinds kind : ℕ} → kinds ≡ kinds_of x → 1 ≤ kind → kind ≤ kinds → tried kind t x o ≡ true → answers t x o ≡ true
   unfolding answers kinds_of
-  tried-one sought.Text {kinds} {kind} ek lo hi h = let e : kind ≡ 1 = omega arith in subst (λ (j : ℕ). tried j t sought.Text o ≡ true) e h
-  tried-one (sought.Number n c) {kinds} {kind} ek lo hi h = go (eqb kind 1) refl
+  tried_one sought.Text {kinds} {kind} ek lo hi h = let e : kind ≡ 1 = omega arith in subst (λ (j : ℕ). tried j t sought.Text o ≡ true) e h
+  tried_one (sought.Number n c) {kinds} {kind} ek lo hi h = go (eqb kind 1) refl
     where
       go : (b : Bool) → eqb kind 1 ≡ b → tried 1 t (sought.Number n c) o || tried 2 t (sought.Number n c) o ≡ true
       go true e = let e1 = eqb-true kind 1 e in rw (subst (λ (j : ℕ). tried j t (sought.Number n c) o ≡ true) e1 h)
@@ -183,18 +183,18 @@ asked_chosen (asked.Number n locale) t s at (sees_number _ _ c ec) e = e ∙ num
 
 -- a value that matches no key chooses the first default
 module _ (locale : ℕ) (v : Value) (never-matches : (k : Key) → matches locale k v ≡ false) where
-  key-never : (o : Outline) → key_matches locale v o ≡ false
+  key_never : (o : Outline) → key_matches locale v o ≡ false
   unfolding key_matches
-  key-never o = rw (never-matches (Key.name o.key), never-matches (Key.number o.key), and_false (is_number o.key), and_false (eqb o.kind 1), and_false (eqb o.kind 2))
+  key_never o = rw (never-matches (Key.name o.key), never-matches (Key.number o.key), and_false (is_number o.key), and_false (eqb o.kind 1), and_false (eqb o.kind 2))
 
-  first-never : (os : List Outline) → first_of (key_matches locale v) os ≡ none
+  first_never : (os : List Outline) → first_of (key_matches locale v) os ≡ none
   unfolding first_of or_else option_of
-  first-never [] = refl
-  first-never (o ∷ os) = rw (key-never o, first-never os)
+  first_never [] = refl
+  first_never (o ∷ os) = rw (key_never o, first_never os)
 
-  default-chosen : (s : List ℕ) (at : ℕ) → pattern_place (first_of is_default (variants_at s at)) ≡ pattern_place (chosen_at locale v s at)
+  default_chosen : (s : List ℕ) (at : ℕ) → pattern_place (first_of is_default (variants_at s at)) ≡ pattern_place (chosen_at locale v s at)
   unfolding chosen_at or_else
-  default-chosen s at = sym (ap (λ (o : Option Outline). pattern_place (or_else o (first_of is_default (variants_at s at)))) (first-never (variants_at s at)))
+  default_chosen s at = sym (ap (λ (o : Option Outline). pattern_place (or_else o (first_of is_default (variants_at s at)))) (first_never (variants_at s at)))
 
 nothing_matches : (locale : ℕ) (k : Key) → matches locale k nothing ≡ false
 unfolding matches
@@ -207,10 +207,10 @@ wrong_matches locale (Key.name k) = refl
 wrong_matches locale (Key.number k) = refl
 
 pub nothing_chosen : (locale : ℕ) (s : List ℕ) (at : ℕ) → pattern_place (first_of is_default (variants_at s at)) ≡ pattern_place (chosen_at locale nothing s at)
-nothing_chosen locale s at = default-chosen locale nothing (nothing_matches locale) s at
+nothing_chosen locale s at = default_chosen locale nothing (nothing_matches locale) s at
 
 pub wrong_chosen : (locale : ℕ) (s : List ℕ) (at : ℕ) → pattern_place (first_of is_default (variants_at s at)) ≡ pattern_place (chosen_at locale wrong s at)
-wrong_chosen locale s at = default-chosen locale wrong (wrong_matches locale) s at
+wrong_chosen locale s at = default_chosen locale wrong (wrong_matches locale) s at
 
 -- what the code shows of a number matches the keys that the number does
 pub shown_matches : (locale : ℕ) (k : Key) (x : Number) → matches locale k (numeric (told (shown x))) ≡ matches locale k (numeric x)

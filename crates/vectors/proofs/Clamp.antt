@@ -25,76 +25,76 @@ whole_nil true = refl
 whole_nil false = refl
 
 module _ (s : List ℕ) where
-  pub getD-clamp : (k : ℕ) → get_or s (min k (length s)) 0 ≡ get_or s k 0
-  getD-clamp k = clamped (λ i. get_or s i 0) (length s) k (λ h. get_or-eq_default s 0 (omega arith) ∙ sym (get_or-eq_default s 0 h))
+  pub get_d_clamp : (k : ℕ) → get_or s (min k (length s)) 0 ≡ get_or s k 0
+  get_d_clamp k = clamped (λ i. get_or s i 0) (length s) k (λ h. get_or-eq_default s 0 (omega arith) ∙ sym (get_or-eq_default s 0 h))
 
   pub part_out : (n k : ℕ) → length s ≤ k → part_in s k n ≡ []
   unfolding part_in
   part_out n k h = ap (if_whole (leb (k + n) (length s))) (ap (take n) (drop_of_length-le s h) ∙ take-nil n) ∙ whole_nil (leb (k + n) (length s))
 
-  pub part-clamp : (n k : ℕ) → part_in s (min k (length s)) n ≡ part_in s k n
-  part-clamp n k = clamped (λ i. part_in s i n) (length s) k (λ h. part_out n (length s) (omega arith) ∙ sym (part_out n k h))
+  pub part_clamp : (n k : ℕ) → part_in s (min k (length s)) n ≡ part_in s k n
+  part_clamp n k = clamped (λ i. part_in s i n) (length s) k (λ h. part_out n (length s) (omega arith) ∙ sym (part_out n k h))
 
-  pub u16-out : (k : ℕ) → length s ≤ k → u16_in s k ≡ 0
+  pub u16_out : (k : ℕ) → length s ≤ k → u16_in s k ≡ 0
   unfolding u16_in
-  u16-out k h = rw (get_or-eq_default s 0 h, get_or-eq_default s 0 {n = k + 1} (omega (arith, h)))
+  u16_out k h = rw (get_or-eq_default s 0 h, get_or-eq_default s 0 {n = k + 1} (omega (arith, h)))
 
-  pub u16-clamp : (k : ℕ) → u16_in s (min k (length s)) ≡ u16_in s k
-  u16-clamp k = clamped (λ i. u16_in s i) (length s) k (λ h. u16-out (length s) (omega arith) ∙ sym (u16-out k h))
+  pub u16_clamp : (k : ℕ) → u16_in s (min k (length s)) ≡ u16_in s k
+  u16_clamp k = clamped (λ i. u16_in s i) (length s) k (λ h. u16_out (length s) (omega arith) ∙ sym (u16_out k h))
 
-  pub u32-out : (k : ℕ) → length s ≤ k → u32_in s k ≡ 0
+  pub u32_out : (k : ℕ) → length s ≤ k → u32_in s k ≡ 0
   unfolding u32_in
-  u32-out k h = rw (u16-out k h, u16-out (k + 2) (omega (arith, h)))
+  u32_out k h = rw (u16_out k h, u16_out (k + 2) (omega (arith, h)))
 
-  pub u32-clamp : (k : ℕ) → u32_in s (min k (length s)) ≡ u32_in s k
-  u32-clamp k = clamped (λ i. u32_in s i) (length s) k (λ h. u32-out (length s) (omega arith) ∙ sym (u32-out k h))
+  pub u32_clamp : (k : ℕ) → u32_in s (min k (length s)) ≡ u32_in s k
+  u32_clamp k = clamped (λ i. u32_in s i) (length s) k (λ h. u32_out (length s) (omega arith) ∙ sym (u32_out k h))
 
   -- what each reader answers, by what its callees answered
   module _ (at : ℕ) {p : ℕ} where
-    pub u16-is : {b c w v : ℕ} → b ≡ get_or s at 0 → w ≡ b → p ≡ min (at + 1) (length s) → c ≡ get_or s p 0 → v ≡ c → w * 256 + v ≡ u16_in s at
+    pub u16_is : {b c w v : ℕ} → b ≡ get_or s at 0 → w ≡ b → p ≡ min (at + 1) (length s) → c ≡ get_or s p 0 → v ≡ c → w * 256 + v ≡ u16_in s at
     unfolding u16_in
-    u16-is e1 e2 e3 e4 e5 = rw (e2, e1, e5, e4, e3, getD-clamp (at + 1))
+    u16_is e1 e2 e3 e4 e5 = rw (e2, e1, e5, e4, e3, get_d_clamp (at + 1))
 
-    pub u32-is : {w v : ℕ} → w ≡ u16_in s at → p ≡ min (at + 2) (length s) → v ≡ u16_in s p → w * 65536 + v ≡ u32_in s at
+    pub u32_is : {w v : ℕ} → w ≡ u16_in s at → p ≡ min (at + 2) (length s) → v ≡ u16_in s p → w * 65536 + v ≡ u32_in s at
     unfolding u32_in
-    u32-is e1 e2 e3 = rw (e1, e3, e2, u16-clamp (at + 2))
+    u32_is e1 e2 e3 = rw (e1, e3, e2, u16_clamp (at + 2))
 
-    pub u64-is : {w v : ℕ} → w ≡ u32_in s at → p ≡ min (at + 4) (length s) → v ≡ u32_in s p → w * 4294967296 + v ≡ u64_in s at
+    pub u64_is : {w v : ℕ} → w ≡ u32_in s at → p ≡ min (at + 4) (length s) → v ≡ u32_in s p → w * 4294967296 + v ≡ u64_in s at
     unfolding u64_in
-    u64-is e1 e2 e3 = rw (e1, e3, e2, u32-clamp (at + 4))
+    u64_is e1 e2 e3 = rw (e1, e3, e2, u32_clamp (at + 4))
 
-    pub string-is : {n : ℕ} {r : List ℕ} → p ≡ min (at + 2) (length s) → n ≡ u16_in s at → r ≡ part_in s p n → r ≡ string_in s at
+    pub string_is : {n : ℕ} {r : List ℕ} → p ≡ min (at + 2) (length s) → n ≡ u16_in s at → r ≡ part_in s p n → r ≡ string_in s at
     unfolding string_in
-    string-is e1 e2 e3 = e3 ∙ rw (e2, e1, part-clamp (u16_in s at) (at + 2))
+    string_is e1 e2 e3 = e3 ∙ rw (e2, e1, part_clamp (u16_in s at) (at + 2))
 
-    pub blob-is : {n : ℕ} {r : List ℕ} → p ≡ min (at + 4) (length s) → n ≡ u32_in s at → r ≡ part_in s p n → r ≡ blob_in s at
+    pub blob_is : {n : ℕ} {r : List ℕ} → p ≡ min (at + 4) (length s) → n ≡ u32_in s at → r ≡ part_in s p n → r ≡ blob_in s at
     unfolding blob_in
-    blob-is e1 e2 e3 = e3 ∙ rw (e2, e1, part-clamp (u32_in s at) (at + 4))
+    blob_is e1 e2 e3 = e3 ∙ rw (e2, e1, part_clamp (u32_in s at) (at + 4))
 
-    pub past-string-is : {n r : ℕ} → p ≡ min (at + 2) (length s) → n ≡ u16_in s at → r ≡ min (p + n) (length s) → r ≡ past_string s at
+    pub past_string_is : {n r : ℕ} → p ≡ min (at + 2) (length s) → n ≡ u16_in s at → r ≡ min (p + n) (length s) → r ≡ past_string s at
     unfolding past_string
-    past-string-is e1 e2 e3 = omega (arith, e1, e2, e3)
+    past_string_is e1 e2 e3 = omega (arith, e1, e2, e3)
 
-    pub past-blob-is : {n r : ℕ} → p ≡ min (at + 4) (length s) → n ≡ u32_in s at → r ≡ min (p + n) (length s) → r ≡ past_blob s at
+    pub past_blob_is : {n r : ℕ} → p ≡ min (at + 4) (length s) → n ≡ u32_in s at → r ≡ min (p + n) (length s) → r ≡ past_blob s at
     unfolding past_blob
-    past-blob-is e1 e2 e3 = omega (arith, e1, e2, e3)
+    past_blob_is e1 e2 e3 = omega (arith, e1, e2, e3)
 
   -- a part, by where it starts and ends
   module _ (at n : ℕ) where
-    pub part-past : length s < at + n → [] ≡ part_in s at n
+    pub part_past : length s < at + n → [] ≡ part_in s at n
     unfolding part_in if_whole
-    part-past h = sym (rw (lt-leb (at + n) (length s) h))
+    part_past h = sym (rw (lt-leb (at + n) (length s) h))
 
-    pub part_in : at + n ≤ length s → take (at + n - at) (drop at s) ≡ part_in s at n
+    pub part_in_law : at + n ≤ length s → take (at + n - at) (drop at s) ≡ part_in s at n
     unfolding part_in if_whole
-    part_in h =
+    part_in_law h =
         let e : at + n - at ≡ n = omega arith in
         ap (λ (k : ℕ). take k (drop at s)) e ∙ sym (rw (le-leb (at + n) (length s) h))
 
-  pub tail-past : (at : ℕ) → length s < at → [] ≡ drop at s
-  tail-past at h = sym (drop_of_length-le s {i = at} (omega (arith, h)))
+  pub tail_past : (at : ℕ) → length s < at → [] ≡ drop at s
+  tail_past at h = sym (drop_of_length-le s {i = at} (omega (arith, h)))
 
-  pub tail-in : (at : ℕ) → take (length s - at) (drop at s) ≡ drop at s
-  tail-in at =
+  pub tail_in : (at : ℕ) → take (length s - at) (drop at s) ≡ drop at s
+  tail_in at =
       let e = length-drop at s in
       take_all (length s - at) (drop at s) (omega (arith, e))

@@ -12,17 +12,17 @@ unfolding all_are
 all_end s v i h = rw (drop_of_length-le s h)
 
 module _ (s : List ℕ) (v i : ℕ) {x : Bool} (h : i < length s) (inv : all_are (drop i s) v ≡ x) where
-  pub all-turn : get_or s i 0 ≡ v → all_are (drop (i + 1) s) v ≡ x
-  all-turn e = sym (rw (eq-eqb (get_or s i 0) v e) at (all_more s v i h)) ∙ inv
+  pub all_turn : get_or s i 0 ≡ v → all_are (drop (i + 1) s) v ≡ x
+  all_turn e = sym (rw (eq-eqb (get_or s i 0) v e) at (all_more s v i h)) ∙ inv
 
-  pub all-differs : (get_or s i 0 ≡ v → ⊥) → false ≡ x
-  all-differs f = sym (rw (ne_eqb (get_or s i 0) v f) at (all_more s v i h)) ∙ inv
+  pub all_differs : (get_or s i 0 ≡ v → ⊥) → false ≡ x
+  all_differs f = sym (rw (ne_eqb (get_or s i 0) v f) at (all_more s v i h)) ∙ inv
 
 module _ (s front : List ℕ) {p : List ℕ} {q : Bool} (e : p ≡ part_in s 0 (length front)) (k : q ≡ same_bytes p front) where
-  pub begins-same : {t : List ℕ} {r : Bool} → q ≡ true → t ≡ drop (length front) s → r ≡ all_are t 170 → r ≡ begins_with s front
+  pub begins_same : {t : List ℕ} {r : Bool} → q ≡ true → t ≡ drop (length front) s → r ≡ all_are t 170 → r ≡ begins_with s front
   unfolding begins_with
-  begins-same h d g = g ∙ sym (rw (sym e, sym k, h, sym d))
+  begins_same h d g = g ∙ sym (rw (sym e, sym k, h, sym d))
 
-  pub begins-not : q ≡ false → false ≡ begins_with s front
+  pub begins_not : q ≡ false → false ≡ begins_with s front
   unfolding begins_with
-  begins-not h = sym (rw (sym e, sym k, h))
+  begins_not h = sym (rw (sym e, sym k, h))

@@ -43,8 +43,8 @@ variant_outline s at =
 -- what holds expressions, by how these are passed
 module _ (expr : Outline) where
   -- "Arguments of a call: u16 count and inline expressions; u16 count and named ones"
-  unfoldable pub argumentsOutline : Outline
-  argumentsOutline s at =
+  unfoldable pub arguments_outline : Outline
+  arguments_outline s at =
       after (number_at 2 s at) (λ n p.
       after (many_outline n expr s p) (λ xs q.
       after (number_at 2 s q) (λ m r.
@@ -52,31 +52,31 @@ module _ (expr : Outline) where
 
   -- what follows the Id or the literal of an inline expression: "3 function Id, arguments; 4 message Id, Flag, attribute Id if 1; 5 term Id, Flag,
   -- attribute Id, Flag, arguments if 1"; nothing follows a literal, a variable or what has another tag
-  unfoldable pub restOutline : ℕ → Outline
-  restOutline tag s q =
-      pick (eqb tag 3) (argumentsOutline s q)
+  unfoldable pub rest_outline : ℕ → Outline
+  rest_outline tag s q =
+      pick (eqb tag 3) (arguments_outline s q)
       (pick (eqb tag 4) (optional_outline str_outline s q)
-      (pick (eqb tag 5) (after (optional_outline str_outline s q) (λ a e. optional_outline argumentsOutline s e))
+      (pick (eqb tag 5) (after (optional_outline str_outline s q) (λ a e. optional_outline arguments_outline s e))
       (got tt q)))
 
   -- "8 select: inline selector, u16 variant count", and the variants
-  unfoldable pub selectOutline : Outline
-  selectOutline s at =
+  unfoldable pub select_outline : Outline
+  select_outline s at =
       after (expr s at) (λ i p.
       after (number_at 2 s p) (λ k q.
       many_outline k variant_outline s q))
 
   -- what follows the tag of an expression: "7 inline placeable, an expression", a select, or a Str and the rest
-  unfoldable pub bodyOutline : ℕ → Outline
-  bodyOutline tag s p =
+  unfoldable pub body_outline : ℕ → Outline
+  body_outline tag s p =
       pick (eqb tag 7) (expr s p)
-      (pick (eqb tag 8) (selectOutline s p)
-      (after (str_at s p) (λ t q. restOutline tag s q)))
+      (pick (eqb tag 8) (select_outline s p)
+      (after (str_at s p) (λ t q. rest_outline tag s q)))
 
 -- an expression, inline or not, that nests at most d deep
 unfoldable pub expression_outline : ℕ → Outline
 expression_outline zero s at = bad
-expression_outline (suc d) s at = after (byte_at s at) (λ tag p. bodyOutline (λ s' i. expression_outline d s' i) tag s p)
+expression_outline (suc d) s at = after (byte_at s at) (λ tag p. body_outline (λ s' i. expression_outline d s' i) tag s p)
 
 -- "Element: 1 and nonempty Str; or 2 and an expression"
 unfoldable pub element_outline : ℕ → Outline

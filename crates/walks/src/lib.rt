@@ -6,7 +6,7 @@
 
 ghost use Rattle.std.specs.Prelude.{◌≡◌};
 ghost use Rattle.records.specs.Relations.Answer.{next_of};
-ghost use Rattle.walks.specs.Outline.{sized_at, str_outline, many_outline, optional_outline, named_outline, variant_outline, argumentsOutline, expression_outline, element_outline};
+ghost use Rattle.walks.specs.Outline.{sized_at, str_outline, many_outline, optional_outline, named_outline, variant_outline, arguments_outline, expression_outline, element_outline};
 
 use records::{Next, Num, read_byte, read_u16, read_u32, skip_bytes, skip_str};
 
@@ -138,7 +138,7 @@ pub fn skip_expression(s: &[u8], at: usize, left: usize) -> Next
 // Past the arguments of a term reference, if it has any.
 #[cycle(skip_arguments_skip_expression_skip_inlines_skip_term_arguments)]
 fn skip_term_arguments(s: &[u8], at: usize, left: usize) -> Next
-    ensures { result ≡ next_of (optional_outline (argumentsOutline (expression_outline left)) s.now at) }
+    ensures { result ≡ next_of (optional_outline (arguments_outline (expression_outline left)) s.now at) }
 {
     let Num::At(flag, e) = read_byte(s, at) else {
         return Next::Bad;
@@ -152,7 +152,7 @@ fn skip_term_arguments(s: &[u8], at: usize, left: usize) -> Next
 // Past the arguments of a call.
 #[cycle(skip_arguments_skip_expression_skip_inlines_skip_term_arguments)]
 fn skip_arguments(s: &[u8], at: usize, left: usize) -> Next
-    ensures { result ≡ next_of (argumentsOutline (expression_outline left) s.now at) }
+    ensures { result ≡ next_of (arguments_outline (expression_outline left) s.now at) }
 {
     let Num::At(n, p) = read_u16(s, at) else {
         return Next::Bad;

@@ -8,15 +8,15 @@ use borrow.Author.Tests.{le-leb, lt-leb}
 use Rattle.workspace.specs.Use.{use_at, higher_if, highest_now}
 
 module _ (high front back n : ℕ) where
-  pub highest-is : front ≤ back → back ≤ n → highest_now high front back n ≡ max high (front + (n - back))
+  pub highest_is : front ≤ back → back ≤ n → highest_now high front back n ≡ max high (front + (n - back))
   unfolding highest_now higher_if use_at
-  highest-is p q = rw (le-leb front back p, le-leb back n q)
+  highest_is p q = rw (le-leb front back p, le-leb back n q)
 
-  pub higher-now : front ≤ back → back ≤ n → high < front + (n - back) → front + (n - back) ≡ highest_now high front back n
-  higher-now p q h = omega (arith, highest-is p q, h)
+  pub higher_now : front ≤ back → back ≤ n → high < front + (n - back) → front + (n - back) ≡ highest_now high front back n
+  higher_now p q h = omega (arith, highest_is p q, h)
 
-  pub lower-now : front ≤ back → back ≤ n → front + (n - back) ≤ high → high ≡ highest_now high front back n
-  lower-now p q h = omega (arith, highest-is p q, h)
+  pub lower_now : front ≤ back → back ≤ n → front + (n - back) ≤ high → high ≡ highest_now high front back n
+  lower_now p q h = omega (arith, highest_is p q, h)
 
   pub crossed : back < front → highest_now high front back n ≡ high
   unfolding highest_now higher_if

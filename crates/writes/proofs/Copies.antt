@@ -12,19 +12,19 @@ use borrow.Author.Tests.{leb-true, leb-false}
 use Rattle.records.specs.Bytes.{part}
 use Rattle.records.proofs.Local.{length_part}
 use Rattle.arguments.specs.Relations.Given.{between}
-use Rattle.arguments.proofs.Laws.{between_in, between-after, between-past}
+use Rattle.arguments.proofs.Laws.{between_in, between_after, between_past}
 use Rattle.buffers.specs.Relations.Append.{over, appended}
 use Rattle.buffers.specs.declared.Wrote.{Wrote}
 use Rattle.buffers.specs.declared.Wrote.TheVariants as wrote
-use Rattle.buffers.proofs.Place.{paste-over, appended-at, appended-no}
+use Rattle.buffers.proofs.Place.{paste_over, appended_at, appended_no}
 
 -- n bytes copied down, one by one: the start, a turn, and the end
 module _ (d : List ℕ) (from to n : ℕ) (down : to ≤ from) (fits : to + n ≤ length d) (within : 0 < n → from + n ≤ length d) where
   pub copy_start : d ≡ paste d to (part d from n) 0
   copy_start = paste-zero d to (part d from n)
 
-  pub copy-turn : {e : List ℕ} (i : ℕ) → i < n → e ≡ paste d to (part d from n) i → set e (to + i) (get_or e (from + i) 0) ≡ paste d to (part d from n) (i + 1)
-  copy-turn {e} i h q =
+  pub copy_turn : {e : List ℕ} (i : ℕ) → i < n → e ≡ paste d to (part d from n) i → set e (to + i) (get_or e (from + i) 0) ≡ paste d to (part d from n) (i + 1)
+  copy_turn {e} i h q =
       let b : List ℕ = part d from n in
       let all : from + n ≤ length d = within (omega arith) in
       let l : length b ≡ n = length_part d from n all in
@@ -44,15 +44,15 @@ module _ (d : List ℕ) (from to n : ℕ) (down : to ≤ from) (fits : to + n �
       go true e = length_part d from n (within (leb-true 1 n e))
       go false e = let z : n ≡ 0 = (let h = leb-false 1 n e in omega arith) in ap (λ (k : ℕ). length (part d from k)) z ∙ sym z
 
-  pub copy-end : {e : List ℕ} (i : ℕ) → i ≤ n → n ≤ i → e ≡ paste d to (part d from n) i → e ≡ over d to (part d from n)
-  copy-end i h g q =
+  pub copy_end : {e : List ℕ} (i : ℕ) → i ≤ n → n ≤ i → e ≡ paste d to (part d from n) i → e ≡ over d to (part d from n)
+  copy_end i h g q =
       let k : i ≡ length (part d from n) = (let l = part_size in omega arith) in
-      q ∙ ap (λ (j : ℕ). paste d to (part d from n) j) k ∙ paste-over d to (part d from n)
+      q ∙ ap (λ (j : ℕ). paste d to (part d from n) j) k ∙ paste_over d to (part d from n)
 
 -- bytes that fit are there
 pub appended_in : (d : List ℕ) (at : ℕ) (b : List ℕ) {d' : List ℕ} {a : Wrote} → (a, d') ≡ appended d at b → at + length b ≤ length d → d' ≡ over d at b
-appended_in d at b {a = wrote.At e} is h = (appended-at d at b is refl).2
-appended_in d at b {a = wrote.Full} is h = let f = appended-no d at b is refl in absurd (omega (arith, f.0))
+appended_in d at b {a = wrote.At e} is h = (appended_at d at b is refl).2
+appended_in d at b {a = wrote.Full} is h = let f = appended_no d at b is refl in absurd (omega (arith, f.0))
 
 -- as many bytes as lie between two positions
 module _ (w : List ℕ) (a e : ℕ) where
@@ -75,5 +75,5 @@ module _ (w : List ℕ) (a e : ℕ) where
           let b : between w a e ≡ part w a (e - a) = between_in w a e h k in
           let l : length (between w a e) ≡ e - a = ap length b ∙ length_part w a (e - a) (omega arith) in
           record { reads = ap (λ (j : ℕ). part w a j) l ∙ sym b; within = λ _. omega arith }
-      go false f q g = none (between-after w a e (leb-false a e f))
-      go true f false g = none (between-past w a e (leb-false e (length w) g))
+      go false f q g = none (between_after w a e (leb-false a e f))
+      go true f false g = none (between_past w a e (leb-false e (length w) g))

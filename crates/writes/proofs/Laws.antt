@@ -41,17 +41,17 @@ list_full s q h = rw q h
 
 -- whether there is room in the workspace
 module _ (s : Progress) (n size : ℕ) where
-  pub room-from : s.front + n ≤ s.back → leb s.back size ≡ has_room s n size
+  pub room_from : s.front + n ≤ s.back → leb s.back size ≡ has_room s n size
   unfolding has_room
-  room-from h = rw (le-leb _ _ h)
+  room_from h = rw (le-leb _ _ h)
 
-  pub room-none : s.back < s.front + n → false ≡ has_room s n size
+  pub room_none : s.back < s.front + n → false ≡ has_room s n size
   unfolding has_room
-  room-none h = rw (lt-leb _ _ h)
+  room_none h = rw (lt-leb _ _ h)
 
-  pub room-is : has_room s n size ≡ true → (s.front + n ≤ s.back) × (s.back ≤ size)
+  pub room_is : has_room s n size ≡ true → (s.front + n ≤ s.back) × (s.back ≤ size)
   unfolding has_room
-  room-is h = go (leb (s.front + n) s.back) refl (leb s.back size) refl
+  room_is h = go (leb (s.front + n) s.back) refl (leb s.back size) refl
     where
       never : false ≡ true → ⊥
       never e = let z : ◌≡◌ {A = ℕ} 0 1 = cc in omega arith
@@ -62,9 +62,9 @@ module _ (s : Progress) (n size : ℕ) where
       go false e q f = absurd (never (sym (rw e) ∙ h))
 
   -- where there is none, though the front and the back are positions of the workspace
-  pub room-short : has_room s n size ≡ false → s.front ≤ s.back → s.back ≤ size → s.back < s.front + n
+  pub room_short : has_room s n size ≡ false → s.front ≤ s.back → s.back ≤ size → s.back < s.front + n
   unfolding has_room
-  room-short h f g = go (leb (s.front + n) s.back) refl
+  room_short h f g = go (leb (s.front + n) s.back) refl
     where
       never : true ≡ false → ⊥
       never e = let z : ◌≡◌ {A = ℕ} 0 1 = cc in omega arith
@@ -79,9 +79,9 @@ module _ (b w : List ℕ) (s : Progress) {r : Progress} where
   unfolding to_work attempt
   work_in ne h e q = let g : has_room s (length b) (length w) ≡ true = sym (ap (λ (k : ℕ). has_room s k (length w)) ne) ∙ h in rw (g, e, q, ne)
 
-  pub work-out : {n : ℕ} → n ≡ length b → has_room s n (length w) ≡ false → r ≡ refuse_s 16 s → (w, r) ≡ to_work b w s
+  pub work_out : {n : ℕ} → n ≡ length b → has_room s n (length w) ≡ false → r ≡ refuse_s 16 s → (w, r) ≡ to_work b w s
   unfolding to_work attempt work_after
-  work-out ne h q = let g : has_room s (length b) (length w) ≡ false = sym (ap (λ (k : ℕ). has_room s k (length w)) ne) ∙ h in rw (g, q)
+  work_out ne h q = let g : has_room s (length b) (length w) ≡ false = sym (ap (λ (k : ℕ). has_room s k (length w)) ne) ∙ h in rw (g, q)
 
 -- a write, by where it goes
 module _ (b t w : List ℕ) (s : Progress) where
@@ -89,17 +89,17 @@ module _ (b t w : List ℕ) (s : Progress) where
   unfolding written written_if
   written_over h = rw (ne_eqb _ _ h)
 
-  to-where : (on : Bool) → s.refused ≡ 0 → s.aside ≡ on → written_aside on b t w s ≡ written b t w s
+  to_where : (on : Bool) → s.refused ≡ 0 → s.aside ≡ on → written_aside on b t w s ≡ written b t w s
   unfolding written written_if
-  to-where on z a = ap (λ (x : Bool). written_aside x b t w s) (sym a) ∙ ap (λ (x : Bool). written_if x b t w s) (sym (eq-eqb _ _ z))
+  to_where on z a = ap (λ (x : Bool). written_aside x b t w s) (sym a) ∙ ap (λ (x : Bool). written_if x b t w s) (sym (eq-eqb _ _ z))
 
-  pub written-aside : {w' : List ℕ} {r : Progress} → s.refused ≡ 0 → s.aside ≡ true → (w', r) ≡ to_work b w s → (t, w', r) ≡ written b t w s
+  pub written_aside_law : {w' : List ℕ} {r : Progress} → s.refused ≡ 0 → s.aside ≡ true → (w', r) ≡ to_work b w s → (t, w', r) ≡ written b t w s
   unfolding written_aside
-  written-aside z a e = ap (λ (p : List ℕ × Progress). (t, p.0, p.1)) e ∙ to-where true z a
+  written_aside_law z a e = ap (λ (p : List ℕ × Progress). (t, p.0, p.1)) e ∙ to_where true z a
 
-  pub written-text : {a : Wrote} {t' : List ℕ} {r : Progress} → s.refused ≡ 0 → s.aside ≡ false → (a, t') ≡ appended t s.text_at b → r ≡ text_after a s → (t', w, r) ≡ written b t w s
+  pub written_text : {a : Wrote} {t' : List ℕ} {r : Progress} → s.refused ≡ 0 → s.aside ≡ false → (a, t') ≡ appended t s.text_at b → r ≡ text_after a s → (t', w, r) ≡ written b t w s
   unfolding written_aside to_text
-  written-text {t' = t'} z a e q = ap (λ (x : Progress). (t', w, x)) q ∙ ap (λ (p : Wrote × List ℕ). (p.1, w, text_after p.0 s)) e ∙ to-where false z a
+  written_text {t' = t'} z a e q = ap (λ (x : Progress). (t', w, x)) q ∙ ap (λ (p : Wrote × List ℕ). (p.1, w, text_after p.0 s)) e ∙ to_where false z a
 
 -- a write of bytes that are some others
 pub written_of : (b c t w : List ℕ) (s : Progress) {p : List ℕ × List ℕ × Progress} → p ≡ written b t w s → b ≡ c → p ≡ written c t w s
@@ -115,19 +115,19 @@ written_three a b d t w s e f g =
 
 -- bytes written only where a condition holds
 module _ (b t w : List ℕ) (s : Progress) {on : Bool} where
-  pub where-on : {t' w' : List ℕ} {r : Progress} → on ≡ true → (t', w', r) ≡ written b t w s → (t', w', r) ≡ written_where on b t w s
+  pub where_on : {t' w' : List ℕ} {r : Progress} → on ≡ true → (t', w', r) ≡ written b t w s → (t', w', r) ≡ written_where on b t w s
   unfolding written_where
-  where-on h e = rw h e
+  where_on h e = rw h e
 
-  pub where-off : on ≡ false → (t, w, s) ≡ written_where on b t w s
+  pub where_off : on ≡ false → (t, w, s) ≡ written_where on b t w s
   unfolding written_where
-  where-off h = rw h
+  where_off h = rw h
 
 -- an error
 module _ (e : Error) (l : List ℕ) (s : Progress) where
-  pub listed-over : (s.refused ≡ 0 → ⊥) → (l, s) ≡ listed e l s
+  pub listed_over : (s.refused ≡ 0 → ⊥) → (l, s) ≡ listed e l s
   unfolding listed listed_if
-  listed-over h = rw (ne_eqb _ _ h)
+  listed_over h = rw (ne_eqb _ _ h)
 
   pub listed_next : {a : Wrote} {l' : List ℕ} {r : Progress} → s.refused ≡ 0 → (a, l') ≡ recorded l s.list_at e → r ≡ list_after a s → (l', r) ≡ listed e l s
   unfolding listed listed_if to_list
@@ -135,10 +135,10 @@ module _ (e : Error) (l : List ℕ) (s : Progress) where
 
 -- a missing variable
 module _ (i l : List ℕ) (s : Progress) where
-  pub missing-within : s.local ≡ true → (l, s) ≡ listed_missing i l s
+  pub missing_within : s.local ≡ true → (l, s) ≡ listed_missing i l s
   unfolding listed_missing
-  missing-within h = ap (λ (x : Bool). given x (l, s) (listed (reference Referred.variable i none) l s)) (sym h)
+  missing_within h = ap (λ (x : Bool). given x (l, s) (listed (reference Referred.variable i none) l s)) (sym h)
 
-  pub missing-outside : {p : List ℕ × Progress} → s.local ≡ false → p ≡ listed (reference Referred.variable i none) l s → p ≡ listed_missing i l s
+  pub missing_outside : {p : List ℕ × Progress} → s.local ≡ false → p ≡ listed (reference Referred.variable i none) l s → p ≡ listed_missing i l s
   unfolding listed_missing
-  missing-outside h e = e ∙ ap (λ (x : Bool). given x (l, s) (listed (reference Referred.variable i none) l s)) (sym h)
+  missing_outside h e = e ∙ ap (λ (x : Bool). given x (l, s) (listed (reference Referred.variable i none) l s)) (sym h)

@@ -1,6 +1,6 @@
 // Errors listed: a record at the list's end, or refused.
 ghost use Rattle.std.specs.Prelude.{◌≡◌, true};
-ghost use Rattle.records.specs.Errors.{no_value, reference, tooManyPlaceables};
+ghost use Rattle.records.specs.Errors.{no_value, reference, too_many_placeables};
 ghost use Rattle.records.specs.Optional.{option_of};
 ghost use Rattle.texts.specs.Relations.Report.{plain_of, referred_of};
 ghost use Rattle.state.specs.Progress.{progress_of};
@@ -71,7 +71,7 @@ pub fn list_variable(list: &mut [u8], st: &mut [usize; 16], name: &[u8])
 
 // The 101st placeable is begun and not expanded.
 pub fn list_too_many(list: &mut [u8], st: &mut [usize; 16])
-    ensures { (list.new, progress_of st.new) ≡ listed tooManyPlaceables list.old (begun_s 101 true (progress_of st.old)) }
+    ensures { (list.new, progress_of st.new) ≡ listed too_many_placeables list.old (begun_s 101 true (progress_of st.old)) }
 {
     begin_last(st);
     list_plain(list, st, Plain::TooManyPlaceables);

@@ -1,6 +1,6 @@
 -- `growth::put_function` meets its contract: the pieces of the record, one behind the other.
 use Prim.Native.Nat.{◌+◌}
-use Rattle.growth.proofs.Items.{function_put_length, function-written, written_length}
+use Rattle.growth.proofs.Items.{function_put_length, function_written, written_length}
 use Rattle.records.specs.Bytes.{to_be}
 use borrow.Author.Rules.{rules}
 use lib.ListN.{length, length-set}
@@ -47,12 +47,12 @@ write-bytes-requires c κs = search rules
 
 same_length : tie.Need-same-length
 same_length c =
-    let bytes = function-written c.before.before.before.before.before.before.before.before.before.before.before.before.before.before.args.slice.now c.before.before.before.before.before.before.before.before.before.before.before.before.before.before.args.at c.before.before.before.before.before.before.before.before.before.before.before.before.before.before.args.id.now c.before.before.before.before.before.before.before.before.before.before.before.before.before.before.requires.0 refl c.before.before.before.before.before.before.before.before.before.before.write-u32.ensures refl refl c.before.before.before.before.before.before.write-u16.ensures c.before.before.write_bytes.ensures in
+    let bytes = function_written c.before.before.before.before.before.before.before.before.before.before.before.before.before.before.args.slice.now c.before.before.before.before.before.before.before.before.before.before.before.before.before.before.args.at c.before.before.before.before.before.before.before.before.before.before.before.before.before.before.args.id.now c.before.before.before.before.before.before.before.before.before.before.before.before.before.before.requires.0 refl c.before.before.before.before.before.before.before.before.before.before.write-u32.ensures refl refl c.before.before.before.before.before.before.write-u16.ensures c.before.before.write_bytes.ensures in
     function_put_length c.before.before.before.before.before.before.before.before.before.before.before.before.before.before.args.slice.now c.before.before.before.before.before.before.before.before.before.before.before.before.before.before.args.at c.before.before.before.before.before.before.before.before.before.before.before.before.before.before.args.id.now c.before.before.before.before.before.before.before.before.before.before.before.before.before.before.requires.0 bytes
 
 returns : tie.Need-returns
 returns c =
-    let bytes = function-written c.before.before.before.before.before.before.before.before.before.before.before.before.before.before.args.slice.now c.before.before.before.before.before.before.before.before.before.before.before.before.before.before.args.at c.before.before.before.before.before.before.before.before.before.before.before.before.before.before.args.id.now c.before.before.before.before.before.before.before.before.before.before.before.before.before.before.requires.0 refl c.before.before.before.before.before.before.before.before.before.before.write-u32.ensures refl refl c.before.before.before.before.before.before.write-u16.ensures c.before.before.write_bytes.ensures in
+    let bytes = function_written c.before.before.before.before.before.before.before.before.before.before.before.before.before.before.args.slice.now c.before.before.before.before.before.before.before.before.before.before.before.before.before.before.args.at c.before.before.before.before.before.before.before.before.before.before.before.before.before.before.args.id.now c.before.before.before.before.before.before.before.before.before.before.before.before.before.before.requires.0 refl c.before.before.before.before.before.before.before.before.before.before.write-u32.ensures refl refl c.before.before.before.before.before.before.write-u16.ensures c.before.before.write_bytes.ensures in
     bytes
 
 pub put-function-spec : {M : Type 1} → statement M

@@ -9,7 +9,7 @@ use denote.Builtin.{usize}
 use denote.Plain.{uint_Lawful}
 use denote.Triple.Spec.{triple_of}
 use denote.Triple.Table.{entered, cited}
-use Rattle.reader.proofs.Apart.{Callee, apart-meets}
+use Rattle.reader.proofs.Apart.{Callee, apart_meets}
 use Rattle.reader.proofs.left_at.Symbol as LeftAtDef
 use Rattle.reader.proofs.left_at.Symbol.{name as #reader·left-at}
 use Rattle.reader.proofs.left_at.Met as LeftAtThm
@@ -26,5 +26,5 @@ unfolding code.routine tables_of
 left-spec 𝓤 𝓛 𝓜 𝓡 =
     entered 𝓤 𝓛.H (triple_of 𝓛 left.signature (left.spec 𝓛 𝓜.mem 𝓡.run))
     (tables 𝓤 𝓛.H 𝓜 𝓡 code.env).C (tables 𝓤 𝓛.H 𝓜 𝓡 code.env).Λ #reader·left code.function (code.unfolded 𝓤 𝓛.H 𝓜 𝓡)
-    (apart-meets usize (ty_int w64) leftAt 𝓛 (λ r u is. ((uint_Lawful 𝓛 w64).typed r _ is).0) #reader·left-at (tables_of 𝓤 𝓛.H 𝓜 (tables 𝓤 𝓛.H 𝓜 𝓡 code.env))
+    (apart_meets usize (ty_int w64) leftAt 𝓛 (λ r u is. ((uint_Lawful 𝓛 w64).typed r _ is).0) #reader·left-at (tables_of 𝓤 𝓛.H 𝓜 (tables 𝓤 𝓛.H 𝓜 𝓡 code.env))
     (cited 𝓤 𝓛.H (Callee usize (ty_int w64) leftAt 𝓛) 𝓜 𝓡 code.env #reader·left-at LeftAtDef.routine code.calls-reader::left-at (LeftAtThm.met 𝓤 𝓛 𝓜 𝓡)))

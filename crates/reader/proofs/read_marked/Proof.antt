@@ -4,7 +4,7 @@ use contract.Running.{tables, tables_of}
 use denote.Triple.Spec.{triple_of}
 use denote.Triple.Table.{entered, cited}
 use Rattle.records.specs.Bytes.{byte_at, span_at}
-use Rattle.reader.proofs.Making.{New, Past, RowOf, Reading, in-row-meets}
+use Rattle.reader.proofs.Making.{New, Past, RowOf, Reading, in_row_meets}
 use Rattle.reader.proofs.new.Symbol as NewDef
 use Rattle.reader.proofs.new.Symbol.{name as #reader·new}
 use Rattle.reader.proofs.new.Met as NewThm
@@ -31,7 +31,7 @@ read-marked-spec 𝓤 𝓛 𝓜 𝓡 =
     let str = cited 𝓤 𝓛.H (Reading 𝓛 span_at) 𝓜 𝓡 code.env #reader·read-str StrDef.routine code.calls-reader::read-str (StrThm.met 𝓤 𝓛 𝓜 𝓡) in
     entered 𝓤 𝓛.H (triple_of 𝓛 marked.signature (marked.spec 𝓛 𝓜.mem 𝓡.run))
     (tables 𝓤 𝓛.H 𝓜 𝓡 code.env).C (tables 𝓤 𝓛.H 𝓜 𝓡 code.env).Λ #reader·read-marked code.function (code.unfolded 𝓤 𝓛.H 𝓜 𝓡)
-    (in-row-meets span_at byte_at span_at 𝓛 𝓜.mem 𝓡.run #reader·read-str #reader·read-byte #reader·read-str (tables_of 𝓤 𝓛.H 𝓜 (tables 𝓤 𝓛.H 𝓜 𝓡 code.env))
+    (in_row_meets span_at byte_at span_at 𝓛 𝓜.mem 𝓡.run #reader·read-str #reader·read-byte #reader·read-str (tables_of 𝓤 𝓛.H 𝓜 (tables 𝓤 𝓛.H 𝓜 𝓡 code.env))
     str (cited 𝓤 𝓛.H (Reading 𝓛 byte_at) 𝓜 𝓡 code.env #reader·read-byte ByteDef.routine code.calls-reader::read-byte (ByteThm.met 𝓤 𝓛 𝓜 𝓡)) str
     (cited 𝓤 𝓛.H (New 𝓛 𝓜.mem 𝓡.run) 𝓜 𝓡 code.env #reader·new NewDef.routine code.calls-reader::new (NewThm.met 𝓤 𝓛 𝓜 𝓡))
     (cited 𝓤 𝓛.H (Past 𝓛 𝓜.mem 𝓡.run) 𝓜 𝓡 code.env #reader·past PastDef.routine code.calls-reader::past (PastThm.met 𝓤 𝓛 𝓜 𝓡))

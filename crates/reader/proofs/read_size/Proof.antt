@@ -4,7 +4,7 @@ use contract.Running.{tables, tables_of}
 use denote.Triple.Spec.{triple_of}
 use denote.Triple.Table.{entered, cited}
 use Rattle.records.specs.Bytes.{number_at}
-use Rattle.reader.proofs.Making.{New, Past, Position, Left, SizedOf, Reading, in-size-meets}
+use Rattle.reader.proofs.Making.{New, Past, Position, Left, SizedOf, Reading, in_size_meets}
 use Rattle.reader.proofs.new.Symbol as NewDef
 use Rattle.reader.proofs.new.Symbol.{name as #reader·new}
 use Rattle.reader.proofs.new.Met as NewThm
@@ -33,7 +33,7 @@ unfolding code.routine tables_of
 read-size-spec 𝓤 𝓛 𝓜 𝓡 =
     entered 𝓤 𝓛.H (triple_of 𝓛 size.signature (size.spec 𝓛 𝓜.mem 𝓡.run))
     (tables 𝓤 𝓛.H 𝓜 𝓡 code.env).C (tables 𝓤 𝓛.H 𝓜 𝓡 code.env).Λ #reader·read-size code.function (code.unfolded 𝓤 𝓛.H 𝓜 𝓡)
-    (in-size-meets 𝓛 𝓜.mem 𝓡.run (tables_of 𝓤 𝓛.H 𝓜 (tables 𝓤 𝓛.H 𝓜 𝓡 code.env))
+    (in_size_meets 𝓛 𝓜.mem 𝓡.run (tables_of 𝓤 𝓛.H 𝓜 (tables 𝓤 𝓛.H 𝓜 𝓡 code.env))
     (cited 𝓤 𝓛.H (Reading 𝓛 (number_at 4)) 𝓜 𝓡 code.env #reader·read-u32 U32Def.routine code.calls-reader::read-u32 (U32Thm.met 𝓤 𝓛 𝓜 𝓡))
     (cited 𝓤 𝓛.H (New 𝓛 𝓜.mem 𝓡.run) 𝓜 𝓡 code.env #reader·new NewDef.routine code.calls-reader::new (NewThm.met 𝓤 𝓛 𝓜 𝓡))
     (cited 𝓤 𝓛.H (Past 𝓛 𝓜.mem 𝓡.run) 𝓜 𝓡 code.env #reader·past PastDef.routine code.calls-reader::past (PastThm.met 𝓤 𝓛 𝓜 𝓡))

@@ -21,8 +21,8 @@ use Rattle.texts.specs.Relations.Report.{plain_of, room_for, recorded}
 use Rattle.texts.specs.declared.errors.Plain.{Plain}
 use Rattle.buffers.specs.declared.Wrote.{Wrote}
 use Rattle.buffers.specs.declared.Wrote.TheVariants as wrote
-use Rattle.buffers.proofs.Place.{length_over, take-over, drop-over}
-use Rattle.texts.proofs.Recording.{room-by-size, recorded-at, recorded-no, plain_length, no_value_length, bare-length, attribute-length}
+use Rattle.buffers.proofs.Place.{length_over, take_over, drop_over}
+use Rattle.texts.proofs.Recording.{room_by_size, recorded_at, recorded_no, plain_length, no_value_length, bare_length, attribute_length}
 use Rattle.resolution.specs.Effect.{report, emit}
 use Rattle.state.specs.Progress.{Progress}
 use Rattle.values.specs.declared.Value as CodeValue
@@ -49,26 +49,26 @@ listed_begun wrote.Full st = refl
 
 no_room : (size at n : ℕ) → n ≤ 65537 → room_for size at n ≡ false → min size 4294967295 < at + n
 no_room size at n h e =
-    ⊎_elim (λ (f : at + n ≤ 4294967295). let g = leb-false (at + n) size (sym (room-by-size size at n h f) ∙ e) in omega arith)
+    ⊎_elim (λ (f : at + n ≤ 4294967295). let g = leb-false (at + n) size (sym (room_by_size size at n h f) ∙ e) in omega arith)
     (λ (f : 4294967295 < at + n). omega arith)
     (le_or_lt (at + n) 4294967295)
 
 module _ (i x l w t : List ℕ) (st : Progress) (er : Error) {l' : List ℕ} {a : Wrote} {r : Progress} (z : st.refused ≡ 0) (is : (a, l') ≡ recorded l st.list_at er) (e : r ≡ list_after a st) where
-  pub record-kept : Kept (world i x l w t st) (world i x l' w t r)
-  record-kept = let b : r.begun ≡ st.begun = ap (λ (s : Progress). s.begun) e ∙ listed_begun a st in record { begun = omega arith; over = λ f. absurd (f z) }
+  pub record_kept : Kept (world i x l w t st) (world i x l' w t r)
+  record_kept = let b : r.begun ≡ st.begun = ap (λ (s : Progress). s.begun) e ∙ listed_begun a st in record { begun = omega arith; over = λ f. absurd (f z) }
 
   pub record_listed : length (enc_error er) ≤ 65537 → Acts (emit (report er)) (world i x l w t st) (world i x l' w t r)
   record_listed h =
       ⊎_elim
       (λ (q : (p : ℕ) × (a ≡ wrote.At p)).
-      let g = recorded-at l st.list_at er is q.1 in
+      let g = recorded_at l st.list_at er is q.1 in
       let len : length l' ≡ length l = ap length g.3 ∙ length_over l st.list_at (enc_error er) g.0 in
-      let front : take (st.list_at + length (enc_error er)) l' ≡ take st.list_at l ++ enc_error er = ap (take (st.list_at + length (enc_error er))) g.3 ∙ take-over l st.list_at (enc_error er) (let k = g.0 in omega arith) in
-      let rest : drop (st.list_at + length (enc_error er)) l' ≡ drop (st.list_at + length (enc_error er)) l = ap (drop (st.list_at + length (enc_error er))) g.3 ∙ drop-over l st.list_at (enc_error er) (let k = g.0 in omega arith) in
+      let front : take (st.list_at + length (enc_error er)) l' ≡ take st.list_at l ++ enc_error er = ap (take (st.list_at + length (enc_error er))) g.3 ∙ take_over l st.list_at (enc_error er) (let k = g.0 in omega arith) in
+      let rest : drop (st.list_at + length (enc_error er)) l' ≡ drop (st.list_at + length (enc_error er)) l = ap (drop (st.list_at + length (enc_error er))) g.3 ∙ drop_over l st.list_at (enc_error er) (let k = g.0 in omega arith) in
       let s : list_s (st.list_at + length (enc_error er)) (min (st.errors + 1) max_unfound) st ≡ r = sym (e ∙ sym (list_at st q.1 refl) ∙ ap (λ (n : ℕ). list_s n (min (st.errors + 1) max_unfound) st) g.2) in
       subst (λ (v : Progress). Acts (emit (report er)) (world i x l w t st) (world i x l' w t v)) s (list_in i x l w t st er refl z (error_some er) g.0 g.1 refl len front rest))
       (λ (q : a ≡ wrote.Full).
-      let g = recorded-no l st.list_at er is q in
+      let g = recorded_no l st.list_at er is q in
       let full = no_room (length l) st.list_at (length (enc_error er)) h g.0 in
       subst (λ (y : List ℕ). Acts (emit (report er)) (world i x l w t st) (world i x y w t r)) (sym g.1) (list_full i x l w t st er z (λ _ _. full) (e ∙ sym (list-full-at st q refl))))
       (wrote_or a)
@@ -82,8 +82,8 @@ no_value_short n h = let a = no_value_length n in omega arith
 
 pub reference_short : (k : Referred) (n : List ℕ) (has : Bool) (m : List ℕ) → length n ≤ 255 → length m ≤ 255 → length (enc_error (reference k n (option_of has m))) ≤ 65537
 unfolding option_of
-reference_short k n true m h g = let a = attribute-length n k m in omega arith
-reference_short k n false m h g = let a = bare-length n k in omega arith
+reference_short k n true m h g = let a = attribute_length n k m in omega arith
+reference_short k n false m h g = let a = bare_length n k in omega arith
 
 -- the text of a number that the code holds
 pub shown_text_law : (x : Number) → in_range x ≡ true → ranged_text (told (shown x)) ≡ value_text (numeric x)
@@ -92,47 +92,47 @@ shown_text_law x h = ranged_in (told (shown x)) (rw count_there h) ∙ rw count_
 
 -- a value's text in the store or in the arguments, and where it has none in either
 module _ (i a : List ℕ) where
-  pub text_in-store : {b e : ℕ} {c : CodeValue.Value} → c ≡ val.Store b e → between i b e ≡ text_inside i a c
+  pub text_in_store : {b e : ℕ} {c : CodeValue.Value} → c ≡ val.Store b e → between i b e ≡ text_inside i a c
   unfolding text_inside
-  text_in-store h = rw h
+  text_in_store h = rw h
 
-  pub text_in-args : {b e : ℕ} {c : CodeValue.Value} → c ≡ val.Args b e → between a b e ≡ text_inside i a c
+  pub text_in_args : {b e : ℕ} {c : CodeValue.Value} → c ≡ val.Args b e → between a b e ≡ text_inside i a c
   unfolding text_inside
-  text_in-args h = rw h
+  text_in_args h = rw h
 
-  pub text_in-none : (c : CodeValue.Value) → OneOf (2 ∷ 3 ∷ 4 ∷ 5 ∷ []) (tag_of the_type c) → [] ≡ text_inside i a c
+  pub text_in_none : (c : CodeValue.Value) → OneOf (2 ∷ 3 ∷ 4 ∷ 5 ∷ []) (tag_of the_type c) → [] ≡ text_inside i a c
   unfolding text_inside
-  text_in-none (val.Store b e) k = absurd (miss (2 ∷ 3 ∷ 4 ∷ 5 ∷ []) 0 tt k)
-  text_in-none (val.Args b e) k = absurd (miss (2 ∷ 3 ∷ 4 ∷ 5 ∷ []) 1 tt k)
-  text_in-none (val.Work b e) k = refl
-  text_in-none (val.Number n) k = refl
-  text_in-none val.Nothing k = refl
-  text_in-none val.Wrong k = refl
+  text_in_none (val.Store b e) k = absurd (miss (2 ∷ 3 ∷ 4 ∷ 5 ∷ []) 0 tt k)
+  text_in_none (val.Args b e) k = absurd (miss (2 ∷ 3 ∷ 4 ∷ 5 ∷ []) 1 tt k)
+  text_in_none (val.Work b e) k = refl
+  text_in_none (val.Number n) k = refl
+  text_in_none val.Nothing k = refl
+  text_in_none val.Wrong k = refl
 
 -- the bytes that are written for a value are its text
 module _ (i a w : List ℕ) where
-  pub bytes-work : {b e : ℕ} {c : CodeValue.Value} → c ≡ val.Work b e → between w b e ≡ bytes_of i a w c
+  pub bytes_work : {b e : ℕ} {c : CodeValue.Value} → c ≡ val.Work b e → between w b e ≡ bytes_of i a w c
   unfolding bytes_of
-  bytes-work h = rw h
+  bytes_work h = rw h
 
-  pub bytes-number : {n : CodeNumber.Number} {c : CodeValue.Value} → c ≡ val.Number n → ranged_text (told n) ≡ bytes_of i a w c
+  pub bytes_number : {n : CodeNumber.Number} {c : CodeValue.Value} → c ≡ val.Number n → ranged_text (told n) ≡ bytes_of i a w c
   unfolding bytes_of
-  bytes-number h = rw h
+  bytes_number h = rw h
 
-  pub bytes-text : (c : CodeValue.Value) → OneOf (0 ∷ 1 ∷ 4 ∷ 5 ∷ []) (tag_of the_type c) → text_inside i a c ≡ bytes_of i a w c
+  pub bytes_text : (c : CodeValue.Value) → OneOf (0 ∷ 1 ∷ 4 ∷ 5 ∷ []) (tag_of the_type c) → text_inside i a c ≡ bytes_of i a w c
   unfolding bytes_of
-  bytes-text (val.Store b e) k = refl
-  bytes-text (val.Args b e) k = refl
-  bytes-text (val.Work b e) k = absurd (miss (0 ∷ 1 ∷ 4 ∷ 5 ∷ []) 2 tt k)
-  bytes-text (val.Number n) k = absurd (miss (0 ∷ 1 ∷ 4 ∷ 5 ∷ []) 3 tt k)
-  bytes-text val.Nothing k = refl
-  bytes-text val.Wrong k = refl
+  bytes_text (val.Store b e) k = refl
+  bytes_text (val.Args b e) k = refl
+  bytes_text (val.Work b e) k = absurd (miss (0 ∷ 1 ∷ 4 ∷ 5 ∷ []) 2 tt k)
+  bytes_text (val.Number n) k = absurd (miss (0 ∷ 1 ∷ 4 ∷ 5 ∷ []) 3 tt k)
+  bytes_text val.Nothing k = refl
+  bytes_text val.Wrong k = refl
 
-  pub bytes-held : (low : ℕ) {c : CodeValue.Value} {v : Value} → Holds i a w low c v → bytes_of i a w c ≡ value_text v
+  pub bytes_held : (low : ℕ) {c : CodeValue.Value} {v : Value} → Holds i a w low c v → bytes_of i a w c ≡ value_text v
   unfolding bytes_of text_inside value_text
-  bytes-held low (in_store b e p lo hi r) = ap (bytes_of i a w) p ∙ between_in i b e lo hi ∙ sym (ap value_text r)
-  bytes-held low (in_args b e p lo hi r) = ap (bytes_of i a w) p ∙ between_in a b e lo hi ∙ sym (ap value_text r)
-  bytes-held low (in_work b e p l lo hi r) = ap (bytes_of i a w) p ∙ between_in w b e lo hi ∙ sym (ap value_text r)
-  bytes-held low (a_number n p q r) = ap (bytes_of i a w) p ∙ shown_text_law n q ∙ sym (ap value_text r)
-  bytes-held low (is_nothing p r) = ap (bytes_of i a w) p ∙ sym (ap value_text r)
-  bytes-held low (a_wrong p r) = ap (bytes_of i a w) p ∙ sym (ap value_text r)
+  bytes_held low (in_store b e p lo hi r) = ap (bytes_of i a w) p ∙ between_in i b e lo hi ∙ sym (ap value_text r)
+  bytes_held low (in_args b e p lo hi r) = ap (bytes_of i a w) p ∙ between_in a b e lo hi ∙ sym (ap value_text r)
+  bytes_held low (in_work b e p l lo hi r) = ap (bytes_of i a w) p ∙ between_in w b e lo hi ∙ sym (ap value_text r)
+  bytes_held low (a_number n p q r) = ap (bytes_of i a w) p ∙ shown_text_law n q ∙ sym (ap value_text r)
+  bytes_held low (is_nothing p r) = ap (bytes_of i a w) p ∙ sym (ap value_text r)
+  bytes_held low (a_wrong p r) = ap (bytes_of i a w) p ∙ sym (ap value_text r)

@@ -25,40 +25,40 @@ use Rattle.records.specs.Got.{got}
 use Rattle.records.specs.Bytes.{part}
 use Rattle.records.specs.Tree.{Literal, Named}
 use Rattle.records.specs.Decode.{many, named_at}
-use Rattle.records.proofs.Views.{many-nil}
+use Rattle.records.proofs.Views.{many_nil}
 use Rattle.resolver.specs.declared.scope.value.NamedSpan.{NamedSpan}
 use Rattle.resolver.specs.declared.scope.value.NamedRead as CodeNamed
 use Rattle.resolver.specs.declared.scope.value.NamedRead.TheVariants as named
 use Rattle.resolver.specs.Relations.Meets.{takes, literal_text, named_texts, TextIn, NamedIn}
 use Rattle.resolver.specs.Relations.Values.{LiteralIs, a_string, is_digits, NamedReads, TakenAt, MergedAt, merged_all}
-use Rattle.resolver.proofs.Single.Values.{takes_marked, text_of, named-first, named-never}
+use Rattle.resolver.proofs.Single.Values.{takes_marked, text_of, named_first, named_never}
 use Rattle.resolver.proofs.Single.Named.{text_string, text_number, named_uncons}
-use Rattle.resolver.proofs.Single.Merges.{merge_text_is, merge_number_is, literal_is, literal_bad, all-long, all-next}
+use Rattle.resolver.proofs.Single.Merges.{merge_text_is, merge_number_is, literal_is, literal_bad, all_long, all_next}
 
 -- one option merged, by its literal
 module _ (s w : List ℕ) (from to tag a e base : ℕ) (o : CodeOptions.Options) where
-  merge-digits-bad-part : {r : CodeMerged.Merged} {l : CodeLiteral.Literal} → tag ≡ 2 → l ≡ literal_of (part s a (e - a)) → l ≡ literals.Bad → MergedAt s w from to tag a e base o r
-  merge-digits-bad-part i h b x p (a_string t _) f g q k tk bw tx eo = absurd (omega arith)
-  merge-digits-bad-part i h b x p (is_digits t ok _) f g q k tk bw tx eo = literal_bad _ ok h b
+  merge_digits_bad_part : {r : CodeMerged.Merged} {l : CodeLiteral.Literal} → tag ≡ 2 → l ≡ literal_of (part s a (e - a)) → l ≡ literals.Bad → MergedAt s w from to tag a e base o r
+  merge_digits_bad_part i h b x p (a_string t _) f g q k tk bw tx eo = absurd (omega arith)
+  merge_digits_bad_part i h b x p (is_digits t ok _) f g q k tk bw tx eo = literal_bad _ ok h b
 
-  merge-digits-part : {r : CodeMerged.Merged} {l : CodeLiteral.Literal} {n : CodeNumber.Number} → tag ≡ 2 → l ≡ literal_of (part s a (e - a)) → l ≡ literals.Is n
+  merge_digits_part : {r : CodeMerged.Merged} {l : CodeLiteral.Literal} {n : CodeNumber.Number} → tag ≡ 2 → l ≡ literal_of (part s a (e - a)) → l ≡ literals.Is n
       → r ≡ merged_of (part s from (to - from)) (numeric (told n)) (told_options o) → MergedAt s w from to tag a e base o r
-  merge-digits-part i h b er x p (a_string t _) f g q k tk bw tx eo = absurd (omega arith)
-  merge-digits-part i h b er x p (is_digits t ok wx) f g q k tk bw tx eo = merge_number_is (part s from (to - from)) (literal (part s a (e - a))) p eo (ap literal_text wx ∙ text_number _) (literal_is _ ok h b) er
+  merge_digits_part i h b er x p (a_string t _) f g q k tk bw tx eo = absurd (omega arith)
+  merge_digits_part i h b er x p (is_digits t ok wx) f g q k tk bw tx eo = merge_number_is (part s from (to - from)) (literal (part s a (e - a))) p eo (ap literal_text wx ∙ text_number _) (literal_is _ ok h b) er
 
   module _ (nt : tag ≡ 2 → ⊥) where
-    merge-plain-part : {m : CodeOptions.Options} → has_backslash (part s a (e - a)) ≡ false → m ≡ shown_options (merge_text (part s from (to - from)) (part s a (e - a)) (told_options o)) → MergedAt s w from to tag a e base o (merges.Is m)
-    merge-plain-part h em x p (is_digits t _ _) f g q k tk bw tx eo = absurd (nt t)
-    merge-plain-part h em x p (a_string t wx) f g q k tk bw tx eo = merge_text_is (part s from (to - from)) (part s a (e - a)) p eo (ap literal_text wx ∙ text_string _ ∙ ap textual (unescape_plain _ h)) em
+    merge_plain_part : {m : CodeOptions.Options} → has_backslash (part s a (e - a)) ≡ false → m ≡ shown_options (merge_text (part s from (to - from)) (part s a (e - a)) (told_options o)) → MergedAt s w from to tag a e base o (merges.Is m)
+    merge_plain_part h em x p (is_digits t _ _) f g q k tk bw tx eo = absurd (nt t)
+    merge_plain_part h em x p (a_string t wx) f g q k tk bw tx eo = merge_text_is (part s from (to - from)) (part s a (e - a)) p eo (ap literal_text wx ∙ text_string _ ∙ ap textual (unescape_plain _ h)) em
 
     module _ (h : has_backslash (part s a (e - a)) ≡ true) {n : ℕ} (en : n ≡ length (unescape (part s a (e - a)))) where
-      merge-short-part : {r : CodeMerged.Merged} → base < n → MergedAt s w from to tag a e base o r
-      merge-short-part z x p (is_digits t _ _) f g q k tk bw tx eo = absurd (nt t)
-      merge-short-part z x p (a_string t wx) f g q k tk bw tx eo = let y = ap takes wx ∙ takes_marked _ h in absurd (omega arith)
+      merge_short_part : {r : CodeMerged.Merged} → base < n → MergedAt s w from to tag a e base o r
+      merge_short_part z x p (is_digits t _ _) f g q k tk bw tx eo = absurd (nt t)
+      merge_short_part z x p (a_string t wx) f g q k tk bw tx eo = let y = ap takes wx ∙ takes_marked _ h in absurd (omega arith)
 
-      merge-marked-part : {m : CodeOptions.Options} → m ≡ shown_options (merge_text (part s from (to - from)) (part w (base - n) (base - (base - n))) (told_options o)) → MergedAt s w from to tag a e base o (merges.Is m)
-      merge-marked-part em x p (is_digits t _ _) f g q k tk bw tx eo = absurd (nt t)
-      merge-marked-part {m} em x p (a_string t wx) f g q k tk bw tx eo =
+      merge_marked_part : {m : CodeOptions.Options} → m ≡ shown_options (merge_text (part s from (to - from)) (part w (base - n) (base - (base - n))) (told_options o)) → MergedAt s w from to tag a e base o (merges.Is m)
+      merge_marked_part em x p (is_digits t _ _) f g q k tk bw tx eo = absurd (nt t)
+      merge_marked_part {m} em x p (a_string t wx) f g q k tk bw tx eo =
           let y = ap takes wx ∙ takes_marked _ h in
           let c : base - (base - n) ≡ n = omega arith in
           let d = text_of w base (part s a (e - a)) h (subst (TextIn w base) wx tx) in
@@ -68,35 +68,35 @@ module _ (s w : List ℕ) (from to tag a e base : ℕ) (o : CodeOptions.Options)
 
 -- the same of parts of the store, if they are so
 module _ (s w : List ℕ) (from to tag a e base : ℕ) (o : CodeOptions.Options) {n t : List ℕ} (en : n ≡ between s from to) (et : t ≡ between s a e) where
-  pub merge-digits-bad : {r : CodeMerged.Merged} {l : CodeLiteral.Literal} → tag ≡ 2 → l ≡ literal_of t → l ≡ literals.Bad → MergedAt s w from to tag a e base o r
-  merge-digits-bad {l = l} i h b x p li f g q k = merge-digits-bad-part s w from to tag a e base o i (subst (λ (m : List ℕ). l ≡ literal_of m) (et ∙ between_in s a e q k) h) b x p li f g q k
+  pub merge_digits_bad : {r : CodeMerged.Merged} {l : CodeLiteral.Literal} → tag ≡ 2 → l ≡ literal_of t → l ≡ literals.Bad → MergedAt s w from to tag a e base o r
+  merge_digits_bad {l = l} i h b x p li f g q k = merge_digits_bad_part s w from to tag a e base o i (subst (λ (m : List ℕ). l ≡ literal_of m) (et ∙ between_in s a e q k) h) b x p li f g q k
 
-  pub merge-digits : {r : CodeMerged.Merged} {l : CodeLiteral.Literal} {m : CodeNumber.Number} → tag ≡ 2 → l ≡ literal_of t → l ≡ literals.Is m
+  pub merge_digits : {r : CodeMerged.Merged} {l : CodeLiteral.Literal} {m : CodeNumber.Number} → tag ≡ 2 → l ≡ literal_of t → l ≡ literals.Is m
       → r ≡ merged_of n (numeric (told m)) (told_options o) → MergedAt s w from to tag a e base o r
-  merge-digits {r} {l} {m} i h b er x p li f g q k =
-      merge-digits-part s w from to tag a e base o i (subst (λ (y : List ℕ). l ≡ literal_of y) (et ∙ between_in s a e q k) h) b
+  merge_digits {r} {l} {m} i h b er x p li f g q k =
+      merge_digits_part s w from to tag a e base o i (subst (λ (y : List ℕ). l ≡ literal_of y) (et ∙ between_in s a e q k) h) b
       (subst (λ (y : List ℕ). r ≡ merged_of y (numeric (told m)) (told_options o)) (en ∙ between_in s from to f g) er) x p li f g q k
 
   module _ (nt : tag ≡ 2 → ⊥) where
-    pub merge-plain : {m : CodeOptions.Options} → has_backslash t ≡ false → m ≡ shown_options (merge_text n t (told_options o)) → MergedAt s w from to tag a e base o (merges.Is m)
-    merge-plain {m} h em x p li f g q k =
+    pub merge_plain : {m : CodeOptions.Options} → has_backslash t ≡ false → m ≡ shown_options (merge_text n t (told_options o)) → MergedAt s w from to tag a e base o (merges.Is m)
+    merge_plain {m} h em x p li f g q k =
         let y = en ∙ between_in s from to f g in
         let z = et ∙ between_in s a e q k in
-        merge-plain-part s w from to tag a e base o nt (subst (λ (b : List ℕ). has_backslash b ≡ false) z h)
+        merge_plain_part s w from to tag a e base o nt (subst (λ (b : List ℕ). has_backslash b ≡ false) z h)
         (subst (λ (b : List ℕ). m ≡ shown_options (merge_text b (part s a (e - a)) (told_options o))) y (subst (λ (b : List ℕ). m ≡ shown_options (merge_text n b (told_options o))) z em)) x p li f g q k
 
     module _ (h : has_backslash t ≡ true) {c : ℕ} (ec : c ≡ length (unescape t)) where
-      pub merge-short : {r : CodeMerged.Merged} → base < c → MergedAt s w from to tag a e base o r
-      merge-short z x p li f g q k =
+      pub merge_short : {r : CodeMerged.Merged} → base < c → MergedAt s w from to tag a e base o r
+      merge_short z x p li f g q k =
           let y = et ∙ between_in s a e q k in
-          merge-short-part s w from to tag a e base o nt (subst (λ (b : List ℕ). has_backslash b ≡ true) y h) (subst (λ (b : List ℕ). c ≡ length (unescape b)) y ec) z x p li f g q k
+          merge_short_part s w from to tag a e base o nt (subst (λ (b : List ℕ). has_backslash b ≡ true) y h) (subst (λ (b : List ℕ). c ≡ length (unescape b)) y ec) z x p li f g q k
 
-      pub merge-marked : {m : CodeOptions.Options} {u : List ℕ} → u ≡ between w (base - c) base → m ≡ shown_options (merge_text n u (told_options o)) → MergedAt s w from to tag a e base o (merges.Is m)
-      merge-marked {m} {u} eu em x p li f g q k tk bw =
+      pub merge_marked : {m : CodeOptions.Options} {u : List ℕ} → u ≡ between w (base - c) base → m ≡ shown_options (merge_text n u (told_options o)) → MergedAt s w from to tag a e base o (merges.Is m)
+      merge_marked {m} {u} eu em x p li f g q k tk bw =
           let y = et ∙ between_in s a e q k in
           let j = en ∙ between_in s from to f g in
           let v : u ≡ part w (base - c) (base - (base - c)) = eu ∙ between_in w (base - c) base (omega arith) bw in
-          merge-marked-part s w from to tag a e base o nt (subst (λ (b : List ℕ). has_backslash b ≡ true) y h) (subst (λ (b : List ℕ). c ≡ length (unescape b)) y ec)
+          merge_marked_part s w from to tag a e base o nt (subst (λ (b : List ℕ). has_backslash b ≡ true) y h) (subst (λ (b : List ℕ). c ≡ length (unescape b)) y ec)
           (subst (λ (b : List ℕ). m ≡ shown_options (merge_text b (part w (base - c) (base - (base - c))) (told_options o))) j (subst (λ (b : List ℕ). m ≡ shown_options (merge_text n b (told_options o))) v em)) x p li f g q k tk bw
 
 -- the options merged so far, and the named arguments that are left
@@ -117,40 +117,40 @@ unfolding named_texts
 texts_cons x l = refl
 
 module _ {s w : List ℕ} {low f i p end : ℕ} {o : CodeOptions.Options} {whole : CodeMerged.Merged} (k : Merging s w low f i p end o whole) where
-  pub merging-end : i ≤ 0 → merges.Is o ≡ whole
-  merging-end z = many-nil [] ◌∷◌ named_at s i p z k.left (λ e _. ap merges.Is k.here ∙ sym (k.same ∙ ap (λ (l : Named). merged_all (named_texts l) k.so_far) e ∙ all_nil k.so_far))
+  pub merging_end : i ≤ 0 → merges.Is o ≡ whole
+  merging_end z = many_nil [] ◌∷◌ named_at s i p z k.left (λ e _. ap merges.Is k.here ∙ sym (k.same ∙ ap (λ (l : Named). merged_all (named_texts l) k.so_far) e ∙ all_nil k.so_far))
 
   module _ {r : CodeNamed.NamedRead} (z : 0 < i) (read : NamedReads s p r) where
-    pub merging-never : {C : Type 0} → r ≡ named.Bad → C
-    merging-never h = named-never s p read i z k.left h
+    pub merging_never : {C : Type 0} → r ≡ named.Bad → C
+    merging_never h = named_never s p read i z k.left h
 
     module _ {sp : NamedSpan} (h : r ≡ named.Is sp) {g : CodeMerged.Merged} (one : MergedAt s w sp.from sp.to sp.tag sp.start sp.end end o g) where
-      merging-with : {C : Type 0} → ((x : List ℕ × Literal) (t : Named) → LiteralIs s sp.tag sp.start sp.end x.1 → many [] ◌∷◌ (i - 1) named_at s sp.end ≡ got t f → NamedIn w low end (x ∷ t)
+      merging_with : {C : Type 0} → ((x : List ℕ × Literal) (t : Named) → LiteralIs s sp.tag sp.start sp.end x.1 → many [] ◌∷◌ (i - 1) named_at s sp.end ≡ got t f → NamedIn w low end (x ∷ t)
           → g ≡ merged_of x.0 (literal_text x.1) k.so_far → whole ≡ merged_all ((x.0, literal_text x.1) ∷ named_texts t) k.so_far → C) → C
-      merging-with c = named-first s p read i z k.left h (λ x t en li ht e.
+      merging_with c = named_first s p read i z k.left h (λ x t en li ht e.
           let q = read.inside sp h in
           let ni = subst (NamedIn w low end) e k.texts in
           let u = named_uncons ni in
           c x t li ht ni (one x.1 k.so_far li q.0 q.1 q.2 q.3 u.0 u.1 u.2 k.here ∙ ap (λ (b : List ℕ). merged_of b (literal_text x.1) k.so_far) (sym en))
           (k.same ∙ ap (λ (l : Named). merged_all (named_texts l) k.so_far) e ∙ ap (λ (l : List (List ℕ × Value)). merged_all l k.so_far) (texts_cons x t)))
 
-      pub merging-long : g ≡ merges.TooLong → merges.TooLong ≡ whole
-      merging-long eg = merging-with (λ x t li ht ni eo es. sym (es ∙ all-long x.0 (literal_text x.1) (named_texts t) k.so_far (sym eo ∙ eg)))
+      pub merging_long : g ≡ merges.TooLong → merges.TooLong ≡ whole
+      merging_long eg = merging_with (λ x t li ht ni eo es. sym (es ∙ all_long x.0 (literal_text x.1) (named_texts t) k.so_far (sym eo ∙ eg)))
 
       module _ {n : ℕ} (tk : TakenAt s sp.tag sp.start sp.end n) where
-        pub merging-room : n ≤ end
-        merging-room = merging-with (λ x t li ht ni eo es.
+        pub merging_room : n ≤ end
+        merging_room = merging_with (λ x t li ht ni eo es.
             let q = (named_uncons ni).0 in
             let j = read.inside sp h in
             let y = tk x.1 li j.2 j.3 in
             omega arith)
 
-        pub merging-next : {m : CodeOptions.Options} → g ≡ merges.Is m → Merging s w low f (i - 1) sp.end (end - n) m whole
-        merging-next {m} eg = merging-with (λ x t li ht ni eo es.
+        pub merging_next : {m : CodeOptions.Options} → g ≡ merges.Is m → Merging s w low f (i - 1) sp.end (end - n) m whole
+        merging_next {m} eg = merging_with (λ x t li ht ni eo es.
             let q = named_uncons ni in
             let j = read.inside sp h in
             let y = tk x.1 li j.2 j.3 in
-            let a = all-next x.0 (literal_text x.1) (named_texts t) k.so_far (sym eo ∙ eg) in
+            let a = all_next x.0 (literal_text x.1) (named_texts t) k.so_far (sym eo ∙ eg) in
             record {
               rest = t;
               so_far = merge_one x.0 (literal_text x.1) k.so_far;

@@ -11,7 +11,7 @@ use borrow.Author.Tests.{lt-ltb}
 use Rattle.numbers.specs.Value.{textual}
 use Rattle.records.specs.Bytes.{part}
 use Rattle.buffers.specs.Relations.Append.{Keeps}
-use Rattle.resolution.specs.Effect.{Bytes, keep-text, State, Out, M, Done, ret, capture}
+use Rattle.resolution.specs.Effect.{Bytes, keep_text, State, Out, M, Done, ret, capture}
 use Rattle.resolution.specs.Resolve.{held}
 use Rattle.resolution.specs.Exec.{Machine, Limits, refused, exec, and_then, step}
 use Rattle.state.specs.Progress.{Progress}
@@ -19,7 +19,7 @@ use Rattle.values.specs.declared.Value.TheVariants as val
 use Rattle.resolver.specs.Relations.Meets.{World, world, Live, LocalsStay, locals_same, locals_cleared, Moved, Ended, ended, stopped, if_aside, Holds, in_work}
 use Rattle.state.specs.Setters.{aside_s, kept_s}
 use Rattle.resolver.proofs.Single.Laws.{kept_same, runs_ret, ended_then, exec_append, drop_more, append_nil, aside_nil}
-use Rattle.resolver.proofs.Single.Locals.{locals-stay, locals_alike}
+use Rattle.resolver.proofs.Single.Locals.{locals_stay, locals_alike}
 
 -- a text of its own: made aside at the front, moved to the back
 module _ (i x l w t : List ℕ) (st : Progress) (u : World) where
@@ -32,8 +32,8 @@ module _ (i x l w t : List ℕ) (st : Progress) (u : World) where
   abbrev pub opened : Machine → Machine
   opened k = record { written = k.written; errors = k.errors; nest = suc k.nest; used = k.used; high = k.high; begun = k.begun; expanded = k.expanded; unfounds = k.unfounds }
 
-  pub live-opened : {L : Limits} {s : State} {k : Machine} → Live L w0 s k → Live L w1 s (opened k)
-  live-opened {k = k} lv = record {
+  pub live_opened : {L : Limits} {s : State} {k : Machine} → Live L w0 s k → Live L w1 s (opened k)
+  live_opened {k = k} lv = record {
     go = lv.go;
     text_len = lv.text_len;
     list_len = lv.list_len;
@@ -91,24 +91,24 @@ module _ (i x l w t : List ℕ) (st : Progress) (u : World) where
       }
 
   -- the state's record of a term's arguments goes by four fields alone
-  kept-stays : {f b : ℕ} → LocalsStay (aside_s true st) u.st → LocalsStay st (kept_s f b st.aside u.st)
-  kept-stays (locals_same p q r o) = locals_same p q r o
-  kept-stays (locals_cleared p) = locals_cleared p
+  kept_stays : {f b : ℕ} → LocalsStay (aside_s true st) u.st → LocalsStay st (kept_s f b st.aside u.st)
+  kept_stays (locals_same p q r o) = locals_same p q r o
+  kept_stays (locals_cleared p) = locals_cleared p
 
   module _ (w3 : List ℕ) (n to : ℕ) (en : n ≡ u.st.front - st.front) (et : to ≡ u.st.back - n) (kp : Keeps u.work st.front to n w3) where
     abbrev pub w4 : World
     w4 = world u.store u.text u.list w3 u.trail (kept_s st.front to st.aside u.st)
 
-    pub ended-capture : (m : M Done) (L : Limits) (s : State) (k : Machine) → u.st.refused ≡ 0 → Live L w0 s k → Ended L w1 u (m s) (opened k) → Ended L w0 w4 (capture m s) k
+    pub ended_capture : (m : M Done) (L : Limits) (s : State) (k : Machine) → u.st.refused ≡ 0 → Live L w0 s k → Ended L w1 u (m s) (opened k) → Ended L w0 w4 (capture m s) k
     unfolding capture exec step and_then
-    ended-capture m L s k z lw (ended k' e lv nn mv) =
+    ended_capture m L s k z lw (ended k' e lv nn mv) =
         let md = made (m s) lw lv mv in
         let a1 = md.sum in let a2 = md.low in let a3 = md.high in let a4 = md.below in
         let us = lv.uses in let sz = kp.size in
         let nk : k'.nest - 1 ≡ k.nest = omega arith in
         let tn : to + n ≡ u.st.back = omega arith in
         ended (record { written = k'.written; errors = k'.errors; nest = k'.nest - 1; used = k'.used; high = k'.high; begun = k'.begun; expanded = k'.expanded; unfounds = k'.unfounds })
-        (exec_append L (m s).trace (keep-text ∷ []) (opened k) ∙ rw e)
+        (exec_append L (m s).trace (keep_text ∷ []) (opened k) ∙ rw e)
         (record {
           go = lv.go;
           text_len = lv.text_len;
@@ -133,7 +133,7 @@ module _ (i x l w t : List ℕ) (st : Progress) (u : World) where
           dirty = lv.dirty;
           few = lv.few;
           most = lv.most;
-          locals = locals-stay refl sz (omega arith) (ap (λ (j : ℕ). drop j w3) (sym tn) ∙ kp.rest ∙ ap (λ (j : ℕ). drop j u.work) tn) refl refl refl refl lv.locals;
+          locals = locals_stay refl sz (omega arith) (ap (λ (j : ℕ). drop j w3) (sym tn) ∙ kp.rest ∙ ap (λ (j : ℕ). drop j u.work) tn) refl refl refl refl lv.locals;
         })
         nk
         (record {
@@ -143,32 +143,32 @@ module _ (i x l w t : List ℕ) (st : Progress) (u : World) where
           aside = refl;
           depth = mv.depth;
           trail = mv.trail;
-          stay = kept-stays mv.stay;
+          stay = kept_stays mv.stay;
           store = mv.store;
           outs = record { text_up = mv.outs.text_up; list_up = mv.outs.list_up; text_rest = mv.outs.text_rest; list_rest = mv.outs.list_rest };
         })
-    ended-capture m L s k z lw (stopped c e nz r) = absurd (nz (sym r ∙ z))
+    ended_capture m L s k z lw (stopped c e nz r) = absurd (nz (sym r ∙ z))
 
-    pub holds-capture : (j a : List ℕ) (m : M Done) (L : Limits) (s : State) (k : Machine) → u.st.refused ≡ 0 → Live L w0 s k → Ended L w1 u (m s) (opened k) → Holds j a w3 to (val.Work to u.st.back) (textual (m s).text)
-    holds-capture j a m L s k z lw (ended k' e lv nn mv) =
+    pub holds_capture : (j a : List ℕ) (m : M Done) (L : Limits) (s : State) (k : Machine) → u.st.refused ≡ 0 → Live L w0 s k → Ended L w1 u (m s) (opened k) → Holds j a w3 to (val.Work to u.st.back) (textual (m s).text)
+    holds_capture j a m L s k z lw (ended k' e lv nn mv) =
         let md = made (m s) lw lv mv in
         let a1 = md.sum in let a2 = md.low in let a3 = md.high in let sz = kp.size in
         let ln : n ≡ length (m s).text = omega arith in
         let bt : u.st.back - to ≡ n = omega arith in
         in_work to u.st.back refl (omega arith) (omega arith) (omega arith)
         (ap textual (sym (ap (λ (q : ℕ). part w3 to q) bt ∙ kp.moved ∙ ap (λ (q : ℕ). part u.work st.front q) ln ∙ md.new)))
-    holds-capture j a m L s k z lw (stopped c e nz r) = absurd (nz (sym r ∙ z))
+    holds_capture j a m L s k z lw (stopped c e nz r) = absurd (nz (sym r ∙ z))
 
   -- the text was not made
-  pub capture-stopped : (m : M Done) (L : Limits) (s : State) (k : Machine) → (u.st.refused ≡ 0 → ⊥) → Ended L w1 u (m s) (opened k) → Ended L w0 u (capture m s) k
+  pub capture_stopped : (m : M Done) (L : Limits) (s : State) (k : Machine) → (u.st.refused ≡ 0 → ⊥) → Ended L w1 u (m s) (opened k) → Ended L w0 u (capture m s) k
   unfolding capture exec step and_then
-  capture-stopped m L s k f (ended k' e lv nn mv) = absurd (f lv.go)
-  capture-stopped m L s k f (stopped c e nz r) = stopped c (exec_append L (m s).trace (keep-text ∷ []) (opened k) ∙ rw e) nz r
+  capture_stopped m L s k f (ended k' e lv nn mv) = absurd (f lv.go)
+  capture_stopped m L s k f (stopped c e nz r) = stopped c (exec_append L (m s).trace (keep_text ∷ []) (opened k) ∙ rw e) nz r
 
   -- where it was, it lies as it should
-  pub capture-lies : (m : M Done) (L : Limits) (s : State) (k : Machine) → u.st.refused ≡ 0 → Live L w0 s k → Ended L w1 u (m s) (opened k) → (st.front ≤ u.st.front) × (u.st.front ≤ u.st.back) × (u.st.back ≤ length u.work)
-  capture-lies m L s k z lw (ended k' e lv nn mv) = let md = made (m s) lw lv mv in let a1 = md.sum in (omega arith, md.low, md.high)
-  capture-lies m L s k z lw (stopped c e nz r) = absurd (nz (sym r ∙ z))
+  pub capture_lies : (m : M Done) (L : Limits) (s : State) (k : Machine) → u.st.refused ≡ 0 → Live L w0 s k → Ended L w1 u (m s) (opened k) → (st.front ≤ u.st.front) × (u.st.front ≤ u.st.back) × (u.st.back ≤ length u.work)
+  capture_lies m L s k z lw (ended k' e lv nn mv) = let md = made (m s) lw lv mv in let a1 = md.sum in (omega arith, md.low, md.high)
+  capture_lies m L s k z lw (stopped c e nz r) = absurd (nz (sym r ∙ z))
 
 pub ended_held : {w v : World} (m : M Bytes) (L : Limits) (s : State) (k : Machine) → Ended L w v (m s) k → Ended L w v (held m s) k
 unfolding held

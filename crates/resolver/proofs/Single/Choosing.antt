@@ -36,12 +36,12 @@ module _ (i a w : List ℕ) (at : ℕ) (c : CodeValue.Value) (r : Next) where
   abbrev ByDefault : Type 0
   ByDefault = r ≡ pattern_place (first_of is_default (variants_at i at))
 
-  held-as : (locale : ℕ) {v : Value} → held_value i a w c ≡ v → r ≡ pattern_place (chosen_at locale v i at) → ByHeld locale
-  held-as locale ev er = er ∙ ap (λ (v : Value). pattern_place (chosen_at locale v i at)) (sym ev)
+  held_as : (locale : ℕ) {v : Value} → held_value i a w c ≡ v → r ≡ pattern_place (chosen_at locale v i at) → ByHeld locale
+  held_as locale ev er = er ∙ ap (λ (v : Value). pattern_place (chosen_at locale v i at)) (sym ev)
 
-  pub by-work : {b e : ℕ} {t : List ℕ} → c ≡ val.Work b e → t ≡ between w b e → ByText t → (locale : ℕ) → ByHeld locale
+  pub by_work : {b e : ℕ} {t : List ℕ} → c ≡ val.Work b e → t ≡ between w b e → ByText t → (locale : ℕ) → ByHeld locale
   unfolding held_value
-  by-work ec et h locale = held-as locale (ap (held_value i a w) ec ∙ ap textual (sym et)) (h locale)
+  by_work ec et h locale = held_as locale (ap (held_value i a w) ec ∙ ap textual (sym et)) (h locale)
 
   text_held : (x : CodeValue.Value) → OneOf (0 ∷ 1 ∷ []) (tag_of the_type x) → held_value i a w x ≡ textual (text_inside i a x)
   unfolding held_value text_inside
@@ -53,39 +53,39 @@ module _ (i a w : List ℕ) (at : ℕ) (c : CodeValue.Value) (r : Next) where
   text_held val.Wrong k = absurd (miss (0 ∷ 1 ∷ []) 5 tt k)
 
   pub by_text : {t : List ℕ} → OneOf (0 ∷ 1 ∷ []) (tag_of the_type c) → t ≡ text_inside i a c → ByText t → (locale : ℕ) → ByHeld locale
-  by_text k et h locale = held-as locale (text_held c k ∙ ap textual (sym et)) (h locale)
+  by_text k et h locale = held_as locale (text_held c k ∙ ap textual (sym et)) (h locale)
 
   pub by_number : {n : CodeNumber.Number} {l locale : ℕ} → c ≡ val.Number n → r ≡ pattern_place (chosen_at l (numeric (told n)) i at) → l ≡ locale → ByHeld locale
   unfolding held_value
-  by_number {n} {l} {locale} ec er el = held-as locale (ap (held_value i a w) ec) (er ∙ ap (λ (j : ℕ). pattern_place (chosen_at j (numeric (told n)) i at)) el)
+  by_number {n} {l} {locale} ec er el = held_as locale (ap (held_value i a w) ec) (er ∙ ap (λ (j : ℕ). pattern_place (chosen_at j (numeric (told n)) i at)) el)
 
-  pub by-nothing : c ≡ val.Nothing → ByDefault → (locale : ℕ) → ByHeld locale
+  pub by_nothing : c ≡ val.Nothing → ByDefault → (locale : ℕ) → ByHeld locale
   unfolding held_value
-  by-nothing ec er locale = held-as locale (ap (held_value i a w) ec) (er ∙ nothing_chosen locale i at)
+  by_nothing ec er locale = held_as locale (ap (held_value i a w) ec) (er ∙ nothing_chosen locale i at)
 
-  pub by-wrong : c ≡ val.Wrong → ByDefault → (locale : ℕ) → ByHeld locale
+  pub by_wrong : c ≡ val.Wrong → ByDefault → (locale : ℕ) → ByHeld locale
   unfolding held_value
-  by-wrong ec er locale = held-as locale (ap (held_value i a w) ec) (er ∙ wrong_chosen locale i at)
+  by_wrong ec er locale = held_as locale (ap (held_value i a w) ec) (er ∙ wrong_chosen locale i at)
 
   -- where the value is held, the choice by what is held is the choice by the value
-  pick-as : (locale : ℕ) (v : Value) → held_value i a w c ≡ v → ByHeld locale → PickAt i at (chosen locale v) r
-  pick-as locale v ev er = subst (λ (x : Next). PickAt i at (chosen locale v) x) (sym (er ∙ ap (λ (y : Value). pattern_place (chosen_at locale y i at)) ev)) (chosen_picks i at locale v)
+  pick_as : (locale : ℕ) (v : Value) → held_value i a w c ≡ v → ByHeld locale → PickAt i at (chosen locale v) r
+  pick_as locale v ev er = subst (λ (x : Next). PickAt i at (chosen locale v) x) (sym (er ∙ ap (λ (y : Value). pattern_place (chosen_at locale y i at)) ev)) (chosen_picks i at locale v)
 
-  held-picks : (locale low : ℕ) (v : Value) → Holds i a w low c v → ByHeld locale → PickAt i at (chosen locale v) r
+  held_picks : (locale low : ℕ) (v : Value) → Holds i a w low c v → ByHeld locale → PickAt i at (chosen locale v) r
   unfolding held_value
-  held-picks locale low v (in_store b e ec lo hi ev) er = pick-as locale v (ap (held_value i a w) ec ∙ ap textual (between_in i b e lo hi) ∙ sym ev) er
-  held-picks locale low v (in_args b e ec lo hi ev) er = pick-as locale v (ap (held_value i a w) ec ∙ ap textual (between_in a b e lo hi) ∙ sym ev) er
-  held-picks locale low v (in_work b e ec _ lo hi ev) er = pick-as locale v (ap (held_value i a w) ec ∙ ap textual (between_in w b e lo hi) ∙ sym ev) er
-  held-picks locale low v (a_number x ec _ ev) er = λ d k f vs g hk hv.
-      subst (λ (o : Option ℕ). Pick i d o vs r) (shown_chosen locale x vs ∙ ap (λ (y : Value). chosen locale y vs) (sym ev)) (pick-as locale (numeric (told (shown x))) (ap (held_value i a w) ec) er d k f vs g hk hv)
-  held-picks locale low v (is_nothing ec ev) er = pick-as locale v (ap (held_value i a w) ec ∙ sym ev) er
-  held-picks locale low v (a_wrong ec ev) er = pick-as locale v (ap (held_value i a w) ec ∙ sym ev) er
+  held_picks locale low v (in_store b e ec lo hi ev) er = pick_as locale v (ap (held_value i a w) ec ∙ ap textual (between_in i b e lo hi) ∙ sym ev) er
+  held_picks locale low v (in_args b e ec lo hi ev) er = pick_as locale v (ap (held_value i a w) ec ∙ ap textual (between_in a b e lo hi) ∙ sym ev) er
+  held_picks locale low v (in_work b e ec _ lo hi ev) er = pick_as locale v (ap (held_value i a w) ec ∙ ap textual (between_in w b e lo hi) ∙ sym ev) er
+  held_picks locale low v (a_number x ec _ ev) er = λ d k f vs g hk hv.
+      subst (λ (o : Option ℕ). Pick i d o vs r) (shown_chosen locale x vs ∙ ap (λ (y : Value). chosen locale y vs) (sym ev)) (pick_as locale (numeric (told (shown x))) (ap (held_value i a w) ec) er d k f vs g hk hv)
+  held_picks locale low v (is_nothing ec ev) er = pick_as locale v (ap (held_value i a w) ec ∙ sym ev) er
+  held_picks locale low v (a_wrong ec ev) er = pick_as locale v (ap (held_value i a w) ec ∙ sym ev) er
 
   abbrev pub Choice : Type 0
   Choice = (v : Value) (low : ℕ) (st : Store) (f : ℕ) → Holds i a w low c v → store_of i ≡ got st f → PickAt i at (chosen st.locale v) r
 
-  pub choice-is : ((st : Store) (f : ℕ) → store_of i ≡ got st f → ByHeld st.locale) → Choice
-  choice-is h v low st f hc hs = held-picks st.locale low v hc (h st f hs)
+  pub choice_is : ((st : Store) (f : ℕ) → store_of i ≡ got st f → ByHeld st.locale) → Choice
+  choice_is h v low st f hc hs = held_picks st.locale low v hc (h st f hs)
 
 -- the choice by a value that was told is the choice by where it was told from
 pub choice_held : (i a w : List ℕ) (at : ℕ) (r : Next) {c d : CodeValue.Value} → c ≡ d → Choice i a w at c r → Choice i a w at d r

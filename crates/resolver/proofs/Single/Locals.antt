@@ -31,14 +31,14 @@ named_stays {w} {w'} {low} {base} n e (named_more {a = a} t b x r) = named_more 
 
 -- the arguments stay, where the state's record of them does, and the workspace from the back on
 module _ {w v : World} {l : Locals} (i : v.store ≡ w.store) (n : length v.work ≡ length w.work) (b : v.st.back ≤ w.st.back) (r : drop w.st.back v.work ≡ drop w.st.back w.work) where
-  pub locals-stay : v.st.local ≡ w.st.local → v.st.local_at ≡ w.st.local_at → v.st.local_count ≡ w.st.local_count → v.st.local_base ≡ w.st.local_base
+  pub locals_stay : v.st.local ≡ w.st.local → v.st.local_at ≡ w.st.local_at → v.st.local_count ≡ w.st.local_count → v.st.local_base ≡ w.st.local_base
       → LocalsAt w l → LocalsAt v l
-  locals-stay e₀ e₁ e₂ e₃ (no_locals f o) = no_locals (e₀ ∙ f) o
-  locals-stay e₀ e₁ e₂ e₃ (some_locals ns f low t h o k x) =
+  locals_stay e₀ e₁ e₂ e₃ (no_locals f o) = no_locals (e₀ ∙ f) o
+  locals_stay e₀ e₁ e₂ e₃ (some_locals ns f low t h o k x) =
       some_locals ns f low (e₀ ∙ t) (rw (e₂, i, e₁) h) o (omega arith)
       (rw e₃ (named_stays n (drop_more v.work w.work w.st.back low k r) x))
 
 -- the same, where nothing of the workspace or of the store changed
 pub locals_alike : {w v : World} {l : Locals} → v.store ≡ w.store → v.work ≡ w.work → v.st.back ≡ w.st.back → v.st.local ≡ w.st.local → v.st.local_at ≡ w.st.local_at
     → v.st.local_count ≡ w.st.local_count → v.st.local_base ≡ w.st.local_base → LocalsAt w l → LocalsAt v l
-locals_alike {w} i q b e₀ e₁ e₂ e₃ h = locals-stay i (ap length q) (omega arith) (ap (drop w.st.back) q) e₀ e₁ e₂ e₃ h
+locals_alike {w} i q b e₀ e₁ e₂ e₃ h = locals_stay i (ap length q) (omega arith) (ap (drop w.st.back) q) e₀ e₁ e₂ e₃ h

@@ -32,39 +32,39 @@ use Rattle.resolver.specs.Relations.Meets.{World, world, ended, Runs}
 use Rattle.state.specs.Setters.{refuse_s}
 use Rattle.resolver.specs.Relations.Values.{merged_all}
 use Rattle.resolver.proofs.Single.Laws.{kept_same, moved_none, runs_ret, runs_then}
-use Rattle.resolver.proofs.Single.Puts.{acts-refuse}
+use Rattle.resolver.proofs.Single.Puts.{acts_refuse}
 use Rattle.resolver.proofs.Single.Steps.{runs_over, runs_as}
 
 -- of a currency only its flag is seen
 module _ (x : Option (List ℕ)) (o : Options) (e : shown_text x ≡ shown_text o.currency) where
-  text-flag : (a b c d f : Bool) (k : Kind) (s : Style) (t : List ℕ) (y : Display) (g : Bool)
+  text_flag : (a b c d f : Bool) (k : Kind) (s : Style) (t : List ℕ) (y : Display) (g : Bool)
       → shown_options (pick_options a (with_kind k (with_currency x o)) (pick_options b (with_style s (with_currency x o)) (pick_options c (with_currency (some t) (with_currency x o)) (pick_options d (with_currency_display y (with_currency x o)) (pick_options f (with_use_grouping g (with_currency x o)) (with_currency x o))))))
       ≡ shown_options (pick_options a (with_kind k o) (pick_options b (with_style s o) (pick_options c (with_currency (some t) o) (pick_options d (with_currency_display y o) (pick_options f (with_use_grouping g o) o)))))
   unfolding with_kind with_style with_currency with_currency_display with_use_grouping
-  text-flag true b c d f k s t y g = rw e
-  text-flag false true c d f k s t y g = rw e
-  text-flag false false true d f k s t y g = refl
-  text-flag false false false true f k s t y g = rw e
-  text-flag false false false false true k s t y g = rw e
-  text-flag false false false false false k s t y g = rw e
+  text_flag true b c d f k s t y g = rw e
+  text_flag false true c d f k s t y g = rw e
+  text_flag false false true d f k s t y g = refl
+  text_flag false false false true f k s t y g = rw e
+  text_flag false false false false true k s t y g = rw e
+  text_flag false false false false false k s t y g = rw e
 
-  count-flag : (a b c d f : Bool) (k : ℕ)
+  count_flag : (a b c d f : Bool) (k : ℕ)
       → shown_options (pick_options a (with_minimum_integer_digits (some k) (with_currency x o)) (pick_options b (with_minimum_fraction_digits (some k) (with_currency x o)) (pick_options c (with_maximum_fraction_digits (some k) (with_currency x o)) (pick_options d (with_minimum_significant_digits (some k) (with_currency x o)) (pick_options f (with_maximum_significant_digits (some k) (with_currency x o)) (with_currency x o))))))
       ≡ shown_options (pick_options a (with_minimum_integer_digits (some k) o) (pick_options b (with_minimum_fraction_digits (some k) o) (pick_options c (with_maximum_fraction_digits (some k) o) (pick_options d (with_minimum_significant_digits (some k) o) (pick_options f (with_maximum_significant_digits (some k) o) o)))))
   unfolding with_currency with_minimum_integer_digits with_minimum_fraction_digits with_maximum_fraction_digits with_minimum_significant_digits with_maximum_significant_digits
-  count-flag true b c d f k = rw e
-  count-flag false true c d f k = rw e
-  count-flag false false true d f k = rw e
-  count-flag false false false true f k = rw e
-  count-flag false false false false true k = rw e
-  count-flag false false false false false k = rw e
+  count_flag true b c d f k = rw e
+  count_flag false true c d f k = rw e
+  count_flag false false true d f k = rw e
+  count_flag false false false true f k = rw e
+  count_flag false false false false true k = rw e
+  count_flag false false false false false k = rw e
 
-  merge-flag : (name : List ℕ) (v : Value) → shown_options (merge_one name v (with_currency x o)) ≡ shown_options (merge_one name v o)
+  merge_flag : (name : List ℕ) (v : Value) → shown_options (merge_one name v (with_currency x o)) ≡ shown_options (merge_one name v o)
   unfolding merge_one merge_text merge_count with_currency
-  merge-flag name (textual s) = text-flag (same_bytes name type_name) (same_bytes name style_name) (same_bytes name currency_name) (same_bytes name currency_display_name) (same_bytes name use_grouping_name) (kind_of s) (style_of s) s (display_of s) (not (same_bytes s false_word))
-  merge-flag name (numeric n) = count-flag (same_bytes name minimum_integer_digits_name) (same_bytes name minimum_fraction_digits_name) (same_bytes name maximum_fraction_digits_name) (same_bytes name minimum_significant_digits_name) (same_bytes name maximum_significant_digits_name) (to_count n)
-  merge-flag name nothing = rw e
-  merge-flag name wrong = rw e
+  merge_flag name (textual s) = text_flag (same_bytes name type_name) (same_bytes name style_name) (same_bytes name currency_name) (same_bytes name currency_display_name) (same_bytes name use_grouping_name) (kind_of s) (style_of s) s (display_of s) (not (same_bytes s false_word))
+  merge_flag name (numeric n) = count_flag (same_bytes name minimum_integer_digits_name) (same_bytes name minimum_fraction_digits_name) (same_bytes name maximum_fraction_digits_name) (same_bytes name minimum_significant_digits_name) (same_bytes name maximum_significant_digits_name) (to_count n)
+  merge_flag name nothing = rw e
+  merge_flag name wrong = rw e
 
 told_is : (o : Options) → told_options (shown_options o) ≡ with_currency (told_text (shown_text o.currency)) o
 unfolding with_currency
@@ -72,7 +72,7 @@ told_is o = simp count_there
 
 -- what is shown of a merge is computed from what is shown
 pub merged_told : (name : List ℕ) (v : Value) (o : Options) → shown_options (merge_one name v (told_options (shown_options o))) ≡ shown_options (merge_one name v o)
-merged_told name v o = ap (λ (p : Options). shown_options (merge_one name v p)) (told_is o) ∙ merge-flag (told_text (shown_text o.currency)) o (text_back (shown_text o.currency)) name v
+merged_told name v o = ap (λ (p : Options). shown_options (merge_one name v p)) (told_is o) ∙ merge_flag (told_text (shown_text o.currency)) o (text_back (shown_text o.currency)) name v
 
 -- one option that is text
 pub merge_text_is : (name t : List ℕ) (p : Options) {v : Value} {o m : CodeOptions.Options} → o ≡ shown_options p → v ≡ textual t → m ≡ shown_options (merge_text name t (told_options o)) → merges.Is m ≡ merged_of name v p
@@ -112,17 +112,17 @@ literal_bad t {r} h e q = let w : literals.Bad ≡ literals.Is (shown (literal t
 
 -- all of them: the first, then the others
 module _ (name : List ℕ) (v : Value) (es : List (List ℕ × Value)) (o : Options) where
-  pub all-long : merged_of name v o ≡ merges.TooLong → merged_all ((name, v) ∷ es) o ≡ merges.TooLong
+  pub all_long : merged_of name v o ≡ merges.TooLong → merged_all ((name, v) ∷ es) o ≡ merges.TooLong
   unfolding merged_of merged_all
-  all-long h = go (too_long name v) refl h
+  all_long h = go (too_long name v) refl h
     where
       go : (t : Bool) → too_long name v ≡ t → elim t [ true ↦ merges.TooLong | false ↦ merges.Is (shown_options (merge_one name v o)) ] ≡ merges.TooLong → elim t [ true ↦ merges.TooLong | false ↦ merged_all es (merge_one name v o) ] ≡ merges.TooLong
       go true e q = refl
       go false e q = let z : ◌≡◌ {A = ℕ} 0 1 = cc in absurd (omega arith)
 
-  pub all-next : {m : CodeOptions.Options} → merged_of name v o ≡ merges.Is m → (m ≡ shown_options (merge_one name v o)) × (merged_all ((name, v) ∷ es) o ≡ merged_all es (merge_one name v o)) × (too_long name v ≡ false)
+  pub all_next : {m : CodeOptions.Options} → merged_of name v o ≡ merges.Is m → (m ≡ shown_options (merge_one name v o)) × (merged_all ((name, v) ∷ es) o ≡ merged_all es (merge_one name v o)) × (too_long name v ≡ false)
   unfolding merged_of merged_all
-  all-next {m} h = go (too_long name v) refl h
+  all_next {m} h = go (too_long name v) refl h
     where
       go : (t : Bool) → too_long name v ≡ t → elim t [ true ↦ merges.TooLong | false ↦ merges.Is (shown_options (merge_one name v o)) ] ≡ merges.Is m → (m ≡ shown_options (merge_one name v o)) × (elim t [ true ↦ merges.TooLong | false ↦ merged_all es (merge_one name v o) ] ≡ merged_all es (merge_one name v o)) × (t ≡ false)
       go true e q = let z : ◌≡◌ {A = ℕ} 0 1 = cc in absurd (omega arith)
@@ -167,19 +167,19 @@ note_fine name (numeric n) w h = go (same_bytes name minimum_fraction_digits_nam
     go false e t f = runs_as (note_numeric name n false e) (runs_ret tt w)
 
 module _ (i x l w t : List ℕ) (st : Progress) (z : st.refused ≡ 0) where
-  emit-long : (k : ℕ) → fraction_limit < k → Runs (emit (merged k)) (world i x l w t st) (world i x l w t (refuse_s 17 st))
+  emit_long : (k : ℕ) → fraction_limit < k → Runs (emit (merged k)) (world i x l w t st) (world i x l w t (refuse_s 17 st))
   unfolding emit
-  emit-long k h = (acts-refuse i x l w t st 17 (emit (merged k)) z (λ q. omega arith) (λ L s m lv. merged_out L k m h) refl).runs
+  emit_long k h = (acts_refuse i x l w t st 17 (emit (merged k)) z (λ q. omega arith) (λ L s m lv. merged_out L k m h) refl).runs
 
-  pub note-long : (name : List ℕ) (v : Value) → too_long name v ≡ true → Runs (note_one name v) (world i x l w t st) (world i x l w t (refuse_s 17 st))
+  pub note_long : (name : List ℕ) (v : Value) → too_long name v ≡ true → Runs (note_one name v) (world i x l w t st) (world i x l w t (refuse_s 17 st))
   unfolding too_long note_if
-  note-long name (textual s) h = clash_bool h refl
-  note-long name nothing h = clash_bool h refl
-  note-long name wrong h = clash_bool h refl
-  note-long name (numeric n) h = go (same_bytes name minimum_fraction_digits_name) refl (ltb fraction_limit (to_count n)) refl
+  note_long name (textual s) h = clash_bool h refl
+  note_long name nothing h = clash_bool h refl
+  note_long name wrong h = clash_bool h refl
+  note_long name (numeric n) h = go (same_bytes name minimum_fraction_digits_name) refl (ltb fraction_limit (to_count n)) refl
     where
       go : (b : Bool) → same_bytes name minimum_fraction_digits_name ≡ b → (y : Bool) → ltb fraction_limit (to_count n) ≡ y → Runs (note_one name (numeric n)) (world i x l w t st) (world i x l w t (refuse_s 17 st))
-      go true e true f = runs_as (note_numeric name n true e) (emit-long (to_count n) (ltb-true fraction_limit (to_count n) f))
+      go true e true f = runs_as (note_numeric name n true e) (emit_long (to_count n) (ltb-true fraction_limit (to_count n) f))
       go true e false f = clash_bool h (long_numeric name n true false e f)
       go false e y f = clash_bool h (long_numeric name n false y e f)
 
@@ -195,12 +195,12 @@ notes_fine (e ∷ es) o w {c} h = go (too_long e.0 e.1) refl h (λ q. notes_fine
     go false f q g = let r = g q in (runs_then (note_fine e.0 e.1 w f) (kept_same w) (λ _. r.0), r.1)
 
 module _ (i x l w t : List ℕ) (st : Progress) (z : st.refused ≡ 0) where
-  pub notes-long : (es : List (List ℕ × Value)) (o : Options) → merged_all es o ≡ merges.TooLong → Runs (note_merges es) (world i x l w t st) (world i x l w t (refuse_s 17 st))
+  pub notes_long : (es : List (List ℕ × Value)) (o : Options) → merged_all es o ≡ merges.TooLong → Runs (note_merges es) (world i x l w t st) (world i x l w t (refuse_s 17 st))
   unfolding note_merges merged_all
-  notes-long [] o h = let y : ◌≡◌ {A = ℕ} 0 1 = cc in absurd (omega arith)
-  notes-long (e ∷ es) o h = go (too_long e.0 e.1) refl h (λ q. notes-long es (merge_one e.0 e.1 o) q)
+  notes_long [] o h = let y : ◌≡◌ {A = ℕ} 0 1 = cc in absurd (omega arith)
+  notes_long (e ∷ es) o h = go (too_long e.0 e.1) refl h (λ q. notes_long es (merge_one e.0 e.1 o) q)
     where
       go : (b : Bool) → too_long e.0 e.1 ≡ b → elim b [ true ↦ merges.TooLong | false ↦ merged_all es (merge_one e.0 e.1 o) ] ≡ merges.TooLong
           → (merged_all es (merge_one e.0 e.1 o) ≡ merges.TooLong → Runs (note_merges es) (world i x l w t st) (world i x l w t (refuse_s 17 st))) → Runs (note_one e.0 e.1 >> note_merges es) (world i x l w t st) (world i x l w t (refuse_s 17 st))
-      go true f q g = runs_then (note-long i x l w t st z e.0 e.1 f) (kept_same _) (λ _. runs_over (note_merges es) _ (λ y. omega arith))
+      go true f q g = runs_then (note_long i x l w t st z e.0 e.1 f) (kept_same _) (λ _. runs_over (note_merges es) _ (λ y. omega arith))
       go false f q g = runs_then (note_fine e.0 e.1 _ f) (record { begun = omega arith; over = λ y. absurd (y z) }) (λ _. g q)

@@ -17,9 +17,9 @@ use Rattle.rules.specs.Rules.{is_string}
 use Rattle.decimals.specs.Bytes.{same_bytes}
 use Rattle.records.specs.Tree.{Literal, Named}
 use Rattle.records.specs.Decode.{many, named_at, literal_at, string_at, literal_number_at}
-use Rattle.records.proofs.Laws.{span-in}
+use Rattle.records.proofs.Laws.{span_in}
 use Rattle.records.proofs.First.{named_here, named_past}
-use Rattle.records.proofs.Views.{both, never, ruled_elim, id_elim, literal_elim, named_elim, many-nil}
+use Rattle.records.proofs.Views.{both, never, ruled_elim, id_elim, literal_elim, named_elim, many_nil}
 use Rattle.resolution.specs.Effect.{Bytes}
 use Rattle.records.specs.Names.{first_named}
 use Rattle.literals.specs.Relations.Shown.{literal_of}
@@ -37,7 +37,7 @@ use Rattle.resolver.specs.Relations.Leaves.{LocalIs, is_there, is_missing}
 use Rattle.resolver.specs.Relations.Values.{literal_valued, LiteralIs, a_string, is_digits, NamedReads, TakenAt, LiteralAt}
 use Rattle.resolver.proofs.Single.Locals.{named_low}
 use Rattle.literals.proofs.Ranged.{literal_ranged}
-use Rattle.resolver.proofs.Single.Values.{takes_plain, takes_marked, text_of, named-first, named-never}
+use Rattle.resolver.proofs.Single.Values.{takes_plain, takes_marked, text_of, named_first, named_never}
 
 string_ruled : {C : Type 0} (s : List ℕ) (at : ℕ) {t : List ℕ} {e : ℕ} → string_at s at ≡ got t e → ((p : ℕ) → span_at s at ≡ got p e → t ≡ part s p (e - p) → is_string t ≡ true → C) → C
 unfolding string_at
@@ -49,35 +49,35 @@ number_ruled s at h c = ruled_elim is_number s at h c
 
 -- reading a named argument
 module _ (s : List ℕ) (at : ℕ) where
-  unread-as : ((x : List ℕ × Literal) (f : ℕ) → named_at s at ≡ got x f → ⊥) → NamedReads s at named.Bad
-  unread-as h = record {
+  unread_as : ((x : List ℕ × Literal) (f : ℕ) → named_at s at ≡ got x f → ⊥) → NamedReads s at named.Bad
+  unread_as h = record {
     inside = λ n q. let z : ◌≡◌ {A = ℕ} 0 1 = cc in absurd (omega arith);
     reads = λ n q. let z : ◌≡◌ {A = ℕ} 0 1 = cc in absurd (omega arith);
     unread = λ _. h;
   }
 
-  pub read-no-name : span_at s at ≡ bad → NamedReads s at named.Bad
-  read-no-name g = unread-as (λ x f h. named_elim s at h (λ n p l hn hl w. id_elim s at hn (λ q hs _ _. never g hs)))
+  pub read_no_name : span_at s at ≡ bad → NamedReads s at named.Bad
+  read_no_name g = unread_as (λ x f h. named_elim s at h (λ n p l hn hl w. id_elim s at hn (λ q hs _ _. never g hs)))
 
   module _ {b q : ℕ} (hn : span_at s at ≡ got b q) where
     -- the name and the literal that the definition reads
-    named-parts : {C : Type 0} {x : List ℕ × Literal} {f : ℕ} → named_at s at ≡ got x f → (x.0 ≡ part s b (q - b) → literal_at s q ≡ got x.1 f → C) → C
-    named-parts {x = x} {f = f} h c = named_elim s at h (λ n p l hi hl w. id_elim s at hi (λ b' hs en _. both hn hs (λ eb eq.
+    named_parts : {C : Type 0} {x : List ℕ × Literal} {f : ℕ} → named_at s at ≡ got x f → (x.0 ≡ part s b (q - b) → literal_at s q ≡ got x.1 f → C) → C
+    named_parts {x = x} {f = f} h c = named_elim s at h (λ n p l hi hl w. id_elim s at hi (λ b' hs en _. both hn hs (λ eb eq.
         c (ap (λ (y : List ℕ × Literal). y.0) w ∙ en ∙ ap (λ (j : ℕ). part s j (p - j)) (sym eb) ∙ ap (λ (j : ℕ). part s b (j - b)) (sym eq))
         (subst (λ (j : ℕ). literal_at s j ≡ got x.1 f) (sym eq) (hl ∙ ap (λ (y : List ℕ × Literal). got y.1 f) (sym w))))))
 
-    pub read-no-tag : byte_at s q ≡ bad → NamedReads s at named.Bad
-    read-no-tag g = unread-as (λ x f h. named-parts h (λ _ hl. literal_elim s q hl (λ p t hb _ _. never g hb) (λ p t hb _ _. never g hb)))
+    pub read_no_tag : byte_at s q ≡ bad → NamedReads s at named.Bad
+    read_no_tag g = unread_as (λ x f h. named_parts h (λ _ hl. literal_elim s q hl (λ p t hb _ _. never g hb) (λ p t hb _ _. never g hb)))
 
     module _ {tag p : ℕ} (hb : byte_at s q ≡ got tag p) where
-      pub read-no-text : span_at s p ≡ bad → NamedReads s at named.Bad
-      read-no-text g = unread-as (λ x f h. named-parts h (λ _ hl. literal_elim s q hl
+      pub read_no_text : span_at s p ≡ bad → NamedReads s at named.Bad
+      read_no_text g = unread_as (λ x f h. named_parts h (λ _ hl. literal_elim s q hl
           (λ p' t hb' ht _. both hb hb' (λ _ ep. string_ruled s p' ht (λ a hs _ _. never (ap (span_at s) (sym ep) ∙ g) hs)))
           (λ p' t hb' ht _. both hb hb' (λ _ ep. number_ruled s p' ht (λ a hs _ _. never (ap (span_at s) (sym ep) ∙ g) hs)))))
 
       module _ {a e : ℕ} (ht : span_at s p ≡ got a e) where
-        read-span : (x : List ℕ × Literal) (f : ℕ) → named_at s at ≡ got x f → (x.0 ≡ part s b (q - b)) × (f ≡ e) × LiteralIs s tag a e x.1
-        read-span x f h = named-parts h (λ en hl. literal_elim s q hl
+        read_span : (x : List ℕ × Literal) (f : ℕ) → named_at s at ≡ got x f → (x.0 ≡ part s b (q - b)) × (f ≡ e) × LiteralIs s tag a e x.1
+        read_span x f h = named_parts h (λ en hl. literal_elim s q hl
             (λ p' t hb' hs w. both hb hb' (λ et ep. string_ruled s p' hs (λ a' hp ew _. both ht (ap (span_at s) ep ∙ hp) (λ ea ee.
             (en, sym ee, a_string et (w ∙ ap Literal.string (ew ∙ ap (λ (j : ℕ). part s j (f - j)) (sym ea) ∙ ap (λ (j : ℕ). part s a (j - a)) (sym ee))))))))
             (λ p' t hb' hs w. both hb hb' (λ et ep. number_ruled s p' hs (λ a' hp ew ok. both ht (ap (span_at s) ep ∙ hp) (λ ea ee.
@@ -86,11 +86,11 @@ module _ (s : List ℕ) (at : ℕ) where
 
         pub read_all : {r : NamedSpan} → r ≡ record { from = b; to = q; tag = tag; start = a; end = e } → NamedReads s at (named.Is r)
         read_all {r} er =
-            let i = span-in s at hn in
-            let j = span-in s p ht in
+            let i = span_in s at hn in
+            let j = span_in s p ht in
             record {
               inside = λ n h. let w : record { from = b; to = q; tag = tag; start = a; end = e } ≡ n = sym er ∙ same h in subst (λ (m : NamedSpan). (m.from ≤ m.to) × (m.to ≤ length s) × (m.start ≤ m.end) × (m.end ≤ length s)) w (i.0, i.1, j.0, j.1);
-              reads = λ n h x f hx. let w : record { from = b; to = q; tag = tag; start = a; end = e } ≡ n = sym er ∙ same h in subst (λ (m : NamedSpan). (x.0 ≡ part s m.from (m.to - m.from)) × (f ≡ m.end) × LiteralIs s m.tag m.start m.end x.1) w (read-span x f hx);
+              reads = λ n h x f hx. let w : record { from = b; to = q; tag = tag; start = a; end = e } ≡ n = sym er ∙ same h in subst (λ (m : NamedSpan). (x.0 ≡ part s m.from (m.to - m.from)) × (f ≡ m.end) × LiteralIs s m.tag m.start m.end x.1) w (read_span x f hx);
               unread = λ h. let z : ◌≡◌ {A = ℕ} 0 1 = cc in absurd (omega arith);
             }
           where
@@ -99,21 +99,21 @@ module _ (s : List ℕ) (at : ℕ) where
 
 -- the bytes that a literal takes
 module _ (s : List ℕ) (tag a e : ℕ) where
-  pub taken-digits : (tag ≡ 1 → ⊥) → TakenAt s tag a e 0
+  pub taken_digits : (tag ≡ 1 → ⊥) → TakenAt s tag a e 0
   unfolding takes
-  taken-digits h x (a_string t _) p q = absurd (h t)
-  taken-digits h x (is_digits t _ w) p q = sym (ap takes w)
+  taken_digits h x (a_string t _) p q = absurd (h t)
+  taken_digits h x (is_digits t _ w) p q = sym (ap takes w)
 
   pub taken_out : {r : ℕ} → (a ≤ e → e ≤ length s → ⊥) → TakenAt s tag a e r
   taken_out h x l p q = absurd (h p q)
 
-  pub taken-plain : tag ≡ 1 → has_backslash (part s a (e - a)) ≡ false → TakenAt s tag a e 0
-  taken-plain i h x (a_string t w) p q = sym (ap takes w ∙ takes_plain _ h)
-  taken-plain i h x (is_digits t _ w) p q = absurd (omega arith)
+  pub taken_plain : tag ≡ 1 → has_backslash (part s a (e - a)) ≡ false → TakenAt s tag a e 0
+  taken_plain i h x (a_string t w) p q = sym (ap takes w ∙ takes_plain _ h)
+  taken_plain i h x (is_digits t _ w) p q = absurd (omega arith)
 
-  pub taken-marked : {r : ℕ} → tag ≡ 1 → has_backslash (part s a (e - a)) ≡ true → r ≡ length (unescape (part s a (e - a))) → TakenAt s tag a e r
-  taken-marked i h r x (a_string t w) p q = r ∙ sym (ap takes w ∙ takes_marked _ h)
-  taken-marked i h r x (is_digits t _ w) p q = absurd (omega arith)
+  pub taken_marked : {r : ℕ} → tag ≡ 1 → has_backslash (part s a (e - a)) ≡ true → r ≡ length (unescape (part s a (e - a))) → TakenAt s tag a e r
+  taken_marked i h r x (a_string t w) p q = r ∙ sym (ap takes w ∙ takes_marked _ h)
+  taken_marked i h r x (is_digits t _ w) p q = absurd (omega arith)
 
 -- the value of a number literal that stands in the store
 pub literal_number_is : (s : List ℕ) (a e : ℕ) {r : CodeValue.Value} → r ≡ literal_valued (literal_of (between s a e)) → a ≤ e → e ≤ length s → is_number (part s a (e - a)) ≡ true → r ≡ val.Number (shown (literal (part s a (e - a))))
@@ -130,21 +130,21 @@ unfolding literal_text
 text_number t = refl
 
 module _ (s : List ℕ) (tag a e base : ℕ) where
-  pub literal-digits-at : {r : CodeValue.Value} → tag ≡ 2 → (a ≤ e → e ≤ length s → is_number (part s a (e - a)) ≡ true → r ≡ val.Number (shown (literal (part s a (e - a))))) → LiteralAt s tag a e base r
-  literal-digits-at i h x (a_string t _) p q args w low lo tk bw tx = absurd (omega arith)
-  literal-digits-at i h x (is_digits t ok wx) p q args w low lo tk bw tx = a_number (literal (part s a (e - a))) (h p q ok) (literal_ranged _ ok) (ap literal_text wx ∙ text_number _)
+  pub literal_digits_at : {r : CodeValue.Value} → tag ≡ 2 → (a ≤ e → e ≤ length s → is_number (part s a (e - a)) ≡ true → r ≡ val.Number (shown (literal (part s a (e - a))))) → LiteralAt s tag a e base r
+  literal_digits_at i h x (a_string t _) p q args w low lo tk bw tx = absurd (omega arith)
+  literal_digits_at i h x (is_digits t ok wx) p q args w low lo tk bw tx = a_number (literal (part s a (e - a))) (h p q ok) (literal_ranged _ ok) (ap literal_text wx ∙ text_number _)
 
-  pub literal-out : {r : CodeValue.Value} → (a ≤ e → e ≤ length s → ⊥) → LiteralAt s tag a e base r
-  literal-out h x l p q = absurd (h p q)
+  pub literal_out : {r : CodeValue.Value} → (a ≤ e → e ≤ length s → ⊥) → LiteralAt s tag a e base r
+  literal_out h x l p q = absurd (h p q)
 
-  pub literal-plain : (tag ≡ 2 → ⊥) → has_backslash (part s a (e - a)) ≡ false → LiteralAt s tag a e base (val.Store a e)
-  literal-plain n h x (is_digits t _ _) p q args w low lo tk bw tx = absurd (n t)
-  literal-plain n h x (a_string t wx) p q args w low lo tk bw tx = in_store a e refl p q (ap literal_text wx ∙ text_string _ ∙ ap textual (unescape_plain _ h))
+  pub literal_plain : (tag ≡ 2 → ⊥) → has_backslash (part s a (e - a)) ≡ false → LiteralAt s tag a e base (val.Store a e)
+  literal_plain n h x (is_digits t _ _) p q args w low lo tk bw tx = absurd (n t)
+  literal_plain n h x (a_string t wx) p q args w low lo tk bw tx = in_store a e refl p q (ap literal_text wx ∙ text_string _ ∙ ap textual (unescape_plain _ h))
 
   module _ (n : tag ≡ 2 → ⊥) (h : has_backslash (part s a (e - a)) ≡ true) {k : ℕ} (ek : k ≡ length (unescape (part s a (e - a)))) where
-    pub literal-short : {r : CodeValue.Value} → base < k → LiteralAt s tag a e base r
-    literal-short z x (is_digits t _ _) p q args w low lo tk bw tx = absurd (n t)
-    literal-short z x (a_string t wx) p q args w low lo tk bw tx = let y = ap takes wx ∙ takes_marked _ h in absurd (omega arith)
+    pub literal_short : {r : CodeValue.Value} → base < k → LiteralAt s tag a e base r
+    literal_short z x (is_digits t _ _) p q args w low lo tk bw tx = absurd (n t)
+    literal_short z x (a_string t wx) p q args w low lo tk bw tx = let y = ap takes wx ∙ takes_marked _ h in absurd (omega arith)
 
     pub literal_marked : LiteralAt s tag a e base (val.Work (base - k) base)
     literal_marked x (is_digits t _ _) p q args w low lo tk bw tx = absurd (n t)
@@ -171,53 +171,53 @@ unfolding first_named named_texts
 seek_nil name = refl
 
 module _ (name : Bytes) (x : List ℕ × Literal) (l : Named) where
-  seek-first : same_bytes x.0 name ≡ true → first_named name (named_texts (x ∷ l)) ≡ some (literal_text x.1)
+  seek_first : same_bytes x.0 name ≡ true → first_named name (named_texts (x ∷ l)) ≡ some (literal_text x.1)
   unfolding named_texts
-  seek-first h = named_here name (x.0, literal_text x.1) (named_texts l) h
+  seek_first h = named_here name (x.0, literal_text x.1) (named_texts l) h
 
-  seek-past : same_bytes x.0 name ≡ false → first_named name (named_texts (x ∷ l)) ≡ first_named name (named_texts l)
+  seek_past : same_bytes x.0 name ≡ false → first_named name (named_texts (x ∷ l)) ≡ first_named name (named_texts l)
   unfolding named_texts
-  seek-past h = named_past name (x.0, literal_text x.1) (named_texts l) h
+  seek_past h = named_past name (x.0, literal_text x.1) (named_texts l) h
 
 pub seek_start : {s : List ℕ} (a : List ℕ) {w : List ℕ} {low f : ℕ} (name : Bytes) {count at base : ℕ} {ns : Named} → many [] ◌∷◌ count named_at s at ≡ got ns f → NamedIn w low base ns
     → Seeks s a w low f name count at base (first_named name (named_texts ns))
 seek_start a name {ns = ns} h n = record { rest = ns; left = h; texts = n; same = refl }
 
 module _ {s a w : List ℕ} {low f : ℕ} {name : Bytes} {i p end : ℕ} {whole : Option Value} (k : Seeks s a w low f name i p end whole) where
-  pub seek-end : i ≤ 0 → {found : CodeLocal.Local} → found ≡ loc.Missing → LocalIs s a w low found whole
-  seek-end z q = many-nil [] ◌∷◌ named_at s i p z k.left (λ e _. is_missing q (k.same ∙ ap (λ (l : Named). first_named name (named_texts l)) e ∙ seek_nil name))
+  pub seek_end : i ≤ 0 → {found : CodeLocal.Local} → found ≡ loc.Missing → LocalIs s a w low found whole
+  seek_end z q = many_nil [] ◌∷◌ named_at s i p z k.left (λ e _. is_missing q (k.same ∙ ap (λ (l : Named). first_named name (named_texts l)) e ∙ seek_nil name))
 
   module _ {r : CodeNamed.NamedRead} (z : 0 < i) (read : NamedReads s p r) where
-    pub seek-never : {C : Type 0} → r ≡ named.Bad → C
-    seek-never h = named-never s p read i z k.left h
+    pub seek_never : {C : Type 0} → r ≡ named.Bad → C
+    seek_never h = named_never s p read i z k.left h
 
     module _ {sp : NamedSpan} (h : r ≡ named.Is sp) where
-      seek-with : {C : Type 0} → ((x : List ℕ × Literal) (t : Named) → x.0 ≡ part s sp.from (sp.to - sp.from) → LiteralIs s sp.tag sp.start sp.end x.1 → many [] ◌∷◌ (i - 1) named_at s sp.end ≡ got t f
+      seek_with : {C : Type 0} → ((x : List ℕ × Literal) (t : Named) → x.0 ≡ part s sp.from (sp.to - sp.from) → LiteralIs s sp.tag sp.start sp.end x.1 → many [] ◌∷◌ (i - 1) named_at s sp.end ≡ got t f
           → NamedIn w low end (x ∷ t) → whole ≡ first_named name (named_texts (x ∷ t)) → C) → C
-      seek-with c = named-first s p read i z k.left h (λ x t en li ht e.
+      seek_with c = named_first s p read i z k.left h (λ x t en li ht e.
           c x t en li ht (subst (NamedIn w low end) e k.texts) (k.same ∙ ap (λ (l : Named). first_named name (named_texts l)) e))
 
-      pub seek-here : {found : CodeLocal.Local} {c : CodeValue.Value} → same_bytes (part s sp.from (sp.to - sp.from)) name ≡ true → LiteralAt s sp.tag sp.start sp.end end c → found ≡ loc.Is c
+      pub seek_here : {found : CodeLocal.Local} {c : CodeValue.Value} → same_bytes (part s sp.from (sp.to - sp.from)) name ≡ true → LiteralAt s sp.tag sp.start sp.end end c → found ≡ loc.Is c
           → LocalIs s a w low found whole
-      seek-here {found} {c} yt la ef = seek-with (λ x t en li ht ni same.
+      seek_here {found} {c} yt la ef = seek_with (λ x t en li ht ni same.
           let q = named_uncons ni in
           let j = read.inside sp h in
           let lo = named_low q.3 in
-          is_there c (literal_text x.1) ef (same ∙ seek-first name x t (ap (λ (b : Bytes). same_bytes b name) en ∙ yt)) (la x.1 li j.2 j.3 a w low lo q.0 q.1 q.2))
+          is_there c (literal_text x.1) ef (same ∙ seek_first name x t (ap (λ (b : Bytes). same_bytes b name) en ∙ yt)) (la x.1 li j.2 j.3 a w low lo q.0 q.1 q.2))
 
       module _ {n : ℕ} (tk : TakenAt s sp.tag sp.start sp.end n) where
         taken_is : (x : List ℕ × Literal) → LiteralIs s sp.tag sp.start sp.end x.1 → n ≡ takes x.1
         taken_is x li = let q = read.inside sp h in tk x.1 li q.2 q.3
 
-        pub seek-room : n ≤ end
-        seek-room = seek-with (λ x t en li ht ni same. let q = (named_uncons ni).0 in let e = taken_is x li in omega arith)
+        pub seek_room : n ≤ end
+        seek_room = seek_with (λ x t en li ht ni same. let q = (named_uncons ni).0 in let e = taken_is x li in omega arith)
 
-        pub seek-later : same_bytes (part s sp.from (sp.to - sp.from)) name ≡ false → Seeks s a w low f name (i - 1) sp.end (end - n) whole
-        seek-later nt = seek-with (λ x t en li ht ni same.
+        pub seek_later : same_bytes (part s sp.from (sp.to - sp.from)) name ≡ false → Seeks s a w low f name (i - 1) sp.end (end - n) whole
+        seek_later nt = seek_with (λ x t en li ht ni same.
             let q = named_uncons ni in
             record {
               rest = t;
               left = ht;
               texts = subst (λ (j : ℕ). NamedIn w low (end - j) t) (sym (taken_is x li)) q.3;
-              same = same ∙ seek-past name x t (ap (λ (b : Bytes). same_bytes b name) en ∙ nt);
+              same = same ∙ seek_past name x t (ap (λ (b : Bytes). same_bytes b name) en ∙ nt);
             })

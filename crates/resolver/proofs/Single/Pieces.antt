@@ -10,7 +10,7 @@ use Rattle.records.specs.Got.{got, bad}
 use Rattle.records.specs.Bytes.{part, byte_at, str_at}
 use Rattle.records.specs.Tree.{Inline}
 use Rattle.records.specs.Decode.{id_at, optional_at, expression, inline}
-use Rattle.records.proofs.Views.{both, never, id_str, term-elim, Body, a_string, a_number, is-function, is-message, is-term, is-variable, is-nested, inline-elim}
+use Rattle.records.proofs.Views.{both, never, id_str, term_elim, Body, a_string, a_number, is_function, is_message, is_term, is_variable, is_nested, inline_elim}
 use Rattle.records.specs.Optional.{option_of}
 use Rattle.arguments.specs.Relations.Given.{between, between_if}
 use Rattle.arguments.proofs.Laws.{between_in}
@@ -68,87 +68,87 @@ reference_text i p h k w r ew (unread er nv) n q a f hn ha = absurd (nv n q a f 
 
 module _ (s : List ℕ) (at : ℕ) where
   pub pieces_none : {p : Pieces} → byte_at s at ≡ bad → PiecesAt s at p
-  pieces_none h = record { reads = λ d i f q. inline-elim s at d q (λ tag p hb z b. never h hb) }
+  pieces_none h = record { reads = λ d i f q. inline_elim s at d q (λ tag p hb z b. never h hb) }
 
   module _ (tag p : ℕ) (h : byte_at s at ≡ got tag p) where
-    pieces-by : {q : Pieces} → ((d : ℕ) (i : Inline) (f : ℕ) → Body (expression (d - 1)) (inline (d - 1)) s p tag i f → braced (error_text i) ≡ pieces_text error_words s q) → PiecesAt s at q
-    pieces-by e = record {
-      reads = λ d i f q. inline-elim s at d q (λ tag' p' hb z v. both h hb (λ et ep.
+    pieces_by : {q : Pieces} → ((d : ℕ) (i : Inline) (f : ℕ) → Body (expression (d - 1)) (inline (d - 1)) s p tag i f → braced (error_text i) ≡ pieces_text error_words s q) → PiecesAt s at q
+    pieces_by e = record {
+      reads = λ d i f q. inline_elim s at d q (λ tag' p' hb z v. both h hb (λ et ep.
           e d i f (subst (λ (j : ℕ). Body (expression (d - 1)) (inline (d - 1)) s j tag i f) (sym ep) (subst (λ (j : ℕ). Body (expression (d - 1)) (inline (d - 1)) s p' j i f) (sym et) v))));
     }
 
     -- a message or a term: its name, and its attribute
-    pub pieces-message : {r : CodeReference.Reference} {q : Pieces} → tag ≡ 4 → ReferenceIs s p r → q ≡ reference_pieces 0 1 r → PiecesAt s at q
+    pub pieces_message : {r : CodeReference.Reference} {q : Pieces} → tag ≡ 4 → ReferenceIs s p r → q ≡ reference_pieces 0 1 r → PiecesAt s at q
     unfolding braced error_text between between_if
-    pieces-message {r} {q} k is eq = pieces-by (λ d i f b. go d i f b ∙ sym (ap (pieces_text error_words s) eq))
+    pieces_message {r} {q} k is eq = pieces_by (λ d i f b. go d i f b ∙ sym (ap (pieces_text error_words s) eq))
       where
         go : (d : ℕ) (i : Inline) (f : ℕ) → Body (expression (d - 1)) (inline (d - 1)) s p tag i f → braced (error_text i) ≡ pieces_text error_words s (reference_pieces 0 1 r)
         go d i f (a_string b e q ew) = absurd (omega arith)
         go d i f (a_number b e q ew) = absurd (omega arith)
-        go d i f (is-function n q b e hn ha ew) = absurd (omega arith)
-        go d i f (is-message n q b e hn ha ew) = ap (λ (y : Inline). braced (error_text y)) ew ∙ reference_text s p 0 1 (123 ∷ []) r refl is n q b f hn ha
-        go d i f (is-term e q) = absurd (omega arith)
-        go d i f (is-variable n e q ew) = absurd (omega arith)
-        go d i f (is-nested y e q ew) = absurd (omega arith)
+        go d i f (is_function n q b e hn ha ew) = absurd (omega arith)
+        go d i f (is_message n q b e hn ha ew) = ap (λ (y : Inline). braced (error_text y)) ew ∙ reference_text s p 0 1 (123 ∷ []) r refl is n q b f hn ha
+        go d i f (is_term e q) = absurd (omega arith)
+        go d i f (is_variable n e q ew) = absurd (omega arith)
+        go d i f (is_nested y e q ew) = absurd (omega arith)
 
-    pub pieces-term : {r : CodeReference.Reference} {q : Pieces} → tag ≡ 5 → ReferenceIs s p r → q ≡ reference_pieces 4 6 r → PiecesAt s at q
+    pub pieces_term : {r : CodeReference.Reference} {q : Pieces} → tag ≡ 5 → ReferenceIs s p r → q ≡ reference_pieces 4 6 r → PiecesAt s at q
     unfolding braced error_text between between_if
-    pieces-term {r} {q} k is eq = pieces-by (λ d i f b. go d i f b ∙ sym (ap (pieces_text error_words s) eq))
+    pieces_term {r} {q} k is eq = pieces_by (λ d i f b. go d i f b ∙ sym (ap (pieces_text error_words s) eq))
       where
         go : (d : ℕ) (i : Inline) (f : ℕ) → Body (expression (d - 1)) (inline (d - 1)) s p tag i f → braced (error_text i) ≡ pieces_text error_words s (reference_pieces 4 6 r)
         go d i f (a_string b e q ew) = absurd (omega arith)
         go d i f (a_number b e q ew) = absurd (omega arith)
-        go d i f (is-function n q b e hn ha ew) = absurd (omega arith)
-        go d i f (is-message n q b e hn ha ew) = absurd (omega arith)
-        go d i f (is-term e q) = term-elim (inline (d - 1)) s p q (λ n q' b g r' hn ha hr ew. ap (λ (y : Inline). braced (error_text y)) ew ∙ reference_text s p 4 6 (123 ∷ 45 ∷ []) r refl is n q' b g hn ha)
-        go d i f (is-variable n e q ew) = absurd (omega arith)
-        go d i f (is-nested y e q ew) = absurd (omega arith)
+        go d i f (is_function n q b e hn ha ew) = absurd (omega arith)
+        go d i f (is_message n q b e hn ha ew) = absurd (omega arith)
+        go d i f (is_term e q) = term_elim (inline (d - 1)) s p q (λ n q' b g r' hn ha hr ew. ap (λ (y : Inline). braced (error_text y)) ew ∙ reference_text s p 4 6 (123 ∷ 45 ∷ []) r refl is n q' b g hn ha)
+        go d i f (is_variable n e q ew) = absurd (omega arith)
+        go d i f (is_nested y e q ew) = absurd (omega arith)
 
     -- a function, a variable: by the Str that its name is
     module _ {a e : ℕ} (lo : a ≤ e) (hi : e ≤ length s) (g : str_at s p ≡ got (part s a (e - a)) e) where
-      pub pieces-function : tag ≡ 3 → PiecesAt s at (record { head = 0; head_end = 1; from = a; to = e; joint = 9; joint_end = 11; start = 0; end = 0 })
+      pub pieces_function : tag ≡ 3 → PiecesAt s at (record { head = 0; head_end = 1; from = a; to = e; joint = 9; joint_end = 11; start = 0; end = 0 })
       unfolding braced error_text between between_if
-      pieces-function k = pieces-by (λ d i f b. go d i f b ∙ sym (pieces_are s (record { head = 0; head_end = 1; from = a; to = e; joint = 9; joint_end = 11; start = 0; end = 0 }) refl (between_in s a e lo hi) refl (no_part s)))
+      pieces_function k = pieces_by (λ d i f b. go d i f b ∙ sym (pieces_are s (record { head = 0; head_end = 1; from = a; to = e; joint = 9; joint_end = 11; start = 0; end = 0 }) refl (between_in s a e lo hi) refl (no_part s)))
         where
           go : (d : ℕ) (i : Inline) (f : ℕ) → Body (expression (d - 1)) (inline (d - 1)) s p tag i f → braced (error_text i) ≡ ((123 ∷ []) ++ (part s a (e - a) ++ (40 ∷ 41 ∷ []))) ++ ([] ++ (125 ∷ []))
           go d i f (a_string t q hs ew) = absurd (omega arith)
           go d i f (a_number t q hs ew) = absurd (omega arith)
-          go d i f (is-function n q t e' hn ha ew) = both g (id_str s p hn) (λ eb _. ap (λ (y : Inline). braced (error_text y)) ew ∙ ap (λ (b : Bytes). 123 ∷ (b ++ (40 ∷ 41 ∷ [])) ++ (125 ∷ [])) (sym eb))
-          go d i f (is-message n q t e' hn ha ew) = absurd (omega arith)
-          go d i f (is-term e' q) = absurd (omega arith)
-          go d i f (is-variable n e' q ew) = absurd (omega arith)
-          go d i f (is-nested y e' q ew) = absurd (omega arith)
+          go d i f (is_function n q t e' hn ha ew) = both g (id_str s p hn) (λ eb _. ap (λ (y : Inline). braced (error_text y)) ew ∙ ap (λ (b : Bytes). 123 ∷ (b ++ (40 ∷ 41 ∷ [])) ++ (125 ∷ [])) (sym eb))
+          go d i f (is_message n q t e' hn ha ew) = absurd (omega arith)
+          go d i f (is_term e' q) = absurd (omega arith)
+          go d i f (is_variable n e' q ew) = absurd (omega arith)
+          go d i f (is_nested y e' q ew) = absurd (omega arith)
 
-      pub pieces-variable : tag ≡ 6 → PiecesAt s at (record { head = 6; head_end = 8; from = a; to = e; joint = 0; joint_end = 0; start = 0; end = 0 })
+      pub pieces_variable : tag ≡ 6 → PiecesAt s at (record { head = 6; head_end = 8; from = a; to = e; joint = 0; joint_end = 0; start = 0; end = 0 })
       unfolding braced error_text between between_if
-      pieces-variable k = pieces-by (λ d i f b. go d i f b ∙ sym (pieces_are s (record { head = 6; head_end = 8; from = a; to = e; joint = 0; joint_end = 0; start = 0; end = 0 }) refl (between_in s a e lo hi) refl (no_part s) ∙ bare_text (123 ∷ 36 ∷ []) (part s a (e - a))))
+      pieces_variable k = pieces_by (λ d i f b. go d i f b ∙ sym (pieces_are s (record { head = 6; head_end = 8; from = a; to = e; joint = 0; joint_end = 0; start = 0; end = 0 }) refl (between_in s a e lo hi) refl (no_part s) ∙ bare_text (123 ∷ 36 ∷ []) (part s a (e - a))))
         where
           go : (d : ℕ) (i : Inline) (f : ℕ) → Body (expression (d - 1)) (inline (d - 1)) s p tag i f → braced (error_text i) ≡ (123 ∷ 36 ∷ []) ++ (part s a (e - a) ++ (125 ∷ []))
           go d i f (a_string t q hs ew) = absurd (omega arith)
           go d i f (a_number t q hs ew) = absurd (omega arith)
-          go d i f (is-function n q t e' hn ha ew) = absurd (omega arith)
-          go d i f (is-message n q t e' hn ha ew) = absurd (omega arith)
-          go d i f (is-term e' q) = absurd (omega arith)
-          go d i f (is-variable n e' q ew) = both g (id_str s p q) (λ eb _. ap (λ (y : Inline). braced (error_text y)) ew ∙ ap (λ (b : Bytes). 123 ∷ 36 ∷ b ++ (125 ∷ [])) (sym eb))
-          go d i f (is-nested y e' q ew) = absurd (omega arith)
+          go d i f (is_function n q t e' hn ha ew) = absurd (omega arith)
+          go d i f (is_message n q t e' hn ha ew) = absurd (omega arith)
+          go d i f (is_term e' q) = absurd (omega arith)
+          go d i f (is_variable n e' q ew) = both g (id_str s p q) (λ eb _. ap (λ (y : Inline). braced (error_text y)) ew ∙ ap (λ (b : Bytes). 123 ∷ 36 ∷ b ++ (125 ∷ [])) (sym eb))
+          go d i f (is_nested y e' q ew) = absurd (omega arith)
 
     -- `???`, of a literal or an inline placeable
-    nameless-text : pieces_text error_words s nameless ≡ 123 ∷ 63 ∷ 63 ∷ 63 ∷ 125 ∷ []
+    nameless_text : pieces_text error_words s nameless ≡ 123 ∷ 63 ∷ 63 ∷ 63 ∷ 125 ∷ []
     unfolding between between_if
-    nameless-text = pieces_are s nameless refl (no_part s) refl (no_part s)
+    nameless_text = pieces_are s nameless refl (no_part s) refl (no_part s)
 
-    pub pieces-unnamed : {q : Pieces} → (tag ≡ 4 → ⊥) → (tag ≡ 5 → ⊥) → (tag ≡ 3 → str_at s p ≡ bad) → (tag ≡ 6 → str_at s p ≡ bad) → q ≡ nameless → PiecesAt s at q
+    pub pieces_unnamed : {q : Pieces} → (tag ≡ 4 → ⊥) → (tag ≡ 5 → ⊥) → (tag ≡ 3 → str_at s p ≡ bad) → (tag ≡ 6 → str_at s p ≡ bad) → q ≡ nameless → PiecesAt s at q
     unfolding braced error_text
-    pieces-unnamed {q} n4 n5 b3 b6 eq = pieces-by (λ d i f b. go d i f b ∙ sym (ap (pieces_text error_words s) eq ∙ nameless-text))
+    pieces_unnamed {q} n4 n5 b3 b6 eq = pieces_by (λ d i f b. go d i f b ∙ sym (ap (pieces_text error_words s) eq ∙ nameless_text))
       where
         go : (d : ℕ) (i : Inline) (f : ℕ) → Body (expression (d - 1)) (inline (d - 1)) s p tag i f → braced (error_text i) ≡ 123 ∷ 63 ∷ 63 ∷ 63 ∷ 125 ∷ []
         go d i f (a_string t q hs ew) = rw ew
         go d i f (a_number t q hs ew) = rw ew
-        go d i f (is-function n q t e hn ha ew) = never (b3 e) (id_str s p hn)
-        go d i f (is-message n q t e hn ha ew) = absurd (n4 e)
-        go d i f (is-term e q) = absurd (n5 e)
-        go d i f (is-variable n e q ew) = never (b6 e) (id_str s p q)
-        go d i f (is-nested y e q ew) = rw ew
+        go d i f (is_function n q t e hn ha ew) = never (b3 e) (id_str s p hn)
+        go d i f (is_message n q t e hn ha ew) = absurd (n4 e)
+        go d i f (is_term e q) = absurd (n5 e)
+        go d i f (is_variable n e q ew) = never (b6 e) (id_str s p q)
+        go d i f (is_nested y e q ew) = rw ew
 
 pub reference_bad : (h k : ℕ) {r : CodeReference.Reference} → r ≡ ref.Bad → nameless ≡ reference_pieces h k r
 unfolding reference_pieces

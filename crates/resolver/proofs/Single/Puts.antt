@@ -18,7 +18,7 @@ use Rattle.resolution.specs.Exec.{Machine, Limits, ran, refused, exec, and_then,
 use Rattle.resolver.specs.Relations.Meets.{World, world, Live, Ended, ended, stopped, Runs, Acts, if_aside, locals_same}
 use Rattle.state.specs.Setters.{refuse_s, text_s, front_s, list_s, unfound_s, max_unfound, up_to, counted_s}
 use Rattle.resolver.proofs.Single.Laws.{kept_same, append_nil, aside_nil, drop_more, exec_append, acts_then}
-use Rattle.resolver.proofs.Single.Locals.{locals-stay, locals_alike}
+use Rattle.resolver.proofs.Single.Locals.{locals_stay, locals_alike}
 
 pub le_or_lt : (a b : ℕ) → (a ≤ b) ⊎ (b < a)
 le_or_lt a b = go (leb a b) refl
@@ -33,10 +33,10 @@ acts_over m w h = record { kept = kept_same w; runs = λ L s k l. absurd (h l.go
 
 module _ (i x l w t : List ℕ) (st : Progress) (n : ℕ) where
   -- where every live machine refuses with n
-  pub acts-refuse : {A : Type 0} (m : M A) {r : Progress} → st.refused ≡ 0 → (n ≡ 0 → ⊥)
+  pub acts_refuse : {A : Type 0} (m : M A) {r : Progress} → st.refused ≡ 0 → (n ≡ 0 → ⊥)
       → ((L : Limits) (s : State) (k : Machine) → Live L (world i x l w t st) s k → exec L (m s).trace k ≡ refused n)
       → r ≡ refuse_s n st → Acts m (world i x l w t st) (world i x l w t r)
-  acts-refuse m {r} z nz h e =
+  acts_refuse m {r} z nz h e =
       let b : r.begun ≡ st.begun = ap (λ (q : Progress). q.begun) e in
       record {
         kept = record { begun = omega arith; over = λ f. absurd (f z) };
@@ -50,68 +50,68 @@ nest_some : {L : Limits} {w : World} {s : State} {k : Machine} → Live L w s k 
 nest_some {k = k} l e = ltb-true 0 k.nest (sym l.nest ∙ e)
 
 module _ (L : Limits) (b : Bytes) (k : Machine) where
-  abbrev pub textM : Machine
-  textM = record { written = k.written ++ b; errors = k.errors; nest = k.nest; used = k.used; high = k.high; begun = k.begun; expanded = k.expanded; unfounds = k.unfounds }
+  abbrev pub text_m : Machine
+  text_m = record { written = k.written ++ b; errors = k.errors; nest = k.nest; used = k.used; high = k.high; begun = k.begun; expanded = k.expanded; unfounds = k.unfounds }
 
-  abbrev pub workM : Machine
-  workM = record { written = k.written; errors = k.errors; nest = k.nest; used = k.used + length b; high = max k.high (k.used + length b); begun = k.begun; expanded = k.expanded; unfounds = k.unfounds }
+  abbrev pub work_m : Machine
+  work_m = record { written = k.written; errors = k.errors; nest = k.nest; used = k.used + length b; high = max k.high (k.used + length b); begun = k.begun; expanded = k.expanded; unfounds = k.unfounds }
 
-  pub put-text-in : k.nest ≡ 0 → length k.written + length b ≤ L.text_len → exec L (put b ∷ []) k ≡ ran textM
+  pub put_text_in : k.nest ≡ 0 → length k.written + length b ≤ L.text_len → exec L (put b ∷ []) k ≡ ran text_m
   unfolding exec step put_at put_text allow allow_if and_then
-  put-text-in e h = rw (e, le-leb _ _ h)
+  put_text_in e h = rw (e, le-leb _ _ h)
 
-  pub put-text-out : k.nest ≡ 0 → L.text_len < length k.written + length b → exec L (put b ∷ []) k ≡ refused 15
+  pub put_text_out : k.nest ≡ 0 → L.text_len < length k.written + length b → exec L (put b ∷ []) k ≡ refused 15
   unfolding exec step put_at put_text allow allow_if and_then
-  put-text-out e h = rw (e, lt-leb _ _ h)
+  put_text_out e h = rw (e, lt-leb _ _ h)
 
-  pub put-work-in : 0 < k.nest → k.used + length b ≤ L.work_len → exec L (put b ∷ []) k ≡ ran workM
+  pub put_work_in : 0 < k.nest → k.used + length b ≤ L.work_len → exec L (put b ∷ []) k ≡ ran work_m
   unfolding exec step put_at put_work allow allow_if and_then
-  put-work-in e h = let q : k.nest ≡ suc (k.nest - 1) = omega arith in rw (q, le-leb _ _ h)
+  put_work_in e h = let q : k.nest ≡ suc (k.nest - 1) = omega arith in rw (q, le-leb _ _ h)
 
-  pub put-work-out : 0 < k.nest → L.work_len < k.used + length b → exec L (put b ∷ []) k ≡ refused 16
+  pub put_work_out : 0 < k.nest → L.work_len < k.used + length b → exec L (put b ∷ []) k ≡ refused 16
   unfolding exec step put_at put_work allow allow_if and_then
-  put-work-out e h = let q : k.nest ≡ suc (k.nest - 1) = omega arith in rw (q, lt-leb _ _ h)
+  put_work_out e h = let q : k.nest ≡ suc (k.nest - 1) = omega arith in rw (q, lt-leb _ _ h)
   -- one after the other, or both at once
 
 -- one after the other, or both at once
 module _ (L : Limits) (b a : Bytes) (k : Machine) where
-  split-text-in : k.nest ≡ 0 → length k.written + length b + length a ≤ L.text_len → exec L (put b ∷ put a ∷ []) k ≡ exec L (put (b ++ a) ∷ []) k
+  split_text_in : k.nest ≡ 0 → length k.written + length b + length a ≤ L.text_len → exec L (put b ∷ put a ∷ []) k ≡ exec L (put (b ++ a) ∷ []) k
   unfolding and_then
-  split-text-in e h =
+  split_text_in e h =
       exec_append L (put b ∷ []) (put a ∷ []) k
-      ∙ rw (put-text-in L b k e (omega arith)) (put-text-in L a (textM L b k) e (let q = length-append k.written b in omega arith))
+      ∙ rw (put_text_in L b k e (omega arith)) (put_text_in L a (text_m L b k) e (let q = length-append k.written b in omega arith))
       ∙ ap (λ (q : Bytes). ran (record { written = q; errors = k.errors; nest = k.nest; used = k.used; high = k.high; begun = k.begun; expanded = k.expanded; unfounds = k.unfounds })) (append_assoc k.written b a)
-      ∙ sym (put-text-in L (b ++ a) k e (let q = length-append b a in omega arith))
+      ∙ sym (put_text_in L (b ++ a) k e (let q = length-append b a in omega arith))
 
-  split-text-out : k.nest ≡ 0 → L.text_len < length k.written + length b + length a → exec L (put b ∷ put a ∷ []) k ≡ exec L (put (b ++ a) ∷ []) k
+  split_text_out : k.nest ≡ 0 → L.text_len < length k.written + length b + length a → exec L (put b ∷ put a ∷ []) k ≡ exec L (put (b ++ a) ∷ []) k
   unfolding and_then
-  split-text-out e h = exec_append L (put b ∷ []) (put a ∷ []) k ∙ ⊎_elim
-      (λ (f : length k.written + length b ≤ L.text_len). rw (put-text-in L b k e f) (put-text-out L a (textM L b k) e (let q = length-append k.written b in omega arith)))
-      (λ (f : L.text_len < length k.written + length b). rw (put-text-out L b k e f))
+  split_text_out e h = exec_append L (put b ∷ []) (put a ∷ []) k ∙ ⊎_elim
+      (λ (f : length k.written + length b ≤ L.text_len). rw (put_text_in L b k e f) (put_text_out L a (text_m L b k) e (let q = length-append k.written b in omega arith)))
+      (λ (f : L.text_len < length k.written + length b). rw (put_text_out L b k e f))
       (le_or_lt (length k.written + length b) L.text_len)
-      ∙ sym (put-text-out L (b ++ a) k e (let q = length-append b a in omega arith))
+      ∙ sym (put_text_out L (b ++ a) k e (let q = length-append b a in omega arith))
 
-  split-work-in : 0 < k.nest → k.used + length b + length a ≤ L.work_len → exec L (put b ∷ put a ∷ []) k ≡ exec L (put (b ++ a) ∷ []) k
+  split_work_in : 0 < k.nest → k.used + length b + length a ≤ L.work_len → exec L (put b ∷ put a ∷ []) k ≡ exec L (put (b ++ a) ∷ []) k
   unfolding and_then
-  split-work-in e h =
-      let e0 : exec L (put b ∷ put a ∷ []) k ≡ ran (workM L a (workM L b k)) = exec_append L (put b ∷ []) (put a ∷ []) k ∙ (rw (put-work-in L b k e (omega arith)) (put-work-in L a (workM L b k) e h)) in
+  split_work_in e h =
+      let e0 : exec L (put b ∷ put a ∷ []) k ≡ ran (work_m L a (work_m L b k)) = exec_append L (put b ∷ []) (put a ∷ []) k ∙ (rw (put_work_in L b k e (omega arith)) (put_work_in L a (work_m L b k) e h)) in
       let e1 : k.used + length b + length a ≡ k.used + length (b ++ a) = (let q = length-append b a in omega arith) in
       let e2 : max (max k.high (k.used + length b)) (k.used + length b + length a) ≡ max k.high (k.used + length (b ++ a)) = omega arith in
-      let e3 : ran (workM L a (workM L b k)) ≡ ran (workM L (b ++ a) k) = rw (e2, e1) in
-      e0 ∙ e3 ∙ sym (put-work-in L (b ++ a) k e (omega arith))
+      let e3 : ran (work_m L a (work_m L b k)) ≡ ran (work_m L (b ++ a) k) = rw (e2, e1) in
+      e0 ∙ e3 ∙ sym (put_work_in L (b ++ a) k e (omega arith))
 
-  split-work-out : 0 < k.nest → L.work_len < k.used + length b + length a → exec L (put b ∷ put a ∷ []) k ≡ exec L (put (b ++ a) ∷ []) k
+  split_work_out : 0 < k.nest → L.work_len < k.used + length b + length a → exec L (put b ∷ put a ∷ []) k ≡ exec L (put (b ++ a) ∷ []) k
   unfolding and_then
-  split-work-out e h = exec_append L (put b ∷ []) (put a ∷ []) k ∙ ⊎_elim
-      (λ (f : k.used + length b ≤ L.work_len). rw (put-work-in L b k e f) (put-work-out L a (workM L b k) e h))
-      (λ (f : L.work_len < k.used + length b). rw (put-work-out L b k e f))
+  split_work_out e h = exec_append L (put b ∷ []) (put a ∷ []) k ∙ ⊎_elim
+      (λ (f : k.used + length b ≤ L.work_len). rw (put_work_in L b k e f) (put_work_out L a (work_m L b k) e h))
+      (λ (f : L.work_len < k.used + length b). rw (put_work_out L b k e f))
       (le_or_lt (k.used + length b) L.work_len)
-      ∙ sym (put-work-out L (b ++ a) k e (let q = length-append b a in omega arith))
+      ∙ sym (put_work_out L (b ++ a) k e (let q = length-append b a in omega arith))
 
-  pub put-split : exec L (put b ∷ put a ∷ []) k ≡ exec L (put (b ++ a) ∷ []) k
-  put-split = ⊎_elim
-      (λ (e : k.nest ≤ 0). ⊎_elim (split-text-in (omega arith)) (split-text-out (omega arith)) (le_or_lt (length k.written + length b + length a) L.text_len))
-      (λ (e : 0 < k.nest). ⊎_elim (split-work-in e) (split-work-out e) (le_or_lt (k.used + length b + length a) L.work_len))
+  pub put_split : exec L (put b ∷ put a ∷ []) k ≡ exec L (put (b ++ a) ∷ []) k
+  put_split = ⊎_elim
+      (λ (e : k.nest ≤ 0). ⊎_elim (split_text_in (omega arith)) (split_text_out (omega arith)) (le_or_lt (length k.written + length b + length a) L.text_len))
+      (λ (e : 0 < k.nest). ⊎_elim (split_work_in e) (split_work_out e) (le_or_lt (k.used + length b + length a) L.work_len))
       (le_or_lt k.nest 0)
 
 pub runs_join : {w v : World} (a b : Bytes) → Runs (write a >> write b) w v → Runs (write (a ++ b)) w v
@@ -119,8 +119,8 @@ unfolding ◌>>◌ ◌>>=◌ write
 runs_join {w} {v} a b h L s k l = go (h L s k l)
   where
     go : Ended L w v ((write a >> write b) s) k → Ended L w v (write (a ++ b) s) k
-    go (ended k' e lv n m) = ended k' (sym (put-split L a b k) ∙ e) lv n (record { front = m.front; back = m.back; rest = m.rest; aside = m.aside; depth = m.depth; trail = m.trail; stay = m.stay; store = m.store; outs = m.outs })
-    go (stopped n e z r) = stopped n (sym (put-split L a b k) ∙ e) z r
+    go (ended k' e lv n m) = ended k' (sym (put_split L a b k) ∙ e) lv n (record { front = m.front; back = m.back; rest = m.rest; aside = m.aside; depth = m.depth; trail = m.trail; stay = m.stay; store = m.store; outs = m.outs })
+    go (stopped n e z r) = stopped n (sym (put_split L a b k) ∙ e) z r
 
 pub acts_join : {w u v : World} (a b : Bytes) → Acts (write a) w u → Acts (write b) u v → Acts (write (a ++ b)) w v
 acts_join a b h g = let q = acts_then h g in record { kept = q.kept; runs = runs_join a b q.runs }
@@ -168,24 +168,24 @@ listed_length {w = w} {k = k} e l =
     omega arith
 
 module _ (i x l w t : List ℕ) (st : Progress) (b : Bytes) where
-  pub put-text-full : {r : Progress} → st.refused ≡ 0 → st.aside ≡ false → length x < st.text_at + length b → r ≡ refuse_s 15 st → Acts (write b) (world i x l w t st) (world i x l w t r)
+  pub put_text_full : {r : Progress} → st.refused ≡ 0 → st.aside ≡ false → length x < st.text_at + length b → r ≡ refuse_s 15 st → Acts (write b) (world i x l w t st) (world i x l w t r)
   unfolding write
-  put-text-full z a h e = acts-refuse i x l w t st 15 (write b) z (λ q. omega arith)
-      (λ L s k lv. put-text-out L b k (nest_none lv a) (let p = lv.text_len in let q = written_length lv in omega arith)) e
+  put_text_full z a h e = acts_refuse i x l w t st 15 (write b) z (λ q. omega arith)
+      (λ L s k lv. put_text_out L b k (nest_none lv a) (let p = lv.text_len in let q = written_length lv in omega arith)) e
 
-  pub put-work-full : {r : Progress} → st.refused ≡ 0 → st.aside ≡ true → ((st.front ≤ st.back) → st.back ≤ length w → st.back < st.front + length b) → r ≡ refuse_s 16 st → Acts (write b) (world i x l w t st) (world i x l w t r)
+  pub put_work_full : {r : Progress} → st.refused ≡ 0 → st.aside ≡ true → ((st.front ≤ st.back) → st.back ≤ length w → st.back < st.front + length b) → r ≡ refuse_s 16 st → Acts (write b) (world i x l w t st) (world i x l w t r)
   unfolding write
-  put-work-full z a h e = acts-refuse i x l w t st 16 (write b) z (λ q. omega arith)
-      (λ L s k lv. put-work-out L b k (nest_some lv a) (let p = lv.work_len in let q = lv.uses in let i = lv.front_in in let j = lv.back_in in let o = h i j in omega arith)) e
+  put_work_full z a h e = acts_refuse i x l w t st 16 (write b) z (λ q. omega arith)
+      (λ L s k lv. put_work_out L b k (nest_some lv a) (let p = lv.work_len in let q = lv.uses in let i = lv.front_in in let j = lv.back_in in let o = h i j in omega arith)) e
 
-  pub put-text : {x' : List ℕ} → st.refused ≡ 0 → st.aside ≡ false → st.text_at + length b ≤ length x → x' ≡ paste x st.text_at b (length b) → Acts (write b) (world i x l w t st) (world i x' l w t (text_s (st.text_at + length b) st))
+  pub put_text_law : {x' : List ℕ} → st.refused ≡ 0 → st.aside ≡ false → st.text_at + length b ≤ length x → x' ≡ paste x st.text_at b (length b) → Acts (write b) (world i x l w t st) (world i x' l w t (text_s (st.text_at + length b) st))
   unfolding write
-  put-text {x'} z a h e =
+  put_text_law {x'} z a h e =
       let len : length x' ≡ length x = ap length e ∙ length-paste x st.text_at b (length b) h (omega arith) in
       record {
         kept = record { begun = omega arith; over = λ f. refl };
         runs = λ L s k lv.
-            ended (textM L b k) (put-text-in L b k (nest_none lv a) (let p = lv.text_len in let q = written_length lv in omega arith))
+            ended (text_m L b k) (put_text_in L b k (nest_none lv a) (let p = lv.text_len in let q = written_length lv in omega arith))
             (record {
               go = lv.go;
               text_len = len ∙ lv.text_len;
@@ -226,10 +226,10 @@ module _ (i x l w t : List ℕ) (st : Progress) (b : Bytes) where
             });
       }
 
-  pub put-work : {w' : List ℕ} {h : ℕ} → st.refused ≡ 0 → st.aside ≡ true → st.front + length b ≤ st.back → st.back ≤ length w → w' ≡ paste w st.front b (length b)
+  pub put_work_law : {w' : List ℕ} {h : ℕ} → st.refused ≡ 0 → st.aside ≡ true → st.front + length b ≤ st.back → st.back ≤ length w → w' ≡ paste w st.front b (length b)
       → h ≡ max st.high (st.front + length b + (length w - st.back)) → Acts (write b) (world i x l w t st) (world i x l w' t (front_s (st.front + length b) h st))
   unfolding write
-  put-work {w'} {h} z a f g e hi =
+  put_work_law {w'} {h} z a f g e hi =
       let len : length w' ≡ length w = ap length e ∙ length-paste w st.front b (length b) (omega arith) (omega arith) in
       let rest : drop st.back w' ≡ drop st.back w = drop_more w' w (st.front + length b) st.back f (ap (drop (st.front + length b)) e ∙ drop-paste w st.front b (length b) (omega arith) (omega arith)) in
       record {
@@ -237,7 +237,7 @@ module _ (i x l w t : List ℕ) (st : Progress) (b : Bytes) where
         runs = λ L s k lv.
             let u = lv.uses in
             let us : k.used + length b ≡ st.front + length b + (length w - st.back) = omega arith in
-            ended (workM L b k) (put-work-in L b k (nest_some lv a) (let p = lv.work_len in omega arith))
+            ended (work_m L b k) (put_work_in L b k (nest_some lv a) (let p = lv.work_len in omega arith))
             (record {
               go = lv.go;
               text_len = lv.text_len;
@@ -262,7 +262,7 @@ module _ (i x l w t : List ℕ) (st : Progress) (b : Bytes) where
               dirty = lv.dirty;
               few = lv.few;
               most = lv.most;
-              locals = locals-stay refl len (omega arith) rest refl refl refl refl lv.locals;
+              locals = locals_stay refl len (omega arith) rest refl refl refl refl lv.locals;
             })
             refl
             (record {
@@ -287,9 +287,9 @@ unfolding enc_error
 error_some (Error.overriding k i) = record_some _
 error_some (Error.reference k i a) = record_some _
 error_some (Error.no_value i) = record_some _
-error_some Error.missingDefault = record_some _
+error_some Error.missing_default = record_some _
 error_some Error.cyclic = record_some _
-error_some Error.tooManyPlaceables = record_some _
+error_some Error.too_many_placeables = record_some _
 
 -- the rest of a front part
 drop_take : (n m : ℕ) (l : List ℕ) → n ≤ length l → drop n (take (n + m) l) ≡ part l n m
@@ -317,7 +317,7 @@ module _ (i x l w t : List ℕ) (st : Progress) (er : Error) where
   pub list_full : {r : Progress} → st.refused ≡ 0 → (5 ≤ st.list_at → st.list_at ≤ length l → min (length l) 4294967295 < st.list_at + length (enc_error er)) → r ≡ refuse_s 7 st
       → Acts (emit (report er)) (world i x l w t st) (world i x l w t r)
   unfolding emit exec step allow allow_if and_then list_limit
-  list_full z h e = acts-refuse i x l w t st 7 (emit (report er)) z (λ q. omega arith)
+  list_full z h e = acts_refuse i x l w t st 7 (emit (report er)) z (λ q. omega arith)
       (λ L s k lv.
       let n = listed_length er lv in
       let a = h lv.header_in lv.list_in in
@@ -386,9 +386,9 @@ module _ (i x l w t : List ℕ) (st : Progress) (er : Error) where
 
 -- a message that is not there, counted as far as the count goes
 module _ (i x l w t : List ℕ) (st : Progress) where
-  pub count-one : {n : ℕ} → (st.unfound ≤ max_unfound → n ≡ min (st.unfound + 1) max_unfound) → Acts (emit unfound) (world i x l w t st) (world i x l w t (unfound_s n st))
+  pub count_one : {n : ℕ} → (st.unfound ≤ max_unfound → n ≡ min (st.unfound + 1) max_unfound) → Acts (emit unfound) (world i x l w t st) (world i x l w t (unfound_s n st))
   unfolding emit exec step and_then
-  count-one {n} e = record {
+  count_one {n} e = record {
     kept = record { begun = omega arith; over = λ f. refl };
     runs = λ L s k lv.
         ended (record { written = k.written; errors = k.errors; nest = k.nest; used = k.used; high = k.high; begun = k.begun; expanded = k.expanded; unfounds = suc k.unfounds }) refl
@@ -435,4 +435,4 @@ module _ (i x l w t : List ℕ) (st : Progress) where
 -- so much does the count of the state
 pub counts : {st r : Progress} → r ≡ counted_s st → (i x l w t : List ℕ) → Acts (emit unfound) (world i x l w t st) (world i x l w t r)
 unfolding counted_s up_to
-counts {st} e i x l w t = subst (λ (q : Progress). Acts (emit unfound) (world i x l w t st) (world i x l w t q)) (sym e) (count-one i x l w t st (λ _. refl))
+counts {st} e i x l w t = subst (λ (q : Progress). Acts (emit unfound) (world i x l w t st) (world i x l w t q)) (sym e) (count_one i x l w t st (λ _. refl))

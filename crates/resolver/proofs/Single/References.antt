@@ -16,7 +16,7 @@ use Rattle.records.specs.Tree.{Inline, Arguments}
 use Rattle.records.specs.Decode.{id_at, optional_at, expression, inline}
 use Rattle.records.specs.Errors.{Referred, reference, Error}
 use Rattle.records.proofs.Local.{length_part, local_byte}
-use Rattle.records.proofs.Views.{both, never, id_elim, id_str, optional_elim, term-elim, Body, a_string, a_number, is-function, is-message, is-term, is-variable, is-nested, inline-elim}
+use Rattle.records.proofs.Views.{both, never, id_elim, id_str, optional_elim, term_elim, Body, a_string, a_number, is_function, is_message, is_term, is_variable, is_nested, inline_elim}
 use Rattle.records.specs.Optional.{option_of}
 use Rattle.resolution.specs.Effect.{Bytes, report, emit, write, ◌>>◌}
 use Rattle.resolution.specs.Resolve.{dotted, braced, error_text, write_ref_error}
@@ -40,12 +40,12 @@ id_short s at {n} h = id_elim s at h (λ p hs en ok. leb-true (length n) 255 (an
 
 -- an Id and an attribute, by the Strs and the Flag that the code read
 module _ (s : List ℕ) (at : ℕ) {b : List ℕ} {e : ℕ} (h : str_at s at ≡ got b e) where
-  pub name-none : byte_at s e ≡ bad → {n : List ℕ} {p : ℕ} {a : Option (List ℕ)} {f : ℕ} → id_at s at ≡ got n p → optional_at id_at s p ≡ got a f → ⊥
-  name-none k hn ho = both h (id_str s at hn) (λ _ ee. let k' = subst (λ (j : ℕ). byte_at s j ≡ bad) ee k in optional_elim id_at s _ ho (λ hb _. never k' hb) (λ i x hb _ _. never k' hb))
+  pub name_none : byte_at s e ≡ bad → {n : List ℕ} {p : ℕ} {a : Option (List ℕ)} {f : ℕ} → id_at s at ≡ got n p → optional_at id_at s p ≡ got a f → ⊥
+  name_none k hn ho = both h (id_str s at hn) (λ _ ee. let k' = subst (λ (j : ℕ). byte_at s j ≡ bad) ee k in optional_elim id_at s _ ho (λ hb _. never k' hb) (λ i x hb _ _. never k' hb))
 
   module _ {flag q : ℕ} (k : byte_at s e ≡ got flag q) {n : List ℕ} {p : ℕ} {a : Option (List ℕ)} {f : ℕ} (hn : id_at s at ≡ got n p) (ho : optional_at id_at s p ≡ got a f) where
-    pub bare-name : flag ≡ 0 → (n ≡ b) × (length b ≤ 255) × (a ≡ none) × (f ≡ q)
-    bare-name z = both h (id_str s at hn) (λ eb ee.
+    pub bare_name : flag ≡ 0 → (n ≡ b) × (length b ≤ 255) × (a ≡ none) × (f ≡ q)
+    bare_name z = both h (id_str s at hn) (λ eb ee.
         let k' = subst (λ (j : ℕ). byte_at s j ≡ got flag q) ee k in
         let short = id_short s at hn in
         optional_elim id_at s p ho
@@ -60,8 +60,8 @@ module _ (s : List ℕ) (at : ℕ) {b : List ℕ} {e : ℕ} (h : str_at s at ≡
           (λ hb on. both k' hb (λ ef _. nz ef))
           (λ i x hb hx _. both k' hb (λ _ eq. never (subst (λ (j : ℕ). str_at s j ≡ bad) eq u) (id_str s i hx))))
 
-      pub attribute-name : {m : List ℕ} {g : ℕ} → str_at s q ≡ got m g → (n ≡ b) × (length b ≤ 255) × (a ≡ some m) × (length m ≤ 255) × (f ≡ g)
-      attribute-name {m} {g} u = both h (id_str s at hn) (λ eb ee.
+      pub attribute_name : {m : List ℕ} {g : ℕ} → str_at s q ≡ got m g → (n ≡ b) × (length b ≤ 255) × (a ≡ some m) × (length m ≤ 255) × (f ≡ g)
+      attribute_name {m} {g} u = both h (id_str s at hn) (λ eb ee.
           let k' = subst (λ (j : ℕ). byte_at s j ≡ got flag q) ee k in
           let short = id_short s at hn in
           optional_elim id_at s p ho
@@ -71,101 +71,101 @@ module _ (s : List ℕ) (at : ℕ) {b : List ℕ} {e : ℕ} (h : str_at s at ≡
 
 -- what `read_reference` answers
 module _ (s : List ℕ) (at : ℕ) {r : CodeReference.Reference} where
-  pub reference-unread : r ≡ ref.Bad → str_at s at ≡ bad → ReferenceIs s at r
-  reference-unread er h = unread er (λ n p a f hn ho. never h (id_str s at hn))
+  pub reference_unread : r ≡ ref.Bad → str_at s at ≡ bad → ReferenceIs s at r
+  reference_unread er h = unread er (λ n p a f hn ho. never h (id_str s at hn))
 
   module _ {b e : ℕ} (in₁ : (b ≤ e) × (e ≤ length s)) (h : str_at s at ≡ got (part s b (e - b)) e) where
-    pub reference-flagless : r ≡ ref.Bad → byte_at s e ≡ bad → ReferenceIs s at r
-    reference-flagless er k = unread er (λ n p a f hn ho. name-none s at h k hn ho)
+    pub reference_flagless : r ≡ ref.Bad → byte_at s e ≡ bad → ReferenceIs s at r
+    reference_flagless er k = unread er (λ n p a f hn ho. name_none s at h k hn ho)
 
     module _ {flag q : ℕ} (k : byte_at s e ≡ got flag q) where
-      pub reference-bare : flag ≡ 0 → r ≡ ref.Is (record { from = b; to = e; has = false; start = q; end = q }) → ReferenceIs s at r
+      pub reference_bare : flag ≡ 0 → r ≡ ref.Is (record { from = b; to = e; has = false; start = q; end = q }) → ReferenceIs s at r
       unfolding option_of
-      reference-bare z er = reads b e false q q er in₁.0 in₁.1 (omega arith) (local_byte.inside s e in₁.1 k)
-          (λ n p a f hn ho. let y = bare-name s at h k hn ho z in let l = length_part s b (e - b) (omega arith) in (y.0, (let j = y.1 in omega arith), y.2, omega arith, sym y.3))
+      reference_bare z er = reads b e false q q er in₁.0 in₁.1 (omega arith) (local_byte.inside s e in₁.1 k)
+          (λ n p a f hn ho. let y = bare_name s at h k hn ho z in let l = length_part s b (e - b) (omega arith) in (y.0, (let j = y.1 in omega arith), y.2, omega arith, sym y.3))
 
       module _ (nz : flag ≡ 0 → ⊥) where
-        pub reference-attributeless : r ≡ ref.Bad → str_at s q ≡ bad → ReferenceIs s at r
-        reference-attributeless er u = unread er (λ n p a f hn ho. attribute_none s at h k hn ho nz u)
+        pub reference_attributeless : r ≡ ref.Bad → str_at s q ≡ bad → ReferenceIs s at r
+        reference_attributeless er u = unread er (λ n p a f hn ho. attribute_none s at h k hn ho nz u)
 
-        pub reference-attribute : {c f : ℕ} → (c ≤ f) × (f ≤ length s) → str_at s q ≡ got (part s c (f - c)) f → r ≡ ref.Is (record { from = b; to = e; has = true; start = c; end = f }) → ReferenceIs s at r
+        pub reference_attribute : {c f : ℕ} → (c ≤ f) × (f ≤ length s) → str_at s q ≡ got (part s c (f - c)) f → r ≡ ref.Is (record { from = b; to = e; has = true; start = c; end = f }) → ReferenceIs s at r
         unfolding option_of
-        reference-attribute {c} {f} in₂ u er = reads b e true c f er in₁.0 in₁.1 in₂.0 in₂.1
+        reference_attribute {c} {f} in₂ u er = reads b e true c f er in₁.0 in₁.1 in₂.0 in₂.1
             (λ n p a g hn ho.
-            let y = attribute-name s at h k hn ho nz u in
+            let y = attribute_name s at h k hn ho nz u in
             let l = length_part s b (e - b) (omega arith) in
             let m = length_part s c (f - c) (omega arith) in
             (y.0, (let j = y.1 in omega arith), y.2, (let j = y.3 in omega arith), sym y.4))
 
 -- what the answer says
 module _ (s : List ℕ) (at : ℕ) {c : CodeReference.Reference} where
-  reference-never : ReferenceIs s at c → c ≡ ref.Bad → (n : Bytes) (p : ℕ) (a : Option Bytes) (f : ℕ) → id_at s at ≡ got n p → optional_at id_at s p ≡ got a f → ⊥
-  reference-never (reads from to has start end er h₁ h₂ h₃ h₄ y) e = let o : ◌≡◌ {A = ℕ} 0 1 = cc in absurd (omega arith)
-  reference-never (unread er y) e = y
+  reference_never : ReferenceIs s at c → c ≡ ref.Bad → (n : Bytes) (p : ℕ) (a : Option Bytes) (f : ℕ) → id_at s at ≡ got n p → optional_at id_at s p ≡ got a f → ⊥
+  reference_never (reads from to has start end er h₁ h₂ h₃ h₄ y) e = let o : ◌≡◌ {A = ℕ} 0 1 = cc in absurd (omega arith)
+  reference_never (unread er y) e = y
 
   module _ {v : Referring} where
-    pub reference-in : ReferenceIs s at c → c ≡ ref.Is v → (v.from ≤ v.to) × (v.to ≤ length s) × (v.start ≤ v.end) × (v.end ≤ length s)
-    reference-in (reads from to has start end er h₁ h₂ h₃ h₄ y) e =
+    pub reference_in : ReferenceIs s at c → c ≡ ref.Is v → (v.from ≤ v.to) × (v.to ≤ length s) × (v.start ≤ v.end) × (v.end ≤ length s)
+    reference_in (reads from to has start end er h₁ h₂ h₃ h₄ y) e =
         let q : record { from = from; to = to; has = has; start = start; end = end } ≡ v = (cc) in
         subst (λ (u : Referring). (u.from ≤ u.to) × (u.to ≤ length s) × (u.start ≤ u.end) × (u.end ≤ length s)) q (h₁, h₂, h₃, h₄)
-    reference-in (unread er y) e = let o : ◌≡◌ {A = ℕ} 0 1 = cc in absurd (omega arith)
+    reference_in (unread er y) e = let o : ◌≡◌ {A = ℕ} 0 1 = cc in absurd (omega arith)
 
-    pub reference-known : ReferenceIs s at c → c ≡ ref.Is v → (n : Bytes) (p : ℕ) (a : Option Bytes) (f : ℕ) → id_at s at ≡ got n p → optional_at id_at s p ≡ got a f
+    pub reference_known : ReferenceIs s at c → c ≡ ref.Is v → (n : Bytes) (p : ℕ) (a : Option Bytes) (f : ℕ) → id_at s at ≡ got n p → optional_at id_at s p ≡ got a f
         → (n ≡ part s v.from (v.to - v.from)) × (length (part s v.from (v.to - v.from)) ≤ 255) × (a ≡ option_of v.has (part s v.start (v.end - v.start))) × (length (part s v.start (v.end - v.start)) ≤ 255)
-    reference-known (reads from to has start end er h₁ h₂ h₃ h₄ y) e n p a f hn ho =
+    reference_known (reads from to has start end er h₁ h₂ h₃ h₄ y) e n p a f hn ho =
         let q : record { from = from; to = to; has = has; start = start; end = end } ≡ v = (cc) in
         let z = y n p a f hn ho in
         let l = length_part s from (to - from) (omega arith) in
         let m = length_part s start (end - start) (omega arith) in
         subst (λ (u : Referring). (n ≡ part s u.from (u.to - u.from)) × (length (part s u.from (u.to - u.from)) ≤ 255) × (a ≡ option_of u.has (part s u.start (u.end - u.start))) × (length (part s u.start (u.end - u.start)) ≤ 255)) q
         (z.0, (let j = z.1 in omega arith), z.2, (let j = z.3 in omega arith))
-    reference-known (unread er y) e n p a f hn ho = let o : ◌≡◌ {A = ℕ} 0 1 = cc in absurd (omega arith)
+    reference_known (unread er y) e n p a f hn ho = let o : ◌≡◌ {A = ℕ} 0 1 = cc in absurd (omega arith)
 
 -- an error's record, then its text
 module _ (i : List ℕ) (at : ℕ) (kind : Referred) (x l w : List ℕ) (st : Progress) where
-  pub ref-none : byte_at i at ≡ bad → RefErrorAt i at kind x l w st x l w st
-  ref-none h = record {
+  pub ref_none : byte_at i at ≡ bad → RefErrorAt i at kind x l w st x l w st
+  ref_none h = record {
     kept = λ t. kept_same _;
-    message = λ k t d n a f q. inline-elim i at d q (λ tag p hb z b. never h hb);
-    term = λ k t d n a r f q. inline-elim i at d q (λ tag p hb z b. never h hb);
+    message = λ k t d n a f q. inline_elim i at d q (λ tag p hb z b. never h hb);
+    term = λ k t d n a r f q. inline_elim i at d q (λ tag p hb z b. never h hb);
   }
 
   module _ {tag p : ℕ} (h : byte_at i at ≡ got tag p) where
-    message-read : {C : Type 0} (d : ℕ) {n : Bytes} {a : Option Bytes} {f : ℕ} → inline d i at ≡ got (Inline.message n a) f → ((q g : ℕ) → id_at i p ≡ got n q → optional_at id_at i q ≡ got a g → C) → C
-    message-read {C} d {n} {a} {f} e c = inline-elim i at d e (λ tag' p' hb z v. both h hb (λ et ep. go tag' p' ep v))
+    message_read : {C : Type 0} (d : ℕ) {n : Bytes} {a : Option Bytes} {f : ℕ} → inline d i at ≡ got (Inline.message n a) f → ((q g : ℕ) → id_at i p ≡ got n q → optional_at id_at i q ≡ got a g → C) → C
+    message_read {C} d {n} {a} {f} e c = inline_elim i at d e (λ tag' p' hb z v. both h hb (λ et ep. go tag' p' ep v))
       where
         go : (tag' p' : ℕ) → p ≡ p' → Body (expression (d - 1)) (inline (d - 1)) i p' tag' (Inline.message n a) f → C
         go tag' p' ep (a_string b y hs ew) = let o : ◌≡◌ {A = ℕ} 0 1 = cc in absurd (omega arith)
         go tag' p' ep (a_number b y hs ew) = let o : ◌≡◌ {A = ℕ} 0 1 = cc in absurd (omega arith)
-        go tag' p' ep (is-function m q b y hn ha ew) = let o : ◌≡◌ {A = ℕ} 0 1 = cc in absurd (omega arith)
-        go tag' p' ep (is-message m q b y hn ha ew) =
+        go tag' p' ep (is_function m q b y hn ha ew) = let o : ◌≡◌ {A = ℕ} 0 1 = cc in absurd (omega arith)
+        go tag' p' ep (is_message m q b y hn ha ew) =
             let em : m ≡ n = (cc) in
             let eb : b ≡ a = (cc) in
             c q f (subst (λ (j : ℕ). id_at i j ≡ got n q) (sym ep) (subst (λ (j : Bytes). id_at i p' ≡ got j q) em hn)) (subst (λ (j : Option Bytes). optional_at id_at i q ≡ got j f) eb ha)
-        go tag' p' ep (is-term y q) = term-elim (inline (d - 1)) i p' q (λ m q' b g r hn ha hr ew. let o : ◌≡◌ {A = ℕ} 0 1 = cc in absurd (omega arith))
-        go tag' p' ep (is-variable m y q ew) = let o : ◌≡◌ {A = ℕ} 0 1 = cc in absurd (omega arith)
-        go tag' p' ep (is-nested u y q ew) = let o : ◌≡◌ {A = ℕ} 0 1 = cc in absurd (omega arith)
+        go tag' p' ep (is_term y q) = term_elim (inline (d - 1)) i p' q (λ m q' b g r hn ha hr ew. let o : ◌≡◌ {A = ℕ} 0 1 = cc in absurd (omega arith))
+        go tag' p' ep (is_variable m y q ew) = let o : ◌≡◌ {A = ℕ} 0 1 = cc in absurd (omega arith)
+        go tag' p' ep (is_nested u y q ew) = let o : ◌≡◌ {A = ℕ} 0 1 = cc in absurd (omega arith)
 
-    term-read : {C : Type 0} (d : ℕ) {n : Bytes} {a : Option Bytes} {r : Arguments} {f : ℕ} → inline d i at ≡ got (Inline.term n a r) f → ((q g : ℕ) → id_at i p ≡ got n q → optional_at id_at i q ≡ got a g → C) → C
-    term-read {C} d {n} {a} {r} {f} e c = inline-elim i at d e (λ tag' p' hb z v. both h hb (λ et ep. go tag' p' ep v))
+    term_read : {C : Type 0} (d : ℕ) {n : Bytes} {a : Option Bytes} {r : Arguments} {f : ℕ} → inline d i at ≡ got (Inline.term n a r) f → ((q g : ℕ) → id_at i p ≡ got n q → optional_at id_at i q ≡ got a g → C) → C
+    term_read {C} d {n} {a} {r} {f} e c = inline_elim i at d e (λ tag' p' hb z v. both h hb (λ et ep. go tag' p' ep v))
       where
         go : (tag' p' : ℕ) → p ≡ p' → Body (expression (d - 1)) (inline (d - 1)) i p' tag' (Inline.term n a r) f → C
         go tag' p' ep (a_string b y hs ew) = let o : ◌≡◌ {A = ℕ} 0 1 = cc in absurd (omega arith)
         go tag' p' ep (a_number b y hs ew) = let o : ◌≡◌ {A = ℕ} 0 1 = cc in absurd (omega arith)
-        go tag' p' ep (is-function m q b y hn ha ew) = let o : ◌≡◌ {A = ℕ} 0 1 = cc in absurd (omega arith)
-        go tag' p' ep (is-message m q b y hn ha ew) = let o : ◌≡◌ {A = ℕ} 0 1 = cc in absurd (omega arith)
-        go tag' p' ep (is-term y q) = term-elim (inline (d - 1)) i p' q (λ m q' b g r' hn ha hr ew.
+        go tag' p' ep (is_function m q b y hn ha ew) = let o : ◌≡◌ {A = ℕ} 0 1 = cc in absurd (omega arith)
+        go tag' p' ep (is_message m q b y hn ha ew) = let o : ◌≡◌ {A = ℕ} 0 1 = cc in absurd (omega arith)
+        go tag' p' ep (is_term y q) = term_elim (inline (d - 1)) i p' q (λ m q' b g r' hn ha hr ew.
             let em : m ≡ n = (cc) in
             let eb : b ≡ a = (cc) in
             c q' g (subst (λ (j : ℕ). id_at i j ≡ got n q') (sym ep) (subst (λ (j : Bytes). id_at i p' ≡ got j q') em hn)) (subst (λ (j : Option Bytes). optional_at id_at i q' ≡ got j g) eb ha))
-        go tag' p' ep (is-variable m y q ew) = let o : ◌≡◌ {A = ℕ} 0 1 = cc in absurd (omega arith)
-        go tag' p' ep (is-nested u y q ew) = let o : ◌≡◌ {A = ℕ} 0 1 = cc in absurd (omega arith)
+        go tag' p' ep (is_variable m y q ew) = let o : ◌≡◌ {A = ℕ} 0 1 = cc in absurd (omega arith)
+        go tag' p' ep (is_nested u y q ew) = let o : ◌≡◌ {A = ℕ} 0 1 = cc in absurd (omega arith)
 
-    pub ref-unread : {c : CodeReference.Reference} → ReferenceIs i p c → c ≡ ref.Bad → RefErrorAt i at kind x l w st x l w st
-    ref-unread k e = record {
+    pub ref_unread : {c : CodeReference.Reference} → ReferenceIs i p c → c ≡ ref.Bad → RefErrorAt i at kind x l w st x l w st
+    ref_unread k e = record {
       kept = λ t. kept_same _;
-      message = λ _ t d n a f h. message-read d h (λ q g hn ho. absurd (reference-never i p k e n q a g hn ho));
-      term = λ _ t d n a r f h. term-read d h (λ q g hn ho. absurd (reference-never i p k e n q a g hn ho));
+      message = λ _ t d n a f h. message_read d h (λ q g hn ho. absurd (reference_never i p k e n q a g hn ho));
+      term = λ _ t d n a r f h. term_read d h (λ q g hn ho. absurd (reference_never i p k e n q a g hn ho));
     }
 
     -- the code read a name, and its attribute if it has one
@@ -180,12 +180,12 @@ module _ (i : List ℕ) (at : ℕ) (kind : Referred) (x l w : List ℕ) (st : Pr
           let z = known n q a g hn ho in
           runs_as (ap (λ (j : Error). emit (report j) >> write (braced (error_text y))) (rw (z.0, z.2))) (runs_then (lists z.1 z.3 t).runs (puts.kept l' t) (λ _. puts.runs l' t d y f e))
 
-      pub ref-read : RefErrorAt i at kind x l w st x' l' w' r
+      pub ref_read : RefErrorAt i at kind x l w st x' l' w' r
       unfolding write_ref_error error_text
-      ref-read = record {
+      ref_read = record {
         kept = λ t. kept_then (listing t) (puts.kept l' t);
-        message = λ k t d n a f e. message-read d e (λ q g hn ho.
+        message = λ k t d n a f e. message_read d e (λ q g hn ho.
             subst (λ (j : Referred). Runs (emit (report (reference j n a)) >> write (braced (dotted n a))) (world i x l w t st) (world i x' l' w' t r)) k (both_run t d (Inline.message n a) f e q n a g hn ho));
-        term = λ k t d n a b f e. term-read d e (λ q g hn ho.
+        term = λ k t d n a b f e. term_read d e (λ q g hn ho.
             subst (λ (j : Referred). Runs (emit (report (reference j n a)) >> write (braced (45 ∷ dotted n a))) (world i x l w t st) (world i x' l' w' t r)) k (both_run t d (Inline.term n a b) f e q n a g hn ho));
       }

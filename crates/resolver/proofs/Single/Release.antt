@@ -28,24 +28,24 @@ module _ (w u : World) where
   abbrev pub freed : World
   freed = world u.store u.text u.list u.work u.trail (back_s w.st.back u.st)
 
-  pub kept-freed : Kept w u → Kept w freed
-  kept-freed h = record { begun = h.begun; over = h.over }
+  pub kept_freed : Kept w u → Kept w freed
+  kept_freed h = record { begun = h.begun; over = h.over }
 
   -- a term's arguments were there before, and lie above the back that was there then
-  pub locals-freed : {l l' : Locals} → u.store ≡ w.store → length u.work ≡ length w.work → drop w.st.back u.work ≡ drop w.st.back w.work → LocalsStay w.st u.st
+  pub locals_freed : {l l' : Locals} → u.store ≡ w.store → length u.work ≡ length w.work → drop w.st.back u.work ≡ drop w.st.back w.work → LocalsStay w.st u.st
       → LocalsAt w l → LocalsAt u l' → LocalsAt freed l'
-  locals-freed i n r st before (no_locals f o) = no_locals f o
-  locals-freed i n r (locals_cleared c) before (some_locals ns f low t h o k x) = absurd (true≢false (sym t ∙ c))
-  locals-freed i n r (locals_same e₀ e₁ e₂ e₃) (no_locals f' o') (some_locals ns f low t h o k x) = absurd (true≢false (sym t ∙ e₀ ∙ f'))
-  locals-freed {l' = l'} i n r (locals_same e₀ e₁ e₂ e₃) (some_locals ns' f' low' t' h' o' k' x') (some_locals ns f low t h o k x) =
+  locals_freed i n r st before (no_locals f o) = no_locals f o
+  locals_freed i n r (locals_cleared c) before (some_locals ns f low t h o k x) = absurd (true≢false (sym t ∙ c))
+  locals_freed i n r (locals_same e₀ e₁ e₂ e₃) (no_locals f' o') (some_locals ns f low t h o k x) = absurd (true≢false (sym t ∙ e₀ ∙ f'))
+  locals_freed {l' = l'} i n r (locals_same e₀ e₁ e₂ e₃) (some_locals ns' f' low' t' h' o' k' x') (some_locals ns f low t h o k x) =
       let g : many [] ◌∷◌ u.st.local_count named_at u.store u.st.local_at ≡ got ns' f' = rw (e₂, i, e₁) h' in
       both g h (λ en _.
       some_locals ns' f' low' t g (o ∙ ap (λ (q : Named). some (named_texts q)) (sym en)) k'
       (rw e₃ (named_stays n (drop_more u.work w.work w.st.back low' k' r) x')))
 
-  pub ended-release : {A : Type 0} (m : M A) (L : Limits) (s : State) (k : Machine) → Live L w s k → Ended L w u (m s) k → Ended L w freed (release m s) k
+  pub ended_release : {A : Type 0} (m : M A) (L : Limits) (s : State) (k : Machine) → Live L w s k → Ended L w u (m s) k → Ended L w freed (release m s) k
   unfolding release exec step and_then
-  ended-release m L s k lw (ended k' e lv n mv) =
+  ended_release m L s k lw (ended k' e lv n mv) =
       let b = mv.back in let wl = lw.work_len in let bi = lw.back_in in let us = lv.uses in let f = lv.front_in in let bl = lv.back_in in let ul = lv.work_len in
       ended (record { written = k'.written; errors = k'.errors; nest = k'.nest; used = k'.used - (m s).kept; high = k'.high; begun = k'.begun; expanded = k'.expanded; unfounds = k'.unfounds })
       (exec_append L (m s).trace (free (m s).kept ∷ []) k ∙ rw e)
@@ -73,7 +73,7 @@ module _ (w u : World) where
         dirty = lv.dirty;
         few = lv.few;
         most = lv.most;
-        locals = locals-freed mv.store (ul ∙ sym wl) mv.rest mv.stay lw.locals lv.locals;
+        locals = locals_freed mv.store (ul ∙ sym wl) mv.rest mv.stay lw.locals lv.locals;
       })
       n
       (record { store = mv.store; front = mv.front; back = omega arith; rest = mv.rest; aside = mv.aside; depth = mv.depth; trail = mv.trail; stay = go mv.stay; outs = record { text_up = mv.outs.text_up; list_up = mv.outs.list_up; text_rest = mv.outs.text_rest; list_rest = mv.outs.list_rest } })
@@ -81,19 +81,19 @@ module _ (w u : World) where
       go : LocalsStay w.st u.st → LocalsStay w.st (back_s w.st.back u.st)
       go (locals_same e₀ e₁ e₂ e₃) = locals_same e₀ e₁ e₂ e₃
       go (locals_cleared c) = locals_cleared c
-  ended-release m L s k lw (stopped n e z r) = stopped n (exec_append L (m s).trace (free (m s).kept ∷ []) k ∙ rw e) z r
+  ended_release m L s k lw (stopped n e z r) = stopped n (exec_append L (m s).trace (free (m s).kept ∷ []) k ∙ rw e) z r
 
   -- the same, where the code gives the state by an equation
-  pub release-back : {A : Type 0} (m : M A) {r : Progress} → r ≡ back_s w.st.back u.st → Runs m w u → Runs (release m) w (world u.store u.text u.list u.work u.trail r)
-  release-back m er h L s k lw = subst (λ (q : Progress). Ended L w (world u.store u.text u.list u.work u.trail q) (release m s) k) (sym er) (ended-release m L s k lw (h L s k lw))
+  pub release_back : {A : Type 0} (m : M A) {r : Progress} → r ≡ back_s w.st.back u.st → Runs m w u → Runs (release m) w (world u.store u.text u.list u.work u.trail r)
+  release_back m er h L s k lw = subst (λ (q : Progress). Ended L w (world u.store u.text u.list u.work u.trail q) (release m s) k) (sym er) (ended_release m L s k lw (h L s k lw))
 
   -- refused before it was freed
-  pub stopped-release : {A : Type 0} (m : M A) (L : Limits) (s : State) (k : Machine) → (u.st.refused ≡ 0 → ⊥) → Ended L w u (m s) k → Ended L w u (release m s) k
+  pub stopped_release : {A : Type 0} (m : M A) (L : Limits) (s : State) (k : Machine) → (u.st.refused ≡ 0 → ⊥) → Ended L w u (m s) k → Ended L w u (release m s) k
   unfolding release exec step and_then
-  stopped-release m L s k f h = ended_over f h (λ n e z r. stopped n (exec_append L (m s).trace (free (m s).kept ∷ []) k ∙ rw e) z r)
+  stopped_release m L s k f h = ended_over f h (λ n e z r. stopped n (exec_append L (m s).trace (free (m s).kept ∷ []) k ∙ rw e) z r)
 
-  pub release-over : {A : Type 0} (m : M A) → (u.st.refused ≡ 0 → ⊥) → Runs m w u → Runs (release m) w u
-  release-over m f h L s k lw = stopped-release m L s k f (h L s k lw)
+  pub release_over : {A : Type 0} (m : M A) → (u.st.refused ≡ 0 → ⊥) → Runs m w u → Runs (release m) w u
+  release_over m f h L s k lw = stopped_release m L s k f (h L s k lw)
 
 -- an action after one that ended refused does nothing
 pub runs_stopped : {A B : Type 0} {w u : World} (m : M A) (f : A → M B) → (u.st.refused ≡ 0 → ⊥) → Runs m w u → Runs (m >>= f) w u

@@ -32,37 +32,37 @@ use Rattle.state.specs.Setters.{refuse_s}
 use Rattle.resolver.specs.Relations.Values.{merged_all}
 use Rattle.resolver.proofs.Single.Laws.{kept_same, runs_ret, runs_then}
 use Rattle.resolver.proofs.Single.Steps.{runs_over, runs_as}
-use Rattle.resolver.proofs.Single.Merges.{notes_fine, notes-long}
+use Rattle.resolver.proofs.Single.Merges.{notes_fine, notes_long}
 
 -- a merge that was not refused leaves the fraction's minimum in range
 module _ (o : Options) (h : or_zero o.minimum_fraction_digits ≤ fraction_limit) where
-  text-ranged : (a b c d f : Bool) (k : Kind) (s : Style) (t : List ℕ) (y : Display) (g : Bool)
+  text_ranged : (a b c d f : Bool) (k : Kind) (s : Style) (t : List ℕ) (y : Display) (g : Bool)
       → or_zero (pick_options a (with_kind k o) (pick_options b (with_style s o) (pick_options c (with_currency (some t) o) (pick_options d (with_currency_display y o) (pick_options f (with_use_grouping g o) o))))).minimum_fraction_digits ≤ fraction_limit
   unfolding with_kind with_style with_currency with_currency_display with_use_grouping
-  text-ranged true b c d f k s t y g = h
-  text-ranged false true c d f k s t y g = h
-  text-ranged false false true d f k s t y g = h
-  text-ranged false false false true f k s t y g = h
-  text-ranged false false false false true k s t y g = h
-  text-ranged false false false false false k s t y g = h
+  text_ranged true b c d f k s t y g = h
+  text_ranged false true c d f k s t y g = h
+  text_ranged false false true d f k s t y g = h
+  text_ranged false false false true f k s t y g = h
+  text_ranged false false false false true k s t y g = h
+  text_ranged false false false false false k s t y g = h
 
-  count-ranged : (a b c d f : Bool) (k : ℕ) → (b ≡ true → k ≤ fraction_limit)
+  count_ranged : (a b c d f : Bool) (k : ℕ) → (b ≡ true → k ≤ fraction_limit)
       → or_zero (pick_options a (with_minimum_integer_digits (some k) o) (pick_options b (with_minimum_fraction_digits (some k) o) (pick_options c (with_maximum_fraction_digits (some k) o) (pick_options d (with_minimum_significant_digits (some k) o) (pick_options f (with_maximum_significant_digits (some k) o) o))))).minimum_fraction_digits ≤ fraction_limit
   unfolding with_minimum_integer_digits with_minimum_fraction_digits with_maximum_fraction_digits with_minimum_significant_digits with_maximum_significant_digits or_zero
-  count-ranged true b c d f k e = h
-  count-ranged false true c d f k e = e refl
-  count-ranged false false true d f k e = h
-  count-ranged false false false true f k e = h
-  count-ranged false false false false true k e = h
-  count-ranged false false false false false k e = h
+  count_ranged true b c d f k e = h
+  count_ranged false true c d f k e = e refl
+  count_ranged false false true d f k e = h
+  count_ranged false false false true f k e = h
+  count_ranged false false false false true k e = h
+  count_ranged false false false false false k e = h
 
-  one-ranged : (name : List ℕ) (v : Value) → too_long name v ≡ false → or_zero (merge_one name v o).minimum_fraction_digits ≤ fraction_limit
+  one_ranged : (name : List ℕ) (v : Value) → too_long name v ≡ false → or_zero (merge_one name v o).minimum_fraction_digits ≤ fraction_limit
   unfolding merge_one merge_text merge_count too_long
-  one-ranged name (textual s) e = text-ranged (same_bytes name type_name) (same_bytes name style_name) (same_bytes name currency_name) (same_bytes name currency_display_name) (same_bytes name use_grouping_name) (kind_of s) (style_of s) s (display_of s) (not (same_bytes s false_word))
-  one-ranged name (numeric n) e = count-ranged (same_bytes name minimum_integer_digits_name) (same_bytes name minimum_fraction_digits_name) (same_bytes name maximum_fraction_digits_name) (same_bytes name minimum_significant_digits_name) (same_bytes name maximum_significant_digits_name) (to_count n)
+  one_ranged name (textual s) e = text_ranged (same_bytes name type_name) (same_bytes name style_name) (same_bytes name currency_name) (same_bytes name currency_display_name) (same_bytes name use_grouping_name) (kind_of s) (style_of s) s (display_of s) (not (same_bytes s false_word))
+  one_ranged name (numeric n) e = count_ranged (same_bytes name minimum_integer_digits_name) (same_bytes name minimum_fraction_digits_name) (same_bytes name maximum_fraction_digits_name) (same_bytes name minimum_significant_digits_name) (same_bytes name maximum_significant_digits_name) (to_count n)
       (λ q. ltb-false fraction_limit (to_count n) (sym (ap (λ (t : Bool). t && ltb fraction_limit (to_count n)) q) ∙ e))
-  one-ranged name nothing e = h
-  one-ranged name wrong e = h
+  one_ranged name nothing e = h
+  one_ranged name wrong e = h
 
 all_ranged : (es : List (List ℕ × Value)) (o : Options) {c : CodeOptions.Options} → merged_all es o ≡ merges.Is c → or_zero o.minimum_fraction_digits ≤ fraction_limit → or_zero (merge es o).minimum_fraction_digits ≤ fraction_limit
 unfolding merged_all merge
@@ -73,7 +73,7 @@ all_ranged (x ∷ es) o {c} e h = go (too_long x.0 x.1) refl e (λ q k. all_rang
         → (merged_all es (merge_one x.0 x.1 o) ≡ merges.Is c → or_zero (merge_one x.0 x.1 o).minimum_fraction_digits ≤ fraction_limit → or_zero (merge es (merge_one x.0 x.1 o)).minimum_fraction_digits ≤ fraction_limit)
         → or_zero (merge es (merge_one x.0 x.1 o)).minimum_fraction_digits ≤ fraction_limit
     go true f q g = let z : ◌≡◌ {A = ℕ} 0 1 = cc in absurd (omega arith)
-    go false f q g = g q (one-ranged o h x.0 x.1 f)
+    go false f q g = g q (one_ranged o h x.0 x.1 f)
 
 -- the parts of being in range
 and_both : (a b : Bool) → a && b ≡ true → (a ≡ true) × (b ≡ true)
@@ -123,31 +123,31 @@ merges_as : {w v : World} (vs : List Value) (ns : List (List ℕ × Value)) {m :
 merges_as vs ns e h = runs_as (ap (λ (y : M Done). y >> ret (some (number_function vs ns))) e) h
 
 module _ (i w : List ℕ) (st : Progress) (at count base : ℕ) {first : CodeValue.Value} where
-  pub number-over : {c : CodeValue.Value} → (st.refused ≡ 0 → ⊥) → NumberAt i w st at count base first st c
-  number-over h = record { kept = λ x l t. kept_same _; runs = λ ns f vs low _ _ _ x l t. runs_over _ _ h; holds = λ ns f vs low _ _ _ args back z. absurd (h z) }
+  pub number_over : {c : CodeValue.Value} → (st.refused ≡ 0 → ⊥) → NumberAt i w st at count base first st c
+  number_over h = record { kept = λ x l t. kept_same _; runs = λ ns f vs low _ _ _ x l t. runs_over _ _ h; holds = λ ns f vs low _ _ _ args back z. absurd (h z) }
 
-  pub number-other : ((m : CodeNumber.Number) → first ≡ val.Number m → ⊥) → NumberAt i w st at count base first st val.Wrong
-  number-other h = record {
+  pub number_other : ((m : CodeNumber.Number) → first ≡ val.Number m → ⊥) → NumberAt i w st at count base first st val.Wrong
+  number_other h = record {
     kept = λ x l t. kept_same _;
     runs = λ ns f vs low _ fi _ x l t. merges_as vs (named_texts ns) (none_number (named_texts ns) fi h).0 (runs_then (runs_ret tt _) (kept_same _) (λ _. runs_ret _ _));
     holds = λ ns f vs low _ fi _ args back _ _. a_wrong refl (none_number (named_texts ns) fi h).1;
   }
 
   module _ {m : CodeNumber.Number} (e : first ≡ val.Number m) where
-    pub number-long : {r : Progress} → st.refused ≡ 0 → ((x : Options) (ns : Named) (f low : ℕ) → m.options ≡ shown_options x → many [] ◌∷◌ count named_at i at ≡ got ns f → NamedIn w low base ns → merges.TooLong ≡ merged_all (named_texts ns) x)
+    pub number_long : {r : Progress} → st.refused ≡ 0 → ((x : Options) (ns : Named) (f low : ℕ) → m.options ≡ shown_options x → many [] ◌∷◌ count named_at i at ≡ got ns f → NamedIn w low base ns → merges.TooLong ≡ merged_all (named_texts ns) x)
         → r ≡ refuse_s 17 st → NumberAt i w st at count base first r val.Wrong
-    number-long {r} z h er = subst (λ (y : Progress). NumberAt i w st at count base first y val.Wrong) (sym er) (record {
+    number_long {r} z h er = subst (λ (y : Progress). NumberAt i w st at count base first y val.Wrong) (sym er) (record {
       kept = λ x l t. record { begun = omega arith; over = λ n. absurd (n z) };
       runs = λ ns f vs low all fi ni x l t. is_first e fi (λ n k ev em _.
           merges_as vs (named_texts ns) (ap (λ (y : List Value). merges_of y (named_texts ns)) ev ∙ (first_merges n k (named_texts ns)).0)
-          (runs_then (notes-long i x l w t st z (named_texts ns) n.options (sym (h n.options ns f low (ap (λ (y : CodeNumber.Number). y.options) em) all ni))) (kept_same _) (λ _. runs_over _ _ (λ q. omega arith))));
+          (runs_then (notes_long i x l w t st z (named_texts ns) n.options (sym (h n.options ns f low (ap (λ (y : CodeNumber.Number). y.options) em) all ni))) (kept_same _) (λ _. runs_over _ _ (λ q. omega arith))));
       holds = λ ns f vs low all fi ni args back _ q. absurd (omega arith);
     })
 
-    pub number-merged : {o : CodeOptions.Options} → ((x : Options) (ns : Named) (f low : ℕ) → m.options ≡ shown_options x → many [] ◌∷◌ count named_at i at ≡ got ns f → NamedIn w low base ns → merges.Is o ≡ merged_all (named_texts ns) x)
+    pub number_merged : {o : CodeOptions.Options} → ((x : Options) (ns : Named) (f low : ℕ) → m.options ≡ shown_options x → many [] ◌∷◌ count named_at i at ≡ got ns f → NamedIn w low base ns → merges.Is o ≡ merged_all (named_texts ns) x)
         → NumberAt i w st at count base first st (val.Number (record { negative = m.negative; digits = m.digits; scale = m.scale; options = o }))
     unfolding with_options
-    number-merged {o} h = record {
+    number_merged {o} h = record {
       kept = λ x l t. kept_same _;
       runs = λ ns f vs low all fi ni x l t. is_first e fi (λ n k ev em _.
           merges_as vs (named_texts ns) (ap (λ (y : List Value). merges_of y (named_texts ns)) ev ∙ (first_merges n k (named_texts ns)).0)

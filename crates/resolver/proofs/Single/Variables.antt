@@ -20,7 +20,7 @@ use Rattle.records.specs.Images.{Argument, argument_at, argument_value_at}
 use Rattle.order.specs.Accepted.{accepted, judge}
 use Rattle.order.proofs.Accepted.{accepted_read}
 use Rattle.records.specs.Errors.{Referred, reference}
-use Rattle.records.proofs.Views.{many-cons, many-nil}
+use Rattle.records.proofs.Views.{many_cons, many_nil}
 use Rattle.records.specs.Names.{first_named}
 use Rattle.arguments.specs.Relations.Given.{meant, Within, between}
 use Rattle.arguments.specs.declared.Given.{Given}
@@ -86,8 +86,8 @@ nothing_ranged n = tt
 
 from_ranged : (n : Bytes) (s : List ℕ) (c at : ℕ) (l : List (Bytes × Argument)) {f : ℕ} → many [] ◌∷◌ c argument_at s at ≡ got l f → Ranged (first_named n l)
 unfolding first_named
-from_ranged n s zero at l h = many-nil [] ◌∷◌ argument_at s zero at (omega arith) h (λ e _. subst (λ (y : List (Bytes × Argument)). Ranged (first_named n y)) (sym e) (nothing_ranged n))
-from_ranged n s (suc c) at l {f} h = many-cons [] ◌∷◌ argument_at s (suc c) at (omega arith) h (λ a e t ha ht w.
+from_ranged n s zero at l h = many_nil [] ◌∷◌ argument_at s zero at (omega arith) h (λ e _. subst (λ (y : List (Bytes × Argument)). Ranged (first_named n y)) (sym e) (nothing_ranged n))
+from_ranged n s (suc c) at l {f} h = many_cons [] ◌∷◌ argument_at s (suc c) at (omega arith) h (λ a e t ha ht w.
     argument_elim s at ha (λ m p v hm hv wa.
     let r : Ranged (some a.1) = subst (λ (y : Bytes × Argument). Ranged (some y.1)) (sym wa) (value_ranged s p hv) in
     let m : suc c - 1 ≡ c = omega arith in
@@ -99,25 +99,25 @@ first_ranged n s {l} h = arguments_image_elim s (accepted_read s l h).1 (λ k _ 
 
 -- an argument as a value
 module _ (i s w : List ℕ) (low : ℕ) where
-  pub argument-text : (a e : ℕ) → Within s (goal.Text a e) → LocalIs i s w low (loc.Is (val.Args a e)) (value_of_some (meant s (goal.Text a e)))
+  pub argument_text : (a e : ℕ) → Within s (goal.Text a e) → LocalIs i s w low (loc.Is (val.Args a e)) (value_of_some (meant s (goal.Text a e)))
   unfolding meant value_of_some value_of Within
-  argument-text a e h = is_there _ _ refl refl (in_args a e refl h.0 h.1 (ap textual (between_in s a e h.0 h.1)))
+  argument_text a e h = is_there _ _ refl refl (in_args a e refl h.0 h.1 (ap textual (between_in s a e h.0 h.1)))
 
-  pub argument-number : (f : Bool) (d k : ℕ) {o : CodeOptions.Options} → o ≡ shown_options default_options → Ranged (meant s (goal.Number f d k))
+  pub argument_number : (f : Bool) (d k : ℕ) {o : CodeOptions.Options} → o ≡ shown_options default_options → Ranged (meant s (goal.Number f d k))
       → LocalIs i s w low (loc.Is (val.Number (record { negative = f; digits = d; scale = k; options = o }))) (value_of_some (meant s (goal.Number f d k)))
   unfolding meant value_of_some value_of Ranged in_range default_options or_zero
-  argument-number f d k e h = is_there _ _ refl refl (a_number (record { negative = f; digits = d; scale = k; options = default_options }) (rw e) (ranged f d k h.0 h.1) refl)
+  argument_number f d k e h = is_there _ _ refl refl (a_number (record { negative = f; digits = d; scale = k; options = default_options }) (rw e) (ranged f d k h.0 h.1) refl)
     where
       ranged : (f : Bool) (d k : ℕ) → d < digits_limit → k ≤ scale_limit → in_range (record { negative = f; digits = d; scale = k; options = default_options }) ≡ true
       ranged f d k a b = rw (lt-ltb d digits_limit a, le-leb k scale_limit b)
 
-  pub argument-nothing : LocalIs i s w low (loc.Is val.Nothing) (value_of_some (meant s goal.Nothing))
+  pub argument_nothing : LocalIs i s w low (loc.Is val.Nothing) (value_of_some (meant s goal.Nothing))
   unfolding meant value_of_some value_of
-  argument-nothing = is_there _ _ refl refl (is_nothing refl refl)
+  argument_nothing = is_there _ _ refl refl (is_nothing refl refl)
 
-  pub argument-missing : LocalIs i s w low loc.Missing (value_of_some (meant s goal.Missing))
+  pub argument_missing : LocalIs i s w low loc.Missing (value_of_some (meant s goal.Missing))
   unfolding meant value_of_some
-  argument-missing = is_missing refl refl
+  argument_missing = is_missing refl refl
 
 -- what a variable is, by the state's record of a term's arguments
 pub variable_outside : (args : List (Bytes × Value)) (i : Bytes) {w : World} {l : Locals} → LocalsAt w l → w.st.local ≡ false → variable_of args i l ≡ first_named i args
@@ -142,14 +142,14 @@ get_outside args i s e h = rw (e, h)
 
 module _ (args : List (Bytes × Value)) (name : Bytes) {B : Type 0} (f : Option Value → M B) where
   -- the same under an equation
-  then-as : {w u v : World} {L : Limits} (s : State) {k : Machine} (y : Out (Option Value)) → get_variable args name s ≡ y → Kept u v → Ended L w u y k → ((k' : Machine) → Live L u y.state k' → Ended L u v (f y.value y.state) k')
+  then_as : {w u v : World} {L : Limits} (s : State) {k : Machine} (y : Out (Option Value)) → get_variable args name s ≡ y → Kept u v → Ended L w u y k → ((k' : Machine) → Live L u y.state k' → Ended L u v (f y.value y.state) k')
       → Ended L w v ((get_variable args name >>= f) s) k
-  then-as {w} {u} {v} {L} s {k} y e kp h g =
+  then_as {w} {u} {v} {L} s {k} y e kp h g =
       ended_then (get_variable args name) f L s k (subst (λ (q : Out (Option Value)). Ended L w u q k) (sym e) h) kp
       (λ k' l' mv. subst (λ (q : Out (Option Value)). Live L u q.state k' → Ended L u v (f q.value q.state) k') (sym e) (g k') l')
 
-  pub run-found : {w v : World} {o : Value} → Kept w v → Runs (f (some o)) w v → (L : Limits) (s : State) (k : Machine) → Live L w s k → variable_of args name s.locals ≡ some o → Ended L w v ((get_variable args name >>= f) s) k
-  run-found {w = w} {o = o} kp h L s k l e = then-as s _ (get_found args name s s.locals o refl e) kp (ended_none L w s k (some o) l) (λ k' l'. h L s k' l')
+  pub run_found : {w v : World} {o : Value} → Kept w v → Runs (f (some o)) w v → (L : Limits) (s : State) (k : Machine) → Live L w s k → variable_of args name s.locals ≡ some o → Ended L w v ((get_variable args name >>= f) s) k
+  run_found {w = w} {o = o} kp h L s k l e = then_as s _ (get_found args name s s.locals o refl e) kp (ended_none L w s k (some o) l) (λ k' l'. h L s k' l')
 
   pub value_found : {o : Value} (s : State) → variable_of args name s.locals ≡ some o → ((get_variable args name >>= f) s).value ≡ (f (some o) s).value
   unfolding ◌>>=◌
@@ -157,32 +157,32 @@ module _ (args : List (Bytes × Value)) (name : Bytes) {B : Type 0} (f : Option 
 
   module _ (i x l w t : List ℕ) (st : Progress) {l' : List ℕ} {r : Progress} (ms : MissingAt l st name l' r) {v : World} (kp : Kept (world i x l' w t r) v) (small : length name ≤ 255) (h : Runs (f none) (world i x l' w t r) v) (L : Limits) (s : State) (k : Machine)
       (lv : Live L (world i x l w t st) s k) where
-    missing-inside : (ns : List (Bytes × Value)) → s.locals ≡ some ns → st.local ≡ true → first_named name ns ≡ none → Ended L (world i x l w t st) v ((get_variable args name >>= f) s) k
-    missing-inside ns e b n =
+    missing_inside : (ns : List (Bytes × Value)) → s.locals ≡ some ns → st.local ≡ true → first_named name ns ≡ none → Ended L (world i x l w t st) v ((get_variable args name >>= f) s) k
+    missing_inside ns e b n =
         let q = ms.inside b in
         let o : world i x l w t st ≡ world i x l' w t r = ap (λ (y : List ℕ). world i x y w t st) (sym q.1) ∙ ap (λ (y : Progress). world i x l' w t y) (sym q.0) in
-        then-as s _ (get_inside args name s ns e n) kp (subst (λ (y : World). Ended {A = Option Value} L (world i x l w t st) y (record { trace = []; text = []; kept = 0; state = s; value = none }) k) o (ended_none L (world i x l w t st) s k none lv)) (λ k' l''. h L s k' l'')
+        then_as s _ (get_inside args name s ns e n) kp (subst (λ (y : World). Ended {A = Option Value} L (world i x l w t st) y (record { trace = []; text = []; kept = 0; state = s; value = none }) k) o (ended_none L (world i x l w t st) s k none lv)) (λ k' l''. h L s k' l'')
 
-    missing-outside : s.locals ≡ none → st.local ≡ false → first_named name args ≡ none → Ended L (world i x l w t st) v ((get_variable args name >>= f) s) k
+    missing_outside : s.locals ≡ none → st.local ≡ false → first_named name args ≡ none → Ended L (world i x l w t st) v ((get_variable args name >>= f) s) k
     unfolding emit ◌>>◌ ◌>>=◌ ret
-    missing-outside e b n = then-as s _ (get_outside args name s e n) kp
+    missing_outside e b n = then_as s _ (get_outside args name s e n) kp
         (runs_then (ms.outside b small i x w t).runs (kept_same (world i x l' w t r)) (λ _. runs_ret none (world i x l' w t r)) L s k lv) (λ k' l''. h L s k' l'')
 
-    missing-by : (o : Locals) → s.locals ≡ o → LocalsAt (world i x l w t st) o → variable_of args name o ≡ none → Ended L (world i x l w t st) v ((get_variable args name >>= f) s) k
+    missing_by : (o : Locals) → s.locals ≡ o → LocalsAt (world i x l w t st) o → variable_of args name o ≡ none → Ended L (world i x l w t st) v ((get_variable args name >>= f) s) k
     unfolding variable_of
-    missing-by o eo (no_locals b n) e = missing-outside (eo ∙ n) b (sym (ap (variable_of args name) n) ∙ e)
-    missing-by o eo (some_locals ns g low b m n _ _) e = missing-inside _ (eo ∙ n) b (sym (ap (variable_of args name) n) ∙ e)
+    missing_by o eo (no_locals b n) e = missing_outside (eo ∙ n) b (sym (ap (variable_of args name) n) ∙ e)
+    missing_by o eo (some_locals ns g low b m n _ _) e = missing_inside _ (eo ∙ n) b (sym (ap (variable_of args name) n) ∙ e)
 
-    pub run-missing : variable_of args name s.locals ≡ none → Ended L (world i x l w t st) v ((get_variable args name >>= f) s) k
-    run-missing e = missing-by s.locals refl lv.locals e
+    pub run_missing : variable_of args name s.locals ≡ none → Ended L (world i x l w t st) v ((get_variable args name >>= f) s) k
+    run_missing e = missing_by s.locals refl lv.locals e
 
-  value-by : (s : State) (o : Locals) → s.locals ≡ o → variable_of args name o ≡ none → ((get_variable args name >>= f) s).value ≡ (f none s).value
+  value_by : (s : State) (o : Locals) → s.locals ≡ o → variable_of args name o ≡ none → ((get_variable args name >>= f) s).value ≡ (f none s).value
   unfolding ◌>>=◌ variable_of emit ◌>>◌ ret
-  value-by s none eo e = ap (λ (q : Out (Option Value)). (f q.value q.state).value) (get_outside args name s eo e)
-  value-by s (some ns) eo e = ap (λ (q : Out (Option Value)). (f q.value q.state).value) (get_inside args name s ns eo e)
+  value_by s none eo e = ap (λ (q : Out (Option Value)). (f q.value q.state).value) (get_outside args name s eo e)
+  value_by s (some ns) eo e = ap (λ (q : Out (Option Value)). (f q.value q.state).value) (get_inside args name s ns eo e)
 
-  pub value-missing : (s : State) → variable_of args name s.locals ≡ none → ((get_variable args name >>= f) s).value ≡ (f none s).value
-  value-missing s e = value-by s s.locals refl e
+  pub value_missing : (s : State) → variable_of args name s.locals ≡ none → ((get_variable args name >>= f) s).value ≡ (f none s).value
+  value_missing s e = value_by s s.locals refl e
 
 -- an answer of the search, by what it is
 pub argument_as : (i s w : List ℕ) (low : ℕ) {found g : Given} {r : CodeLocal.Local} → found ≡ g → (Within s g → Ranged (meant s g) → LocalIs i s w low r (value_of_some (meant s g))) → Within s found → Ranged (meant s found) → LocalIs i s w low r (value_of_some (meant s found))
@@ -232,72 +232,72 @@ part_small s a n h = let q = length-take n (drop a s) in omega arith
 -- a variable written
 module _ (s args places : List ℕ) (a b : ℕ) (x l w t : List ℕ) (st : Progress) where
   module _ {r : CodeLocal.Local} (fd : (u : Setup (env s (lent args places))) (L : Limits) (q : State) (k : Machine) → Live L (world s x l w t st) q k → LocalIs s args w st.back r (variable_of (values_of u.given) (part s a (b - a)) q.locals)) where
-    found-there : {C : Type 0} {c : CodeValue.Value} → r ≡ loc.Is c → {o : Option Value} → LocalIs s args w st.back r o → ((v : Value) → o ≡ some v → Holds s args w st.back c v → C) → C
-    found-there {c = c} e (is_there c' v p q h) k = let y : c' ≡ c = same (sym p ∙ e) in k v q (subst (λ (z : CodeValue.Value). Holds s args w st.back z v) y h)
+    found_there : {C : Type 0} {c : CodeValue.Value} → r ≡ loc.Is c → {o : Option Value} → LocalIs s args w st.back r o → ((v : Value) → o ≡ some v → Holds s args w st.back c v → C) → C
+    found_there {c = c} e (is_there c' v p q h) k = let y : c' ≡ c = same (sym p ∙ e) in k v q (subst (λ (z : CodeValue.Value). Holds s args w st.back z v) y h)
       where
         same : {m n : CodeValue.Value} → loc.Is m ≡ loc.Is n → m ≡ n
         same h = cc
-    found-there e (is_missing p q) k = let z : ◌≡◌ {A = ℕ} 0 1 = cc in absurd (omega arith)
+    found_there e (is_missing p q) k = let z : ◌≡◌ {A = ℕ} 0 1 = cc in absurd (omega arith)
 
     found_none : r ≡ loc.Missing → {o : Option Value} → LocalIs s args w st.back r o → o ≡ none
     found_none e (is_there c' v p q h) = let z : ◌≡◌ {A = ℕ} 0 1 = cc in absurd (omega arith)
     found_none e (is_missing p q) = q
 
-    write-found-part : {c : CodeValue.Value} {v : World} → r ≡ loc.Is c → Kept (world s x l w t st) v → ((y : Value) → Holds s args w st.back c y → Acts (write (value_text y)) (world s x l w t st) v) → VariableAt (env s (lent args places)) a b (world s x l w t st) v
+    write_found_part : {c : CodeValue.Value} {v : World} → r ≡ loc.Is c → Kept (world s x l w t st) v → ((y : Value) → Holds s args w st.back c y → Acts (write (value_text y)) (world s x l w t st) v) → VariableAt (env s (lent args places)) a b (world s x l w t st) v
     unfolding write_variable
-    write-found-part e kp h = record {
+    write_found_part e kp h = record {
       kept = kp;
-      runs = λ u p q n z L m k lv. found-there e (fd u L m k lv) (λ y ey hy. run-found (values_of u.given) (part s a (b - a)) (λ o. write_variable (part s a (b - a)) o) kp (h y hy).runs L m k lv ey);
+      runs = λ u p q n z L m k lv. found_there e (fd u L m k lv) (λ y ey hy. run_found (values_of u.given) (part s a (b - a)) (λ o. write_variable (part s a (b - a)) o) kp (h y hy).runs L m k lv ey);
     }
 
-    resolve-found-part : {c : CodeValue.Value} → r ≡ loc.Is c → VariableValueAt (env s (lent args places)) a b (world s x l w t st) (world s x l w t st) c
+    resolve_found_part : {c : CodeValue.Value} → r ≡ loc.Is c → VariableValueAt (env s (lent args places)) a b (world s x l w t st) (world s x l w t st) c
     unfolding or_wrong ret
-    resolve-found-part {c} e = record {
+    resolve_found_part {c} e = record {
       kept = kept_same _;
-      runs = λ u p q n z L m k lv. found-there e (fd u L m k lv) (λ y ey hy. run-found (values_of u.given) (part s a (b - a)) (λ o. or_wrong o) (kept_same _) (runs_ret y _) L m k lv ey);
-      holds = λ u p q n z L m k lv _. found-there e (fd u L m k lv) (λ y ey hy. subst (λ (o : Value). Holds s args w st.back c o) (sym (value_found (values_of u.given) (part s a (b - a)) (λ o. or_wrong o) m ey)) hy);
+      runs = λ u p q n z L m k lv. found_there e (fd u L m k lv) (λ y ey hy. run_found (values_of u.given) (part s a (b - a)) (λ o. or_wrong o) (kept_same _) (runs_ret y _) L m k lv ey);
+      holds = λ u p q n z L m k lv _. found_there e (fd u L m k lv) (λ y ey hy. subst (λ (o : Value). Holds s args w st.back c o) (sym (value_found (values_of u.given) (part s a (b - a)) (λ o. or_wrong o) m ey)) hy);
     }
 
     module _ {l' : List ℕ} {s₁ : Progress} (e : r ≡ loc.Missing) (ms : MissingAt l st (part s a (b - a)) l' s₁) where
-      write-missing-part : {v : World} → Acts (write (123 ∷ 36 ∷ part s a (b - a) ++ (125 ∷ []))) (world s x l' w t s₁) v → VariableAt (env s (lent args places)) a b (world s x l w t st) v
+      write_missing_part : {v : World} → Acts (write (123 ∷ 36 ∷ part s a (b - a) ++ (125 ∷ []))) (world s x l' w t s₁) v → VariableAt (env s (lent args places)) a b (world s x l w t st) v
       unfolding write_variable braced
-      write-missing-part h = record {
+      write_missing_part h = record {
         kept = kept_then (ms.kept s x w t) h.kept;
-        runs = λ u p q n z L m k lv. run-missing (values_of u.given) (part s a (b - a)) (λ o. write_variable (part s a (b - a)) o) s x l w t st ms h.kept (part_small s a (b - a) n) h.runs L m k lv (found_none e (fd u L m k lv));
+        runs = λ u p q n z L m k lv. run_missing (values_of u.given) (part s a (b - a)) (λ o. write_variable (part s a (b - a)) o) s x l w t st ms h.kept (part_small s a (b - a) n) h.runs L m k lv (found_none e (fd u L m k lv));
       }
 
-      resolve-missing-part : VariableValueAt (env s (lent args places)) a b (world s x l w t st) (world s x l' w t s₁) val.Wrong
+      resolve_missing_part : VariableValueAt (env s (lent args places)) a b (world s x l w t st) (world s x l' w t s₁) val.Wrong
       unfolding or_wrong ret
-      resolve-missing-part = record {
+      resolve_missing_part = record {
         kept = ms.kept s x w t;
-        runs = λ u p q n z L m k lv. run-missing (values_of u.given) (part s a (b - a)) (λ o. or_wrong o) s x l w t st ms (kept_same _) (part_small s a (b - a) n) (runs_ret wrong _) L m k lv (found_none e (fd u L m k lv));
-        holds = λ u p q n z L m k lv _. a_wrong refl (value-missing (values_of u.given) (part s a (b - a)) (λ o. or_wrong o) m (found_none e (fd u L m k lv)));
+        runs = λ u p q n z L m k lv. run_missing (values_of u.given) (part s a (b - a)) (λ o. or_wrong o) s x l w t st ms (kept_same _) (part_small s a (b - a) n) (runs_ret wrong _) L m k lv (found_none e (fd u L m k lv));
+        holds = λ u p q n z L m k lv _. a_wrong refl (value_missing (values_of u.given) (part s a (b - a)) (λ o. or_wrong o) m (found_none e (fd u L m k lv)));
       }
 
   -- a variable whose name is a part of the store, if it is one
   module _ {n : Bytes} (en : n ≡ between s a b) {r : CodeLocal.Local} (fd : (u : Setup (env s (lent args places))) (L : Limits) (q : State) (k : Machine) → Live L (world s x l w t st) q k → LocalIs s args w st.back r (variable_of (values_of u.given) n q.locals)) where
-    fd-at : a ≤ b → b ≤ length s → (u : Setup (env s (lent args places))) (L : Limits) (q : State) (k : Machine) → Live L (world s x l w t st) q k → LocalIs s args w st.back r (variable_of (values_of u.given) (part s a (b - a)) q.locals)
-    fd-at p q u L j k lv = subst (λ (m : Bytes). LocalIs s args w st.back r (variable_of (values_of u.given) m j.locals)) (en ∙ between_in s a b p q) (fd u L j k lv)
+    fd_at : a ≤ b → b ≤ length s → (u : Setup (env s (lent args places))) (L : Limits) (q : State) (k : Machine) → Live L (world s x l w t st) q k → LocalIs s args w st.back r (variable_of (values_of u.given) (part s a (b - a)) q.locals)
+    fd_at p q u L j k lv = subst (λ (m : Bytes). LocalIs s args w st.back r (variable_of (values_of u.given) m j.locals)) (en ∙ between_in s a b p q) (fd u L j k lv)
 
-    pub write-found : {c : CodeValue.Value} {v : World} → r ≡ loc.Is c → Kept (world s x l w t st) v → ((y : Value) → Holds s args w st.back c y → Acts (write (value_text y)) (world s x l w t st) v) → VariableAt (env s (lent args places)) a b (world s x l w t st) v
-    write-found e kp h = record { kept = kp; runs = λ u p q. (write-found-part (fd-at p q) e kp h).runs u p q }
+    pub write_found : {c : CodeValue.Value} {v : World} → r ≡ loc.Is c → Kept (world s x l w t st) v → ((y : Value) → Holds s args w st.back c y → Acts (write (value_text y)) (world s x l w t st) v) → VariableAt (env s (lent args places)) a b (world s x l w t st) v
+    write_found e kp h = record { kept = kp; runs = λ u p q. (write_found_part (fd_at p q) e kp h).runs u p q }
 
-    pub resolve-found : {c : CodeValue.Value} → r ≡ loc.Is c → VariableValueAt (env s (lent args places)) a b (world s x l w t st) (world s x l w t st) c
-    resolve-found e = record { kept = kept_same _; runs = λ u p q. (resolve-found-part (fd-at p q) e).runs u p q; holds = λ u p q. (resolve-found-part (fd-at p q) e).holds u p q }
+    pub resolve_found : {c : CodeValue.Value} → r ≡ loc.Is c → VariableValueAt (env s (lent args places)) a b (world s x l w t st) (world s x l w t st) c
+    resolve_found e = record { kept = kept_same _; runs = λ u p q. (resolve_found_part (fd_at p q) e).runs u p q; holds = λ u p q. (resolve_found_part (fd_at p q) e).holds u p q }
 
     module _ {l' : List ℕ} {s₁ : Progress} (e : r ≡ loc.Missing) (ms : MissingAt l st n l' s₁) where
-      ms-at : a ≤ b → b ≤ length s → MissingAt l st (part s a (b - a)) l' s₁
-      ms-at p q = subst (λ (m : Bytes). MissingAt l st m l' s₁) (en ∙ between_in s a b p q) ms
+      ms_at : a ≤ b → b ≤ length s → MissingAt l st (part s a (b - a)) l' s₁
+      ms_at p q = subst (λ (m : Bytes). MissingAt l st m l' s₁) (en ∙ between_in s a b p q) ms
 
-      pub write-missing : {v : World} → Acts (write (123 ∷ 36 ∷ n ++ (125 ∷ []))) (world s x l' w t s₁) v → VariableAt (env s (lent args places)) a b (world s x l w t st) v
-      write-missing {v} h = record {
+      pub write_missing : {v : World} → Acts (write (123 ∷ 36 ∷ n ++ (125 ∷ []))) (world s x l' w t s₁) v → VariableAt (env s (lent args places)) a b (world s x l w t st) v
+      write_missing {v} h = record {
         kept = kept_then (ms.kept s x w t) h.kept;
-        runs = λ u p q. (write-missing-part (fd-at p q) e (ms-at p q) (subst (λ (m : Bytes). Acts (write (123 ∷ 36 ∷ m ++ (125 ∷ []))) (world s x l' w t s₁) v) (en ∙ between_in s a b p q) h)).runs u p q;
+        runs = λ u p q. (write_missing_part (fd_at p q) e (ms_at p q) (subst (λ (m : Bytes). Acts (write (123 ∷ 36 ∷ m ++ (125 ∷ []))) (world s x l' w t s₁) v) (en ∙ between_in s a b p q) h)).runs u p q;
       }
 
-      pub resolve-missing : VariableValueAt (env s (lent args places)) a b (world s x l w t st) (world s x l' w t s₁) val.Wrong
-      resolve-missing = record {
+      pub resolve_missing : VariableValueAt (env s (lent args places)) a b (world s x l w t st) (world s x l' w t s₁) val.Wrong
+      resolve_missing = record {
         kept = ms.kept s x w t;
-        runs = λ u p q. (resolve-missing-part (fd-at p q) e (ms-at p q)).runs u p q;
-        holds = λ u p q. (resolve-missing-part (fd-at p q) e (ms-at p q)).holds u p q;
+        runs = λ u p q. (resolve_missing_part (fd_at p q) e (ms_at p q)).runs u p q;
+        holds = λ u p q. (resolve_missing_part (fd_at p q) e (ms_at p q)).holds u p q;
       }

@@ -64,11 +64,11 @@ result_missing e (is_no_function _ _ eo) = eo
 
 module _ (s args places : List ℕ) (a b : ℕ) {found : Bool} {c : CodeValue.Value} where
   -- where the name is no part of the store, nothing is asked but that what was begun and refused stays
-  result-in : {w v : World} → Kept w v → (a ≤ b → b ≤ length s → ResultAt (env s (lent args places)) a b found c w v) → ResultAt (env s (lent args places)) a b found c w v
-  result-in kp h = record { kept = kp; runs = λ o r p q. (h p q).runs o r p q }
+  result_in : {w v : World} → Kept w v → (a ≤ b → b ≤ length s → ResultAt (env s (lent args places)) a b found c w v) → ResultAt (env s (lent args places)) a b found c w v
+  result_in kp h = record { kept = kp; runs = λ o r p q. (h p q).runs o r p q }
 
-  wrong-part : {w v : World} → found ≡ true → c ≡ val.Wrong → Acts (write (part s a (b - a) ++ (40 ∷ 41 ∷ []))) w v → ResultAt (env s (lent args places)) a b found c w v
-  wrong-part f e h = record {
+  wrong_part : {w v : World} → found ≡ true → c ≡ val.Wrong → Acts (write (part s a (b - a) ++ (40 ∷ 41 ∷ []))) w v → ResultAt (env s (lent args places)) a b found c w v
+  wrong_part f e h = record {
     kept = h.kept;
     runs = λ o r p q n. result_there f r (λ y eo k. runs_as (ap (write_result (part s a (b - a))) (eo ∙ ap some (holds_wrong k e)) ∙ result_wrong_text (part s a (b - a))) h.runs);
   }
@@ -79,22 +79,22 @@ module _ (s args places : List ℕ) (a b : ℕ) {found : Bool} {c : CodeValue.Va
     runs = λ o r p q n. result_there f r (λ y eo k. runs_as (ap (write_result (part s a (b - a))) eo ∙ result_text (part s a (b - a)) y (holds_other k e)) (h y k).runs);
   }
 
-  none-part : {w u v : World} → found ≡ false → Kept w u → (length (part s a (b - a)) ≤ 255 → Acts (emit (report (reference Referred.function (part s a (b - a)) none))) w u) → Acts (write (123 ∷ part s a (b - a) ++ (40 ∷ 41 ∷ 125 ∷ []))) u v
+  none_part : {w u v : World} → found ≡ false → Kept w u → (length (part s a (b - a)) ≤ 255 → Acts (emit (report (reference Referred.function (part s a (b - a)) none))) w u) → Acts (write (123 ∷ part s a (b - a) ++ (40 ∷ 41 ∷ 125 ∷ []))) u v
       → ResultAt (env s (lent args places)) a b found c w v
-  none-part f kp h g = record {
+  none_part f kp h g = record {
     kept = kept_then kp g.kept;
     runs = λ o r p q n. runs_as (ap (write_result (part s a (b - a))) (result_missing f r) ∙ result_none_text (part s a (b - a))) (acts_then (h (part_small s a (b - a) n)) g).runs;
   }
 
   module _ {n : Bytes} (en : n ≡ between s a b) where
-    pub result-wrong : {w v : World} → found ≡ true → c ≡ val.Wrong → Acts (write (n ++ (40 ∷ 41 ∷ []))) w v → ResultAt (env s (lent args places)) a b found c w v
-    result-wrong {w} {v} f e h = result-in h.kept (λ p q. wrong-part f e (subst (λ (m : Bytes). Acts (write (m ++ (40 ∷ 41 ∷ []))) w v) (en ∙ between_in s a b p q) h))
+    pub result_wrong : {w v : World} → found ≡ true → c ≡ val.Wrong → Acts (write (n ++ (40 ∷ 41 ∷ []))) w v → ResultAt (env s (lent args places)) a b found c w v
+    result_wrong {w} {v} f e h = result_in h.kept (λ p q. wrong_part f e (subst (λ (m : Bytes). Acts (write (m ++ (40 ∷ 41 ∷ []))) w v) (en ∙ between_in s a b p q) h))
 
     pub result_none : {w u v : World} → found ≡ false → Kept w u → (length n ≤ 255 → Acts (emit (report (reference Referred.function n none))) w u) → Acts (write (123 ∷ n ++ (40 ∷ 41 ∷ 125 ∷ []))) u v
         → ResultAt (env s (lent args places)) a b found c w v
-    result_none {w} {u} {v} f kp h g = result-in (kept_then kp g.kept) (λ p q.
+    result_none {w} {u} {v} f kp h g = result_in (kept_then kp g.kept) (λ p q.
         let e = en ∙ between_in s a b p q in
-        none-part f kp (subst (λ (m : Bytes). length m ≤ 255 → Acts (emit (report (reference Referred.function m none))) w u) e h) (subst (λ (m : Bytes). Acts (write (123 ∷ m ++ (40 ∷ 41 ∷ 125 ∷ []))) u v) e g))
+        none_part f kp (subst (λ (m : Bytes). length m ≤ 255 → Acts (emit (report (reference Referred.function m none))) w u) e h) (subst (λ (m : Bytes). Acts (write (123 ∷ m ++ (40 ∷ 41 ∷ 125 ∷ []))) u v) e g))
 
 -- what holds of a value that was told holds of where it was told from
 pub result_held : {e : Env} {a b : ℕ} {found : Bool} {c d : CodeValue.Value} {w v : World} → c ≡ d → ResultAt e a b found c w v → ResultAt e a b found d w v

@@ -9,7 +9,7 @@ use Rattle.records.specs.Got.{got}
 use Rattle.records.specs.Bytes.{part}
 use Rattle.records.specs.Tree.{Literal, Named, Expression, Inline, and, Arguments}
 use Rattle.records.specs.Decode.{many, id_at, optional_at, named_at, expression, inline}
-use Rattle.records.specs.Errors.{Referred, reference, tooManyPlaceables}
+use Rattle.records.specs.Errors.{Referred, reference, too_many_placeables}
 use Rattle.records.specs.Optional.{option_of}
 use Rattle.state.specs.Progress.{Progress}
 use Rattle.values.specs.declared.Value as CodeValue
@@ -75,7 +75,7 @@ pub record CutAt (i : List ℕ) (at : ℕ) (x w : List ℕ) (st : Progress) (x' 
 
 -- the 101st placeable
 pub record TooMany (l : List ℕ) (st : Progress) (l' : List ℕ) (r : Progress) : Type 0 where
-  pub acts : (i x w t : List ℕ) → Acts (emit (report tooManyPlaceables)) (world i x l w t (begun_s 101 true st)) (world i x l' w t r)
+  pub acts : (i x w t : List ℕ) → Acts (emit (report too_many_placeables)) (world i x l w t (begun_s 101 true st)) (world i x l' w t r)
 
 -- what NUMBER sees of the first positional value: a number, or something else
 pub data FirstIs (c : CodeValue.Value) : List Value → Type 0 where

@@ -4,14 +4,14 @@ use Rattle.std.proofs.Math.Option.{Option}
 use Rattle.numbers.specs.Value.{Value}
 use Rattle.records.specs.Got.{got}
 use Rattle.records.specs.Bytes.{byte_at, number_at}
-use Rattle.records.specs.Tree.{Named, Pattern, Elements, Element, Expression, Inline, Inlines, no-inline, and, Arguments, or}
-use Rattle.records.specs.Decode.{id_at, elementAt, elementsAt, patternAt, entry_pattern_at, inlinesAt, arguments_at, selectAt, expression, inline}
+use Rattle.records.specs.Tree.{Named, Pattern, Elements, Element, Expression, Inline, Inlines, no_inline, and, Arguments, or}
+use Rattle.records.specs.Decode.{id_at, element_at, elements_at, pattern_at, entry_pattern_at, inlines_at, arguments_at, select_at, expression, inline}
 use Rattle.records.specs.Errors.{reference}
 use Rattle.entries.specs.Lookup.{Find}
 use Rattle.heads.specs.Tags.{text_tag}
 use Rattle.values.specs.declared.Value as CodeValue
 use Rattle.resolution.specs.Effect.{Bytes, State, M, Done, ret, ◌>>=◌, capture, release}
-use Rattle.resolution.specs.Resolve.{Setting, Trail, error_text, held, track, look_up, as_term, termFound, writeMessage, writeTerm, call_function, writePattern, writeElements, writeElement, writeExpression, writeInline, resolveInline, termArguments, getArguments}
+use Rattle.resolution.specs.Resolve.{Setting, Trail, error_text, held, track, look_up, as_term, term_found, write_message, write_term, call_function, write_pattern, write_elements, write_element, write_expression, write_inline, resolve_inline, term_arguments, get_arguments}
 use Rattle.resolution.specs.Exec.{Machine, Limits, refused}
 use Rattle.resolver.specs.Relations.Meets.{World, Live, Runs, Kept, Holds, Env, Setup, setting_of, find_of, cross_of, trail_of}
 use Rattle.resolver.specs.Relations.Leaves.{FirstIs, ResultIs}
@@ -26,42 +26,42 @@ pub record Here (e : Env) (w : World) (g n : ℕ) (t : Trail) : Type 0 where
 -- what the members of the cycle ensure
 pub record PatternAt (e : Env) (left at : ℕ) (w v : World) : Type 0 where
   pub kept : Kept w v
-  pub runs : (u : Setup e) (p : Pattern) (f : ℕ) → patternAt (expression left) e.store at ≡ got p f
-      → (n : ℕ) (t : Trail) → Here e w 1 n t → Runs (writePattern (setting_of e u) (find_of e u) (cross_of e u n) t p) w v
+  pub runs : (u : Setup e) (p : Pattern) (f : ℕ) → pattern_at (expression left) e.store at ≡ got p f
+      → (n : ℕ) (t : Trail) → Here e w 1 n t → Runs (write_pattern (setting_of e u) (find_of e u) (cross_of e u n) t p) w v
 
 pub record ElementsAt (e : Env) (left : ℕ) (iso : Bool) (k at : ℕ) (w v : World) : Type 0 where
   pub kept : Kept w v
-  pub runs : (u : Setup e) (es : Elements) (f : ℕ) → elementsAt (expression left) k e.store at ≡ got es f
-      → (n : ℕ) (t : Trail) → Here e w 1 n t → Runs (writeElements (setting_of e u) (find_of e u) (cross_of e u n) t es iso) w v
+  pub runs : (u : Setup e) (es : Elements) (f : ℕ) → elements_at (expression left) k e.store at ≡ got es f
+      → (n : ℕ) (t : Trail) → Here e w 1 n t → Runs (write_elements (setting_of e u) (find_of e u) (cross_of e u n) t es iso) w v
 
 pub record ElementAt (e : Env) (left : ℕ) (iso : Bool) (at : ℕ) (w v : World) : Type 0 where
   pub kept : Kept w v
-  pub runs : (u : Setup e) (x : Element) (f : ℕ) → elementAt (expression left) e.store at ≡ got x f
-      → (n : ℕ) (t : Trail) → Here e w 1 n t → Runs (writeElement (setting_of e u) (find_of e u) (cross_of e u n) t x iso) w v
+  pub runs : (u : Setup e) (x : Element) (f : ℕ) → element_at (expression left) e.store at ≡ got x f
+      → (n : ℕ) (t : Trail) → Here e w 1 n t → Runs (write_element (setting_of e u) (find_of e u) (cross_of e u n) t x iso) w v
 
 pub record ExpressionAt (e : Env) (left at : ℕ) (w v : World) : Type 0 where
   pub kept : Kept w v
   pub runs : (u : Setup e) (x : Expression) (f : ℕ) → expression left e.store at ≡ got x f
-      → (n : ℕ) (t : Trail) → Here e w 0 n t → Runs (writeExpression (setting_of e u) (find_of e u) (cross_of e u n) t x) w v
+      → (n : ℕ) (t : Trail) → Here e w 0 n t → Runs (write_expression (setting_of e u) (find_of e u) (cross_of e u n) t x) w v
 
 pub record InlineAt (e : Env) (left at : ℕ) (w v : World) : Type 0 where
   pub kept : Kept w v
   pub runs : (u : Setup e) (x : Inline) (f : ℕ) → inline left e.store at ≡ got x f
-      → (n : ℕ) (t : Trail) → Here e w 0 n t → Runs (writeInline (setting_of e u) (find_of e u) (cross_of e u n) t x) w v
+      → (n : ℕ) (t : Trail) → Here e w 0 n t → Runs (write_inline (setting_of e u) (find_of e u) (cross_of e u n) t x) w v
 
 pub record ValueAt (e : Env) (left at : ℕ) (w v : World) (x : CodeValue.Value) : Type 0 where
   pub kept : Kept w v
   pub runs : (u : Setup e) (y : Inline) (f : ℕ) → inline left e.store at ≡ got y f
-      → (n : ℕ) (t : Trail) → Here e w 0 n t → Runs (resolveInline (setting_of e u) (find_of e u) (cross_of e u n) t y) w v
+      → (n : ℕ) (t : Trail) → Here e w 0 n t → Runs (resolve_inline (setting_of e u) (find_of e u) (cross_of e u n) t y) w v
   pub holds : (u : Setup e) (y : Inline) (f : ℕ) → inline left e.store at ≡ got y f
       → (n : ℕ) (t : Trail) → Here e w 0 n t → (L : Limits) (s : State) (k : Machine) → Live L w s k → v.st.refused ≡ 0
-      → Holds e.store e.given.args v.work v.st.back x (resolveInline (setting_of e u) (find_of e u) (cross_of e u n) t y s).value
+      → Holds e.store e.given.args v.work v.st.back x (resolve_inline (setting_of e u) (find_of e u) (cross_of e u n) t y s).value
 
 -- a select, past its tag, whose parts nest at most `left` deep
 pub record SelectAt (e : Env) (left at : ℕ) (w v : World) : Type 0 where
   pub kept : Kept w v
-  pub runs : (u : Setup e) (x : Expression) (f : ℕ) → selectAt (expression left) (inline left) e.store at ≡ got x f
-      → (n : ℕ) (t : Trail) → Here e w 0 n t → Runs (writeExpression (setting_of e u) (find_of e u) (cross_of e u n) t x) w v
+  pub runs : (u : Setup e) (x : Expression) (f : ℕ) → select_at (expression left) (inline left) e.store at ≡ got x f
+      → (n : ℕ) (t : Trail) → Here e w 0 n t → Runs (write_expression (setting_of e u) (find_of e u) (cross_of e u n) t x) w v
 
 -- `track`: the pattern at q, for the reference at `at`
 pub record TrackAt (e : Env) (at q : ℕ) (w v : World) : Type 0 where
@@ -73,33 +73,33 @@ pub record TrackAt (e : Env) (at q : ℕ) (w v : World) : Type 0 where
 pub record MessageAt (e : Env) (at : ℕ) (w v : World) : Type 0 where
   pub kept : Kept w v
   pub runs : (u : Setup e) (d : ℕ) (i : Bytes) (a : Option Bytes) (f : ℕ) → inline d e.store at ≡ got (Inline.message i a) f
-      → (n : ℕ) (t : Trail) → Here e w 0 n t → Runs (writeMessage (cross_of e u n) t (find_of e u) i a) w v
+      → (n : ℕ) (t : Trail) → Here e w 0 n t → Runs (write_message (cross_of e u n) t (find_of e u) i a) w v
 
 -- the term that the reference at `at` names, its arguments known
 pub record FoundTermAt (e : Env) (at : ℕ) (w v : World) : Type 0 where
   pub kept : Kept w v
   pub runs : (u : Setup e) (d : ℕ) (i : Bytes) (a : Option Bytes) (r : Arguments) (f : ℕ) → inline d e.store at ≡ got (Inline.term i a r) f
-      → (n : ℕ) (t : Trail) → Here e w 0 n t → Runs (look_up (find_of e u) i >>= λ o. termFound (cross_of e u n) t i a (as_term o)) w v
+      → (n : ℕ) (t : Trail) → Here e w 0 n t → Runs (look_up (find_of e u) i >>= λ o. term_found (cross_of e u n) t i a (as_term o)) w v
 
 -- a term reference at `at`, whose arguments nest at most `left` deep
 pub record TermAt (e : Env) (left at : ℕ) (w v : World) : Type 0 where
   pub kept : Kept w v
   pub runs : (u : Setup e) (i : Bytes) (a : Option Bytes) (r : Arguments) (f : ℕ) → inline (suc left) e.store at ≡ got (Inline.term i a r) f
       → (n : ℕ) (t : Trail) → Here e w 0 n t
-      → Runs (release (termArguments (setting_of e u) (find_of e u) (cross_of e u n) t r >>= λ g. writeTerm (cross_of e u n) t (find_of e u) i a g.named)) w v
+      → Runs (release (term_arguments (setting_of e u) (find_of e u) (cross_of e u n) t r >>= λ g. write_term (cross_of e u n) t (find_of e u) i a g.named)) w v
 
 -- the values of positional arguments, one after the other
 unfoldable pub positional_values : Setting → Find → (Pattern → Trail → M Done) → Trail → Inlines → M (List Value)
-positional_values st find cross trail no-inline = ret []
-positional_values st find cross trail (and x xs) = resolveInline st find cross trail x >>= λ v. (positional_values st find cross trail xs >>= λ vs. ret (v ∷ vs))
+positional_values st find cross trail no_inline = ret []
+positional_values st find cross trail (and x xs) = resolve_inline st find cross trail x >>= λ v. (positional_values st find cross trail xs >>= λ vs. ret (v ∷ vs))
 
 -- the positional arguments at `at`: their count, then each
 pub record PositionalAt (e : Env) (left at : ℕ) (w v : World) (first : CodeValue.Value) (end : ℕ) : Type 0 where
   pub kept : Kept w v
-  pub runs : (u : Setup e) (k c : ℕ) (xs : Inlines) (f : ℕ) → number_at 2 e.store at ≡ got k c → inlinesAt (inline left) k e.store c ≡ got xs f
+  pub runs : (u : Setup e) (k c : ℕ) (xs : Inlines) (f : ℕ) → number_at 2 e.store at ≡ got k c → inlines_at (inline left) k e.store c ≡ got xs f
       → (n : ℕ) (t : Trail) → Here e w 0 n t → Runs (positional_values (setting_of e u) (find_of e u) (cross_of e u n) t xs) w v
-  pub ends : (k c : ℕ) (xs : Inlines) (f : ℕ) → number_at 2 e.store at ≡ got k c → inlinesAt (inline left) k e.store c ≡ got xs f → end ≡ f
-  pub first_is : (u : Setup e) (k c : ℕ) (xs : Inlines) (f : ℕ) → number_at 2 e.store at ≡ got k c → inlinesAt (inline left) k e.store c ≡ got xs f
+  pub ends : (k c : ℕ) (xs : Inlines) (f : ℕ) → number_at 2 e.store at ≡ got k c → inlines_at (inline left) k e.store c ≡ got xs f → end ≡ f
+  pub first_is : (u : Setup e) (k c : ℕ) (xs : Inlines) (f : ℕ) → number_at 2 e.store at ≡ got k c → inlines_at (inline left) k e.store c ≡ got xs f
       → (n : ℕ) (t : Trail) → Here e w 0 n t → (L : Limits) (s : State) (m : Machine) → Live L w s m → v.st.refused ≡ 0
       → FirstIs first (positional_values (setting_of e u) (find_of e u) (cross_of e u n) t xs s).value
 
@@ -112,20 +112,20 @@ pub record CalledAt (e : Env) (left at : ℕ) (w v : World) (found : Bool) (c : 
   pub kept : Kept w v
   pub runs : (u : Setup e) (i : Bytes) (p : ℕ) (xs : Inlines) (ns : Named) (f : ℕ) → id_at e.store at ≡ got i p → arguments_at (inline left) e.store p ≡ got (xs, ns) f
       → (n : ℕ) (t : Trail) → Here e w 0 n t
-      → Runs (release (getArguments (setting_of e u) (find_of e u) (cross_of e u n) t xs ns >>= λ g. call_function (find_of e u) i g)) w v
+      → Runs (release (get_arguments (setting_of e u) (find_of e u) (cross_of e u n) t xs ns >>= λ g. call_function (find_of e u) i g)) w v
   pub result : (u : Setup e) (i : Bytes) (p : ℕ) (xs : Inlines) (ns : Named) (f : ℕ) → id_at e.store at ≡ got i p → arguments_at (inline left) e.store p ≡ got (xs, ns) f
       → (n : ℕ) (t : Trail) → Here e w 0 n t → (L : Limits) (s : State) (m : Machine) → Live L w s m → v.st.refused ≡ 0
       → ResultIs e.store e.given.args v.work v.st.back found c
-      (release (getArguments (setting_of e u) (find_of e u) (cross_of e u n) t xs ns >>= λ g. call_function (find_of e u) i g) s).value
+      (release (get_arguments (setting_of e u) (find_of e u) (cross_of e u n) t xs ns >>= λ g. call_function (find_of e u) i g) s).value
 
 -- a message, a term or an inline placeable as a text of its own
 pub record TextValueAt (e : Env) (left at : ℕ) (w v : World) (x : CodeValue.Value) : Type 0 where
   pub kept : Kept w v
   pub runs : (u : Setup e) (y : Inline) (f : ℕ) → inline left e.store at ≡ got y f
-      → (n : ℕ) (t : Trail) → Here e w 0 n t → Runs (held (capture (writeInline (setting_of e u) (find_of e u) (cross_of e u n) t y))) w v
+      → (n : ℕ) (t : Trail) → Here e w 0 n t → Runs (held (capture (write_inline (setting_of e u) (find_of e u) (cross_of e u n) t y))) w v
   pub holds : (u : Setup e) (y : Inline) (f : ℕ) → inline left e.store at ≡ got y f
       → (n : ℕ) (t : Trail) → Here e w 0 n t → (L : Limits) (s : State) (k : Machine) → Live L w s k → v.st.refused ≡ 0
-      → Holds e.store e.given.args v.work v.st.back x (held (capture (writeInline (setting_of e u) (find_of e u) (cross_of e u n) t y)) s).value
+      → Holds e.store e.given.args v.work v.st.back x (held (capture (write_inline (setting_of e u) (find_of e u) (cross_of e u n) t y)) s).value
 
 -- the same, where its tag is known, and that it is one of these
 abbrev pub TextAt : Env → ℕ → ℕ → ℕ → ℕ → World → World → CodeValue.Value → Type 0

@@ -15,7 +15,7 @@ use Rattle.entries.specs.Outline.{Location, part_in, locate}
 use Rattle.resolution.specs.Effect.{Bytes}
 use Rattle.resolution.specs.Resolve.{as_message}
 use Rattle.resolution.specs.Exec.{Machine, Ran, ran, refused, exec}
-use Rattle.resolution.specs.Format.{Answer, finished, refusedBefore, refusedRunning, Buffers, Formatted, limits_of, zeros, refuse, format_arguments, format}
+use Rattle.resolution.specs.Format.{Answer, finished, refused_before, refused_running, Buffers, Formatted, limits_of, zeros, refuse, format_arguments, format}
 use Rattle.theorems.specs.Finished.{trace_of}
 use Rattle.state.specs.Progress.{Progress}
 use Rattle.resolver.specs.Relations.Meets.{Env, Setup, setting_of, find_of}
@@ -26,8 +26,8 @@ use Rattle.resolver.specs.declared.format.Part.TheVariants as PartAnswer
 -- the same with a count of lookups unfound that stops at 2^64 - 1, as the code counts; no store reaches that
 unfoldable pub stopped_of : Answer → Answer
 stopped_of (finished t e b u w) = finished t e b (min u max_unfound) w
-stopped_of (refusedBefore n) = refusedBefore n
-stopped_of (refusedRunning n) = refusedRunning n
+stopped_of (refused_before n) = refused_before n
+stopped_of (refused_running n) = refused_running n
 
 unfoldable pub stopped : Formatted → Formatted
 stopped f = record { answer = stopped_of f.answer; buffers = f.buffers }
@@ -101,7 +101,7 @@ pub record RunOn (e : Env) (q : ℕ) (x l w : Bytes) (p : Progress) (x' l' w' : 
 -- what is answered, and what the buffers hold in the end: the list gets its header, or all three are cleared
 unfoldable pub closed_if : Bool → Progress → ℕ → Buffers → Formatted
 closed_if true p n b = record { answer = finished p.text_at p.errors n p.unfound p.high; buffers = record { text = b.text; list = headed b.list p.list_at; work = zeros b.work } }
-closed_if false p n b = record { answer = refusedRunning (p.refused % 256); buffers = record { text = zeros b.text; list = zeros b.list; work = zeros b.work } }
+closed_if false p n b = record { answer = refused_running (p.refused % 256); buffers = record { text = zeros b.text; list = zeros b.list; work = zeros b.work } }
 
 unfoldable pub closed : Progress → ℕ → Buffers → Formatted
 closed p n b = closed_if (eqb p.refused 0) p n b

@@ -1,9 +1,9 @@
 -- `sheet_format::run_messages` meets its contract: the messages that were passed led to a machine at rest, from which those that are left give what the whole sheet gives.
 use Rattle.layout.proofs.Stands.{octets_of}
 use Rattle.records.proofs.Views.{num_is, num_none}
-use Rattle.requests.proofs.Shown.{asked-inside, asked-never, asked-shows}
+use Rattle.requests.proofs.Shown.{asked_inside, asked_never, asked_shows}
 use Rattle.requests.proofs.Views.{sheet_parts}
-use Rattle.sheet_format.proofs.Passing.{begun-few, next, passed-again, passed_start, sheet-ended, sheet-refused}
+use Rattle.sheet_format.proofs.Passing.{begun_few, next, passed_again, passed_start, sheet_ended, sheet_refused}
 use Rattle.sheet_format.specs.Relations.Sheets.{Passed}
 use Rattle.state.specs.Progress.{progress_of}
 use borrow.Author.Rules.{rules}
@@ -61,10 +61,10 @@ same_length_3 c =
 returns_2 : tie.Need-returns-2 invariant-loop decreases-loop
 returns_2 c =
     let asked = next c.before.before.before.before.loop.invariant c.before.before.before.loop-test.true in
-    asked-never _ _ c.before.before.read-request.ensures c.enum-told2.given.1 asked.reads
+    asked_never _ _ c.before.before.read-request.ensures c.enum-told2.given.1 asked.reads
 
 run-message-requires : tie.Need-run-message-requires invariant-loop decreases-loop
-run-message-requires c κs = asked-inside _ _ c.before.before.before.before.before.before.before.read-request.ensures c.before.before.before.before.before.q.given.1
+run-message-requires c κs = asked_inside _ _ c.before.before.before.before.before.before.before.read-request.ensures c.before.before.before.before.before.q.given.1
 
 element-copy-out-refused : tie.Need-element-copy-out-refused invariant-loop decreases-loop
 element-copy-out-refused c = search rules
@@ -88,13 +88,13 @@ returns_3 : tie.Need-returns-3 invariant-loop decreases-loop
 returns_3 c =
     let passed = c.before.before.before.before.before.before.before.before.before.before.before.before.before.before.before.before.before.before.loop.invariant in
     let asked = next c.before.before.before.before.before.before.before.before.before.before.before.before.before.before.before.before.before.before.loop.invariant c.before.before.before.before.before.before.before.before.before.before.before.before.before.before.before.before.before.loop-test.true in
-    sheet-refused passed c.before.before.before.before.before.before.before.before.before.before.before.before.before.before.before.before.before.loop-test.true (asked-shows _ _ c.before.before.before.before.before.before.before.before.before.before.before.before.before.before.before.before.read-request.ensures c.before.before.before.before.before.before.before.before.before.before.before.before.before.before.q.given.1 asked.reads).1 c.before.before.before.before.before.before.before.before.run-message.ensures c.if1.true
+    sheet_refused passed c.before.before.before.before.before.before.before.before.before.before.before.before.before.before.before.before.before.loop-test.true (asked_shows _ _ c.before.before.before.before.before.before.before.before.before.before.before.before.before.before.before.before.read-request.ensures c.before.before.before.before.before.before.before.before.before.before.before.before.before.before.q.given.1 asked.reads).1 c.before.before.before.before.before.before.before.before.run-message.ensures c.if1.true
 
 add-begun : tie.Need-overflow-add-begun invariant-loop decreases-loop
 add-begun c =
     let passed = c.before.before.before.before.before.before.before.before.before.before.before.before.before.before.before.before.before.before.loop.invariant in
     let asked = next c.before.before.before.before.before.before.before.before.before.before.before.before.before.before.before.before.before.before.loop.invariant c.before.before.before.before.before.before.before.before.before.before.before.before.before.before.before.before.before.loop-test.true in
-    omega (arith, begun-few passed c.before.before.before.before.before.before.before.before.before.before.before.before.before.before.before.before.before.loop-test.true (asked-shows _ _ c.before.before.before.before.before.before.before.before.before.before.before.before.before.before.before.before.read-request.ensures c.before.before.before.before.before.before.before.before.before.before.before.before.before.before.q.given.1 asked.reads).1 c.before.before.before.before.before.before.before.before.run-message.ensures c.if1.false)
+    omega (arith, begun_few passed c.before.before.before.before.before.before.before.before.before.before.before.before.before.before.before.before.before.loop-test.true (asked_shows _ _ c.before.before.before.before.before.before.before.before.before.before.before.before.before.before.before.before.read-request.ensures c.before.before.before.before.before.before.before.before.before.before.before.before.before.before.q.given.1 asked.reads).1 c.before.before.before.before.before.before.before.before.run-message.ensures c.if1.false)
 
 sub_left : tie.Need-overflow-sub-left invariant-loop decreases-loop
 sub_left c = search rules
@@ -106,7 +106,7 @@ loop_again : tie.Need-loop-preserved invariant-loop decreases-loop
 loop_again c =
     let passed = c.before.before.before.before.before.before.before.before.before.before.before.before.before.before.before.before.before.before.loop.invariant in
     let asked = next c.before.before.before.before.before.before.before.before.before.before.before.before.before.before.before.before.before.before.loop.invariant c.before.before.before.before.before.before.before.before.before.before.before.before.before.before.before.before.before.loop-test.true in
-    passed-again passed c.before.before.before.before.before.before.before.before.before.before.before.before.before.before.before.before.before.loop-test.true (asked-shows _ _ c.before.before.before.before.before.before.before.before.before.before.before.before.before.before.before.before.read-request.ensures c.before.before.before.before.before.before.before.before.before.before.before.before.before.before.q.given.1 asked.reads).1 c.before.before.before.before.before.before.before.before.run-message.ensures c.if1.false c.before.before.before.before.before.before.before.before.run-message.auto.1.1.0 c.before.before.before.before.before.before.before.before.run-message.auto.1.1.1.0 c.before.before.before.before.before.before.before.before.run-message.auto.1.1.1.1.0 (asked-shows _ _ c.before.before.before.before.before.before.before.before.before.before.before.before.before.before.before.before.read-request.ensures c.before.before.before.before.before.before.before.before.before.before.before.before.before.before.q.given.1 asked.reads).0
+    passed_again passed c.before.before.before.before.before.before.before.before.before.before.before.before.before.before.before.before.before.loop-test.true (asked_shows _ _ c.before.before.before.before.before.before.before.before.before.before.before.before.before.before.before.before.read-request.ensures c.before.before.before.before.before.before.before.before.before.before.before.before.before.before.q.given.1 asked.reads).1 c.before.before.before.before.before.before.before.before.run-message.ensures c.if1.false c.before.before.before.before.before.before.before.before.run-message.auto.1.1.0 c.before.before.before.before.before.before.before.before.run-message.auto.1.1.1.0 c.before.before.before.before.before.before.before.before.run-message.auto.1.1.1.1.0 (asked_shows _ _ c.before.before.before.before.before.before.before.before.before.before.before.before.before.before.before.before.read-request.ensures c.before.before.before.before.before.before.before.before.before.before.before.before.before.before.q.given.1 asked.reads).0
 
 same_length_7 : tie.Need-same-length-7 invariant-loop decreases-loop
 same_length_7 c =
@@ -126,7 +126,7 @@ same_length_9 c =
 returns_4 : tie.Need-returns-4 invariant-loop decreases-loop
 returns_4 c =
     let passed = c.before.loop.invariant in
-    sheet-ended passed (omega (arith, c.loop-test.false))
+    sheet_ended passed (omega (arith, c.loop-test.false))
 
 pub run-messages-spec : {M : Type 1} → statement M
 run-messages-spec = tie.close (tie.spec invariant-loop decreases-loop read_u16_requires enum-known-count enum_told returns loop_holds read-request-requires enum_known_q enum_told_2 same_length same_length_2 same_length_3 returns_2 run-message-requires element-copy-out-refused same_length_4 same_length_5 same_length_6 returns_3 add-begun sub_left loop_less loop_again same_length_7 same_length_8 same_length_9 returns_4)

@@ -26,9 +26,9 @@ referred_of referred.Function = errors.Referred.function
 referred_of referred.Variable = errors.Referred.variable
 
 unfoldable pub plain_of : Plain → Error
-plain_of plain.MissingDefault = Error.missingDefault
+plain_of plain.MissingDefault = Error.missing_default
 plain_of plain.Cyclic = Error.cyclic
-plain_of plain.TooManyPlaceables = Error.tooManyPlaceables
+plain_of plain.TooManyPlaceables = Error.too_many_placeables
 
 -- Is there room in a list of `size` bytes, at a position, for a record of n bytes, its length among them? A record's length is a u16 that counts
 -- the rest, and the list's a u32: a record of more than 65,537 bytes cannot be written, and none that ends past 4,294,967,295.

@@ -1,7 +1,7 @@
 -- Whether the pattern is among those left of the trail is whether it is among all.
 use Prim.Native.Nat.{◌≤◌, min, ℕ}
 use Rattle.resolution.specs.Resolve.{on_trail}
-use Rattle.trail.proofs.Trail.{trail-here, trail-next, trail-none}
+use Rattle.trail.proofs.Trail.{trail_here, trail_next, trail_none}
 use Rattle.trail.specs.Relations.Trail.{pattern_bytes, trail_of}
 use borrow.Author.Rules.{rules}
 use mathlib.Core.Path.{◌∙◌, ◌≡◌, ap, sym}
@@ -34,16 +34,16 @@ same-pattern-requires : tie.Need-same-pattern-requires invariant-loop decreases-
 same-pattern-requires c κs = search rules
 
 returns : tie.Need-returns invariant-loop decreases-loop
-returns c = sym (c.before.before.before.before.loop.invariant.1 ∙ trail-here _ _ _ _ c.before.before.before.loop-test.true (sym c.before.same-pattern.ensures ∙ c.if1.true))
+returns c = sym (c.before.before.before.before.loop.invariant.1 ∙ trail_here _ _ _ _ c.before.before.before.loop-test.true (sym c.before.same-pattern.ensures ∙ c.if1.true))
 
 loop_less : tie.Need-loop-smaller invariant-loop decreases-loop
 loop_less c = omega arith
 
 loop_again : tie.Need-loop-preserved invariant-loop decreases-loop
-loop_again c = (omega (arith, c.before.before.before.before.loop.invariant.0), c.before.before.before.before.loop.invariant.1 ∙ trail-next _ _ _ _ c.before.before.before.loop-test.true (sym c.before.same-pattern.ensures ∙ c.if1.false))
+loop_again c = (omega (arith, c.before.before.before.before.loop.invariant.0), c.before.before.before.before.loop.invariant.1 ∙ trail_next _ _ _ _ c.before.before.before.loop-test.true (sym c.before.same-pattern.ensures ∙ c.if1.false))
 
 returns_2 : tie.Need-returns-2 invariant-loop decreases-loop
-returns_2 c = sym (c.before.loop.invariant.1 ∙ trail-none _ _ _ _ c.loop-test.false)
+returns_2 c = sym (c.before.loop.invariant.1 ∙ trail_none _ _ _ _ c.loop-test.false)
 
 pub on-trail-spec : {M : Type 1} → statement M
 on-trail-spec = tie.close (tie.spec invariant-loop decreases-loop listed-requires loop_holds sub_i mul-same-pattern element-copy-out-same-pattern same-pattern-requires returns loop_less loop_again returns_2)

@@ -1,6 +1,6 @@
 -- `trail::same_pattern` meets its contract: between a position and the end that belongs to it stand the bytes of the pattern; where there is no end
 -- there are none.
-use Rattle.trail.proofs.Trail.{bytes-none, end_is, end_none, some-none}
+use Rattle.trail.proofs.Trail.{bytes_none, end_is, end_none, some_none}
 use borrow.Author.Rules.{rules}
 use native.Mathlib.Omega.{arith}
 use Rattle.trail.proofs.same_pattern.Statement.{statement}
@@ -19,7 +19,7 @@ has-none-requires : tie.Need-has-none-requires
 has-none-requires c κs = search rules
 
 returns : tie.Need-returns
-returns c = rw (bytes-none _ _ (end_none _ _ c.before.before.before.pattern-end.ensures c.before.enum_told.given.1)) c.has-none.ensures
+returns c = rw (bytes_none _ _ (end_none _ _ c.before.before.before.pattern-end.ensures c.before.enum_told.given.1)) c.has-none.ensures
 
 pattern-end-requires-2 : tie.Need-pattern-end-requires-2
 pattern-end-requires-2 c κs = search rules
@@ -31,7 +31,7 @@ enum_told_2 : tie.Need-enum-told-2
 enum_told_2 c = search rules
 
 returns_2 : tie.Need-returns-2
-returns_2 c = rw (bytes-none _ _ (end_none _ _ c.before.before.pattern-end2.ensures c.enum-told2.given.1)) (some-none _ _ c.before.before.before.before.before.before.pattern-end.ensures c.before.before.before.before.e.given.1)
+returns_2 c = rw (bytes_none _ _ (end_none _ _ c.before.before.pattern-end2.ensures c.enum-told2.given.1)) (some_none _ _ c.before.before.before.before.before.before.pattern-end.ensures c.before.before.before.before.e.given.1)
 
 sub-same-bytes : tie.Need-overflow-sub-same-bytes
 sub-same-bytes c = let h = end_is _ _ c.before.before.before.before.before.before.before.pattern-end.ensures c.before.before.before.before.before.e.given.1 in let a = h.0 in let b = h.1 in omega arith

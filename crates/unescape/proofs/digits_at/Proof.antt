@@ -1,6 +1,6 @@
 -- `unescape::digits_at` meets its contract: the digits that are left, after those that wrote v, give the same as all; k digits write a number below 16^k.
 use Prim.Native.Nat.{◌-◌, ◌<◌, ◌^◌, ◌≤◌}
-use Rattle.unescape.proofs.Reading.{digits_bound, digits-done, digits_none, digits-not, digits-short, digits_turn}
+use Rattle.unescape.proofs.Reading.{digits_bound, digits_done, digits_none, digits_not, digits_short, digits_turn}
 use Rattle.unescape.specs.Unescape.{digits_of}
 use Rattle.scalars.proofs.Scalars.{value_below}
 use borrow.Author.Rules.{rules}
@@ -20,7 +20,7 @@ loop_holds : tie.Need-loop-init invariant-loop decreases-loop
 loop_holds c = (c.before.requires.0, omega arith, digits_none _, refl)
 
 returns : tie.Need-returns invariant-loop decreases-loop
-returns c = sym (digits-short _ _ _ _ c.if1.true c.before.loop-test.true) ∙ c.before.before.loop.invariant.3
+returns c = sym (digits_short _ _ _ _ c.if1.true c.before.loop-test.true) ∙ c.before.before.loop.invariant.3
 
 shared-slice-read-b : tie.Need-shared-slice-read-b invariant-loop decreases-loop
 shared-slice-read-b c = search rules
@@ -42,7 +42,7 @@ add-v c =
     omega arith
 
 returns_2 : tie.Need-returns-2 invariant-loop decreases-loop
-returns_2 c = sym (digits-not _ _ _ _ c.before.before.before.if1.false c.before.before.before.before.loop-test.true (sym c.before.is-hex.ensures ∙ c.if2.false)) ∙ c.before.before.before.before.before.loop.invariant.3
+returns_2 c = sym (digits_not _ _ _ _ c.before.before.before.if1.false c.before.before.before.before.loop-test.true (sym c.before.is-hex.ensures ∙ c.if2.false)) ∙ c.before.before.before.before.before.loop.invariant.3
 
 add-i : tie.Need-overflow-add-i invariant-loop decreases-loop
 add-i c = search rules
@@ -60,7 +60,7 @@ loop_again c =
     (omega arith, omega arith, below.0, digits_turn _ _ _ _ c.before.before.before.before.if1.false c.before.before.before.before.before.loop-test.true is c.hex-value.ensures c.before.before.before.before.before.before.loop.invariant.3)
 
 returns_3 : tie.Need-returns-3 invariant-loop decreases-loop
-returns_3 c = sym (digits-done c.before.before.before.args.s.now c.before.loop.i c.before.loop.v c.before.loop.left c.loop-test.false) ∙ c.before.loop.invariant.3
+returns_3 c = sym (digits_done c.before.before.before.args.s.now c.before.loop.i c.before.loop.v c.before.loop.left c.loop-test.false) ∙ c.before.loop.invariant.3
 
 pub digits-at-spec : {M : Type 1} → statement M
 digits-at-spec = tie.close (tie.spec invariant-loop decreases-loop loop_holds returns shared-slice-read-b is-hex-requires mul-v hex-value-requires add-v returns_2 add-i sub_left loop_less loop_again returns_3)

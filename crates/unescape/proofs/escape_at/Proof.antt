@@ -1,5 +1,5 @@
 -- `unescape::escape_at` meets its contract: the branches are those of `escape_of`.
-use Rattle.unescape.proofs.Reading.{escape-byte, escape_end}
+use Rattle.unescape.proofs.Reading.{escape_byte, escape_end}
 use Rattle.unescape.specs.Unescape.{escape_of}
 use borrow.Author.Rules.{rules}
 use borrow.Author.Tests.{eq-eqb, ne_eqb}
@@ -15,13 +15,13 @@ shared-slice-read-c c = search rules
 returns_2 : tie.Need-returns-2
 unfolding escape_of
 returns_2 c =
-    let byte = escape-byte c.before.before.before.before.args.s.now c.before.before.before.before.args.at c.before.before.if1.false in
+    let byte = escape_byte c.before.before.before.before.args.s.now c.before.before.before.before.args.at c.before.before.if1.false in
     rw (byte, eq-eqb _ _ c.if2.true)
 
 returns_3 : tie.Need-returns-3
 unfolding escape_of
 returns_3 c =
-    let byte = escape-byte c.before.before.before.before.before.args.s.now c.before.before.before.before.before.args.at c.before.before.before.if1.false in
+    let byte = escape_byte c.before.before.before.before.before.args.s.now c.before.before.before.before.before.args.at c.before.before.before.if1.false in
     rw (byte, ne_eqb _ _ c.before.if2.false, eq-eqb _ _ c.if3.true)
 
 add-scalar-at : tie.Need-overflow-add-scalar-at
@@ -33,7 +33,7 @@ scalar-at-requires c κs = search rules
 returns_4 : tie.Need-returns-4
 unfolding escape_of
 returns_4 c =
-    let byte = escape-byte c.before.before.before.before.before.before.before.args.s.now c.before.before.before.before.before.before.before.args.at c.before.before.before.before.before.if1.false in
+    let byte = escape_byte c.before.before.before.before.before.before.before.args.s.now c.before.before.before.before.before.before.before.args.at c.before.before.before.before.before.if1.false in
     rw (byte, ne_eqb _ _ c.before.before.before.if2.false, ne_eqb _ _ c.before.before.if3.false, eq-eqb _ _ c.before.if4.true) c.scalar-at.ensures
 
 add-scalar-at-2 : tie.Need-overflow-add-scalar-at-2
@@ -45,13 +45,13 @@ scalar-at-requires-2 c κs = search rules
 returns_5 : tie.Need-returns-5
 unfolding escape_of
 returns_5 c =
-    let byte = escape-byte c.before.before.before.before.before.before.before.before.args.s.now c.before.before.before.before.before.before.before.before.args.at c.before.before.before.before.before.before.if1.false in
+    let byte = escape_byte c.before.before.before.before.before.before.before.before.args.s.now c.before.before.before.before.before.before.before.before.args.at c.before.before.before.before.before.before.if1.false in
     rw (byte, ne_eqb _ _ c.before.before.before.before.if2.false, ne_eqb _ _ c.before.before.before.if3.false, ne_eqb _ _ c.before.before.if4.false, eq-eqb _ _ c.before.if5.true) c.scalar-at2.ensures
 
 returns_6 : tie.Need-returns-6
 unfolding escape_of
 returns_6 c =
-    let byte = escape-byte c.before.before.before.before.before.before.before.args.s.now c.before.before.before.before.before.before.before.args.at c.before.before.before.before.before.if1.false in
+    let byte = escape_byte c.before.before.before.before.before.before.before.args.s.now c.before.before.before.before.before.before.before.args.at c.before.before.before.before.before.if1.false in
     rw (byte, ne_eqb _ _ c.before.before.before.if2.false, ne_eqb _ _ c.before.before.if3.false, ne_eqb _ _ c.before.if4.false, ne_eqb _ _ c.if5.false)
 
 pub escape-at-spec : {M : Type 1} → statement M

@@ -1,5 +1,5 @@
 -- `unescape::unescape_into` meets its contract: the room first, then the bytes.
-use Rattle.buffers.proofs.Place.{appended-fits, appended-full}
+use Rattle.buffers.proofs.Place.{appended_fits, appended_full}
 use borrow.Author.Rules.{rules}
 use borrow.Author.Tests.{leb-false, leb-true}
 use mathlib.Core.Path.{◌∙◌, sym}
@@ -16,10 +16,10 @@ same_length : tie.Need-same-length
 same_length c = search rules
 
 returns : tie.Need-returns
-returns c = appended-fits _ _ _ (leb-true _ _ (sym c.before.before.before.before.before.has_room.ensures ∙ c.before.before.before.before.if1.true)) c.before.before.unescape-to.ensures.0 c.before.before.unescape-to.ensures.1
+returns c = appended_fits _ _ _ (leb-true _ _ (sym c.before.before.before.before.before.has_room.ensures ∙ c.before.before.before.before.if1.true)) c.before.before.unescape-to.ensures.0 c.before.before.unescape-to.ensures.1
 
 returns_2 : tie.Need-returns-2
-returns_2 c = appended-full _ _ _ (leb-false _ _ (sym c.before.has_room.ensures ∙ c.if1.false))
+returns_2 c = appended_full _ _ _ (leb-false _ _ (sym c.before.has_room.ensures ∙ c.if1.false))
 
 pub unescape-into-spec : {M : Type 1} → statement M
 unescape-into-spec = tie.close (tie.spec has-room-requires unescape-to-requires same_length returns returns_2)

@@ -1,6 +1,6 @@
 -- `unescape::unescape_to` meets its contract: piece by piece, what is read stands behind what was read before.
 use Prim.Native.Nat.{◌-◌}
-use Rattle.unescape.proofs.Reading.{Written, sized_at_law, written-end, written_none, written-room, written-turn}
+use Rattle.unescape.proofs.Reading.{Written, sized_at_law, written_end, written_none, written_room, written_turn}
 use borrow.Author.Rules.{rules}
 use lib.ListN.{length}
 use native.Mathlib.Omega.{arith}
@@ -21,7 +21,7 @@ piece-at-requires c κs = search rules
 
 write-piece-requires : tie.Need-write-piece-requires invariant-loop decreases-loop
 write-piece-requires c κs =
-    let room = written-room _ _ _ c.before.before.before.before.before.before.requires c.before.before.before.loop.invariant c.before.before.loop-test.true c.before.piece-at.ensures in
+    let room = written_room _ _ _ c.before.before.before.before.before.before.requires c.before.before.before.loop.invariant c.before.before.loop-test.true c.before.piece-at.ensures in
     room
 
 piece-len-requires : tie.Need-piece-len-requires invariant-loop decreases-loop
@@ -29,7 +29,7 @@ piece-len-requires c κs = search rules
 
 add-j : tie.Need-overflow-add-j invariant-loop decreases-loop
 add-j c =
-    let room = written-room _ _ _ c.before.before.before.before.before.before.before.before.before.before.requires c.before.before.before.before.before.before.before.loop.invariant c.before.before.before.before.before.before.loop-test.true c.before.before.before.before.before.piece-at.ensures in
+    let room = written_room _ _ _ c.before.before.before.before.before.before.before.before.before.before.requires c.before.before.before.before.before.before.before.loop.invariant c.before.before.before.before.before.before.loop-test.true c.before.before.before.before.before.piece-at.ensures in
     let l = c.piece-len.ensures in let z = c.before.before.before.before.before.before.before.loop.invariant.size in omega arith
 
 piece-more-requires : tie.Need-piece-more-requires invariant-loop decreases-loop
@@ -52,14 +52,14 @@ loop_less c =
 
 loop_again : tie.Need-loop-preserved invariant-loop decreases-loop
 loop_again c =
-    let turn = written-turn _ _ _ c.before.before.before.before.before.before.before.before.before.before.before.requires c.before.before.before.before.before.before.before.before.loop.invariant c.before.before.before.before.before.before.before.loop-test.true c.before.before.before.before.before.before.piece-at.ensures c.before.before.before.before.write-piece.ensures c.before.piece-len.ensures c.piece-more.ensures in
+    let turn = written_turn _ _ _ c.before.before.before.before.before.before.before.before.before.before.before.requires c.before.before.before.before.before.before.before.before.loop.invariant c.before.before.before.before.before.before.before.loop-test.true c.before.before.before.before.before.before.piece-at.ensures c.before.before.before.before.write-piece.ensures c.before.piece-len.ensures c.piece-more.ensures in
     turn
 
 same_length : tie.Need-same-length invariant-loop decreases-loop
 same_length c = c.before.loop.invariant.size
 
 returns : tie.Need-returns invariant-loop decreases-loop
-returns c = written-end _ _ _ c.before.before.before.before.requires c.before.loop.invariant c.loop-test.false
+returns c = written_end _ _ _ c.before.before.before.before.requires c.before.loop.invariant c.loop-test.false
 
 pub unescape-to-spec : {M : Type 1} → statement M
 unescape-to-spec = tie.close (tie.spec invariant-loop decreases-loop loop_holds piece-at-requires write-piece-requires piece-len-requires add-j piece-more-requires add-i add-i-2 loop_less loop_again same_length returns)

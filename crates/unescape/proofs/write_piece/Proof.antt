@@ -1,5 +1,5 @@
 -- `unescape::write_piece` meets its contract: a byte, or a scalar.
-use Rattle.buffers.proofs.Place.{set-over}
+use Rattle.buffers.proofs.Place.{set_over}
 use Rattle.unescape.proofs.Reading.{byte_reads, byte_room, scalar_reads, scalar_room}
 use Rattle.buffers.specs.Relations.Append.{over}
 use borrow.Author.Rules.{rules}
@@ -27,7 +27,7 @@ same_length : tie.Need-same-length
 same_length c = search rules
 
 returns : tie.Need-returns
-returns c = set-over _ _ _ (byte_room _ _ c.before.p.given.1 c.before.before.before.before.requires) ∙ ap (over _ _) (byte_reads c.before.p.given.1)
+returns c = set_over _ _ _ (byte_room _ _ c.before.p.given.1 c.before.before.before.before.requires) ∙ ap (over _ _) (byte_reads c.before.p.given.1)
 
 same_length_2 : tie.Need-same-length-2
 same_length_2 c = search rules

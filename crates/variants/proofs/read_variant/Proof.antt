@@ -1,6 +1,6 @@
 -- `variants::read_variant` meets its contract: part after part, as the outline is read.
 use Rattle.records.proofs.Views.{next_is, next_none, num_is, num_none}
-use Rattle.variants.proofs.Firsts.{no_flag, no_key, no_kind, no-pattern-end, whole-read}
+use Rattle.variants.proofs.Firsts.{no_flag, no_key, no_kind, no_pattern_end, whole_read}
 use borrow.Author.Rules.{rules}
 use Rattle.variants.proofs.read_variant.Statement.{statement}
 use Rattle.variants.proofs.read_variant.Tie as tie
@@ -60,14 +60,14 @@ returns_4 c =
     let kind_at = num_is c.before.before.before.before.before.before.before.before.before.before.before.before.before.before.read_byte.ensures c.before.before.before.before.before.before.before.before.before.before.before.before.kind.given.1 in
     let key-at = num_is c.before.before.before.before.before.before.before.before.before.before.read-str.ensures c.before.before.before.before.before.before.before.before.from.given.1 in
     let flag_at = num_is c.before.before.before.before.before.before.read-byte2.ensures c.before.before.before.before.flag.given.1 in
-    no-pattern-end _ _ kind_at key-at flag_at (next_none c.before.before.skip-pattern.ensures c.enum-told4.given.1)
+    no_pattern_end _ _ kind_at key-at flag_at (next_none c.before.before.skip-pattern.ensures c.enum-told4.given.1)
 
 returns_5 : tie.Need-returns-5
 returns_5 c =
     let kind_at = num_is c.before.before.before.before.before.before.before.before.before.before.before.before.before.before.before.read_byte.ensures c.before.before.before.before.before.before.before.before.before.before.before.before.before.kind.given.1 in
     let key-at = num_is c.before.before.before.before.before.before.before.before.before.before.before.read-str.ensures c.before.before.before.before.before.before.before.before.before.from.given.1 in
     let flag_at = num_is c.before.before.before.before.before.before.before.read-byte2.ensures c.before.before.before.before.before.flag.given.1 in
-    next_is c.before.before.before.skip-pattern.ensures c.before.end.given.1 (λ bs h. whole-read _ _ kind_at key-at flag_at h)
+    next_is c.before.before.before.skip-pattern.ensures c.before.end.given.1 (λ bs h. whole_read _ _ kind_at key-at flag_at h)
 
 pub read-variant-spec : {M : Type 1} → statement M
 read-variant-spec = tie.close (tie.spec read_byte_requires enum-known-kind enum_told returns read_str_requires enum_known_from enum_told_2 returns_2 read-byte-requires-2 enum_known_flag enum_told_3 returns_3 skip-pattern-requires enum-known-end enum_told_4 returns_4 returns_5)

@@ -1,5 +1,5 @@
 -- `workspace::highest` meets its contract: the use so far where there is no use now, else the greater of the two.
-use Rattle.workspace.proofs.Laws.{beyond, crossed, higher-now, lower-now}
+use Rattle.workspace.proofs.Laws.{beyond, crossed, higher_now, lower_now}
 use mathlib.Core.Path.{sym}
 use native.Mathlib.Omega.{arith}
 use Rattle.workspace.proofs.highest.Goals as goal
@@ -11,7 +11,7 @@ pub returns-then-len-back : goal.returns-then-len-back
 returns-then-len-back c = sym (beyond _ _ _ _ (omega (arith, c.if-len-back.true)))
 
 pub returns-then-high-used : goal.returns-then-high-used
-returns-then-high-used c = higher-now _ _ _ _ (omega (arith, c.if-back-front.false)) (omega (arith, c.if-len-back.false)) (omega (arith, c.if-high-used.true))
+returns-then-high-used c = higher_now _ _ _ _ (omega (arith, c.if-back-front.false)) (omega (arith, c.if-len-back.false)) (omega (arith, c.if-high-used.true))
 
 pub returns : goal.returns
-returns c = lower-now _ _ _ _ (omega (arith, c.if-back-front.false)) (omega (arith, c.if-len-back.false)) (omega (arith, c.if-high-used.false))
+returns c = lower_now _ _ _ _ (omega (arith, c.if-back-front.false)) (omega (arith, c.if-len-back.false)) (omega (arith, c.if-high-used.false))

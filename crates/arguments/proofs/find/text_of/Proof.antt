@@ -1,5 +1,5 @@
 -- The part where there is one, and else nothing.
-use Rattle.arguments.proofs.Laws.{between-after, between_in, between-past}
+use Rattle.arguments.proofs.Laws.{between_after, between_in, between_past}
 use borrow.Author.Rules.{rules}
 use mathlib.Core.Path.{sym}
 use Rattle.arguments.proofs.find.text_of.Statement.{statement}
@@ -15,7 +15,7 @@ part-result-end : tie.Need-slice-bounds-result-end
 part-result-end c = search rules
 
 returns : tie.Need-returns
-returns c = sym (between-past c.before.before.args.args.now c.before.before.args.a c.before.before.args.e c.before.if1.true)
+returns c = sym (between_past c.before.before.args.args.now c.before.before.args.a c.before.before.args.e c.before.if1.true)
 
 sub-result-2 : tie.Need-overflow-sub-result-2
 sub-result-2 c = search rules
@@ -27,7 +27,7 @@ part-result-end-2 : tie.Need-slice-bounds-result-end-2
 part-result-end-2 c = search rules
 
 returns_2 : tie.Need-returns-2
-returns_2 c = sym (between-after c.before.before.before.args.args.now c.before.before.before.args.a c.before.before.before.args.e c.before.if2.true)
+returns_2 c = sym (between_after c.before.before.before.args.args.now c.before.before.before.args.a c.before.before.before.args.e c.before.if2.true)
 
 part-result-start-3 : tie.Need-slice-bounds-result-start-3
 part-result-start-3 c = search rules

@@ -1,5 +1,5 @@
 -- `arguments::image::check_run` meets its contract: what is left of the run ends as the whole does.
-use Rattle.arguments.proofs.Running.{run_end, run-stop, run-turn}
+use Rattle.arguments.proofs.Running.{run_end, run_stop, run_turn}
 use Rattle.arguments.specs.Relations.Checked.{run_from}
 use borrow.Author.Rules.{rules}
 use mathlib.Core.Path.{◌≡◌, refl}
@@ -25,7 +25,7 @@ enum_told : tie.Need-enum-told invariant-loop decreases-loop
 enum_told c = search rules
 
 returns : tie.Need-returns invariant-loop decreases-loop
-returns c = run-stop _ _ _ _ _ c.before.before.before.before.loop.invariant c.before.before.before.loop-test.true c.before.before.check-argument.ensures c.enum_told.given.1
+returns c = run_stop _ _ _ _ _ c.before.before.before.before.loop.invariant c.before.before.before.loop-test.true c.before.before.check-argument.ensures c.enum_told.given.1
 
 still-requires : tie.Need-still-requires invariant-loop decreases-loop
 still-requires c κs = search rules
@@ -37,7 +37,7 @@ loop_less : tie.Need-loop-smaller invariant-loop decreases-loop
 loop_less c = search rules
 
 loop_again : tie.Need-loop-preserved invariant-loop decreases-loop
-loop_again c = run-turn _ _ _ _ _ c.before.before.before.before.before.before.loop.invariant c.before.before.before.before.before.loop-test.true c.before.before.before.before.check-argument.ensures c.before.before.e.given.1 c.still.ensures
+loop_again c = run_turn _ _ _ _ _ c.before.before.before.before.before.before.loop.invariant c.before.before.before.before.before.loop-test.true c.before.before.before.before.check-argument.ensures c.before.before.e.given.1 c.still.ensures
 
 returns_2 : tie.Need-returns-2 invariant-loop decreases-loop
 returns_2 c = run_end _ _ _ _ _ c.before.loop.invariant c.loop-test.false

@@ -1,5 +1,5 @@
 -- `bundle::bundle::add_resource` meets its contract: a refusal by its number, or the list of the repeated entries and the item at its place.
-use Rattle.bundle.proofs.Adds.{plain-filed, plain_no_place, plain_short}
+use Rattle.bundle.proofs.Adds.{plain_filed, plain_no_place, plain_short}
 use borrow.Author.Rules.{rules}
 use Rattle.bundle.proofs.bundle.add_resource.Statement.{statement}
 use Rattle.bundle.proofs.bundle.add_resource.Tie as tie
@@ -50,7 +50,7 @@ same_length_5 : tie.Need-same-length-5
 same_length_5 c = search rules
 
 returns_3 : tie.Need-returns-3
-returns_3 c = plain-filed _ _ _ _ c.before.before.before.before.before.before.before.before.before.before.before.before.before.before.before.before.before.before.resource-place.ensures c.before.before.before.before.before.before.before.before.before.before.before.before.before.before.before.before.used.given.1 c.before.before.before.before.before.before.before.before.before.before.before.before.mark-image.ensures c.before.before.before.before.before.before.before.before.before.list-repeats.ensures c.before.before.before.before.before.n2.given.1 c.before.before.file-resource.ensures
+returns_3 c = plain_filed _ _ _ _ c.before.before.before.before.before.before.before.before.before.before.before.before.before.before.before.before.before.before.resource-place.ensures c.before.before.before.before.before.before.before.before.before.before.before.before.before.before.before.before.used.given.1 c.before.before.before.before.before.before.before.before.before.before.before.before.mark-image.ensures c.before.before.before.before.before.before.before.before.before.list-repeats.ensures c.before.before.before.before.before.n2.given.1 c.before.before.file-resource.ensures
 
 pub add-resource-spec : {M : Type 1} → statement M
 add-resource-spec = tie.close (tie.spec resource-place-requires enum_known_n enum-known-used mark-image-requires list-repeats-requires enum-known-n-2 enum_told same_length same_length_2 returns file-resource-requires same_length_3 returns_2 same_length_4 same_length_5 returns_3)

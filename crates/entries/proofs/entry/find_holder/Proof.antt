@@ -1,5 +1,5 @@
 -- `entries::entry::find_holder` meets its contract: the items stand behind their count.
-use Rattle.entries.proofs.Held.{locate-bad, locate-start, none_found}
+use Rattle.entries.proofs.Held.{locate_bad, locate_start, none_found}
 use Rattle.entries.specs.Relations.Meets.{found_of}
 use borrow.Author.Rules.{rules}
 use mathlib.Core.Path.{◌∙◌, ap, sym}
@@ -19,10 +19,10 @@ enum_told : tie.Need-enum-told
 enum_told c = search rules
 
 returns : tie.Need-returns
-returns c = c.find-in-items.ensures ∙ ap found_of (sym (locate-start _ _ c.before.before.before.before.read-u16.ensures c.before.before.count.given.1))
+returns c = c.find-in-items.ensures ∙ ap found_of (sym (locate_start _ _ c.before.before.before.before.read-u16.ensures c.before.before.count.given.1))
 
 returns_2 : tie.Need-returns-2
-returns_2 c = none_found (locate-bad _ _ c.before.before.read-u16.ensures c.enum_told.given.1)
+returns_2 c = none_found (locate_bad _ _ c.before.before.read-u16.ensures c.enum_told.given.1)
 
 pub find-holder-spec : {M : Type 1} → statement M
 find-holder-spec = tie.close (tie.spec read_u16_requires enum-known-count find-in-items-requires enum_told returns returns_2)

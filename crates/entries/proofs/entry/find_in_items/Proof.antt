@@ -1,5 +1,5 @@
 -- `entries::entry::find_in_items` meets its contract. The loop's invariant: what the items that are left make of what was found so far is what all make of nothing.
-use Rattle.entries.proofs.Held.{HeldFrom, from_next, from_none, from_start, from-stuck, unchanged}
+use Rattle.entries.proofs.Held.{HeldFrom, from_next, from_none, from_start, from_stuck, unchanged}
 use borrow.Author.Rules.{rules}
 use mathlib.Core.Logic.{⊎_elim}
 use mathlib.Core.Path.{◌∙◌, ◌≡◌, refl}
@@ -31,7 +31,7 @@ enum_told : tie.Need-enum-told invariant-loop decreases-loop
 enum_told c = search rules
 
 returns : tie.Need-returns invariant-loop decreases-loop
-returns c = from_start _ _ _ _ (c.before.before.before.before.before.before.loop.invariant ∙ from-stuck _ _ _ _ _ c.before.before.before.before.before.loop-test.true (⊎_elim (λ w. w.2 ∙ w.1.ensures) (λ w. w.1 ∙ unchanged _ _ _ _ c.before.before.before.before.can-change.ensures w.0.left) c.before.before.before.if1.branch) c.before.before.skip-item.ensures c.enum_told.given.1)
+returns c = from_start _ _ _ _ (c.before.before.before.before.before.before.loop.invariant ∙ from_stuck _ _ _ _ _ c.before.before.before.before.before.loop-test.true (⊎_elim (λ w. w.2 ∙ w.1.ensures) (λ w. w.1 ∙ unchanged _ _ _ _ c.before.before.before.before.can-change.ensures w.0.left) c.before.before.before.if1.branch) c.before.before.skip-item.ensures c.enum_told.given.1)
 
 sub_left : tie.Need-overflow-sub-left invariant-loop decreases-loop
 sub_left c = search rules

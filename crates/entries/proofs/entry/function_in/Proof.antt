@@ -1,5 +1,5 @@
 -- `entries::entry::function_in` meets its contract: the record's Id stands behind its length, version and code.
-use Rattle.entries.proofs.Headers.{function-bad, function-here, function-other}
+use Rattle.entries.proofs.Headers.{function_bad, function_here, function_other}
 use Rattle.entries.proofs.Held.{none_found}
 use Rattle.entries.proofs.Walk.{behind_in}
 use Rattle.entries.specs.Relations.Meets.{found_of}
@@ -19,7 +19,7 @@ enum_told : tie.Need-enum-told
 enum_told c = search rules
 
 returns : tie.Need-returns
-returns c = none_found (function-bad _ _ _ c.before.before.read-str-behind.ensures c.enum_told.given.1)
+returns c = none_found (function_bad _ _ _ c.before.before.read-str-behind.ensures c.enum_told.given.1)
 
 sub-same-bytes : tie.Need-overflow-sub-same-bytes
 sub-same-bytes c =
@@ -41,10 +41,10 @@ same-bytes-requires c κs = search rules
 
 returns_2 : tie.Need-returns-2
 unfolding found_of
-returns_2 c = ap found_of (sym (function-here _ _ _ c.before.before.before.before.before.before.read-str-behind.ensures _ _ c.before.before.before.before.a.given.1 (sym c.before.same_bytes.ensures ∙ c.if1.true)))
+returns_2 c = ap found_of (sym (function_here _ _ _ c.before.before.before.before.before.before.read-str-behind.ensures _ _ c.before.before.before.before.a.given.1 (sym c.before.same_bytes.ensures ∙ c.if1.true)))
 
 returns_3 : tie.Need-returns-3
-returns_3 c = none_found (function-other _ _ _ c.before.before.before.before.before.before.read-str-behind.ensures _ _ c.before.before.before.before.a.given.1 (sym c.before.same_bytes.ensures ∙ c.if1.false))
+returns_3 c = none_found (function_other _ _ _ c.before.before.before.before.before.before.read-str-behind.ensures _ _ c.before.before.before.before.a.given.1 (sym c.before.same_bytes.ensures ∙ c.if1.false))
 
 pub function-in-spec : {M : Type 1} → statement M
 function-in-spec = tie.close (tie.spec read-str-behind-requires enum_known_a enum_told returns sub-same-bytes part-same-bytes-start part-same-bytes-end same-bytes-requires returns_2 returns_3)

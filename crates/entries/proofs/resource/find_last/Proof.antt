@@ -1,10 +1,10 @@
 -- `entries::resource::find_last` meets its contract. The loop's invariant: what the entries that are left make of the last one so far is what all make of none.
-use Rattle.entries.proofs.Headers.{entry-rest}
+use Rattle.entries.proofs.Headers.{entry_rest}
 use Rattle.entries.proofs.Held.{last_found, later_held}
-use Rattle.entries.proofs.Walk.{LastOf, behind_in, entry_head_law, entry_no_head, last-bad, last-next, last_none, last-stuck}
+use Rattle.entries.proofs.Walk.{LastOf, behind_in, entry_head_law, entry_no_head, last_bad, last_next, last_none, last_stuck}
 use Rattle.entries.specs.Outline.{entry_head, entry_outline}
 use Rattle.entries.specs.Relations.Meets.{held_by}
-use Rattle.records.proofs.Laws.{next-step, next-stop}
+use Rattle.records.proofs.Laws.{next_step, next_stop}
 use borrow.Author.Rules.{rules}
 use mathlib.Core.Path.{◌∙◌, ◌≡◌, ap, refl}
 use native.Mathlib.Omega.{arith}
@@ -30,7 +30,7 @@ enum_told : tie.Need-enum-told invariant-loop decreases-loop
 enum_told c = search rules
 
 returns : tie.Need-returns invariant-loop decreases-loop
-returns c = last_found _ (c.before.before.before.before.loop.invariant ∙ last-bad entry_head entry_outline _ _ _ _ _ (entry_no_head _ _ c.before.before.read-str-behind.ensures c.enum_told.given.1))
+returns c = last_found _ (c.before.before.before.before.loop.invariant ∙ last_bad entry_head entry_outline _ _ _ _ _ (entry_no_head _ _ c.before.before.read-str-behind.ensures c.enum_told.given.1))
 
 sub-same-id : tie.Need-overflow-sub-same-id invariant-loop decreases-loop
 sub-same-id c =
@@ -63,7 +63,7 @@ enum_told_2 : tie.Need-enum-told-2 invariant-loop decreases-loop
 enum_told_2 c = search rules
 
 returns_2 : tie.Need-returns-2 invariant-loop decreases-loop
-returns_2 c = last_found _ (c.before.before.before.before.before.before.before.before.before.before.before.loop.invariant ∙ last-stuck entry_head entry_outline _ _ _ _ _ c.before.before.before.before.before.before.before.before.before.before.loop-test.true (entry_head_law _ _ c.before.before.before.before.before.before.before.before.before.read-str-behind.ensures c.before.before.before.before.before.before.before.a.given.1) (entry-rest _ _ c.before.before.before.before.before.before.before.before.before.read-str-behind.ensures _ _ c.before.before.before.before.before.before.before.a.given.1 (next-stop _ _ c.before.before.skip-value.ensures c.enum-told2.given.1)) refl ∙ later_held _ _ _ _ c.before.before.before.before.same_id.ensures c.before.before.before.later.ensures)
+returns_2 c = last_found _ (c.before.before.before.before.before.before.before.before.before.before.before.loop.invariant ∙ last_stuck entry_head entry_outline _ _ _ _ _ c.before.before.before.before.before.before.before.before.before.before.loop-test.true (entry_head_law _ _ c.before.before.before.before.before.before.before.before.before.read-str-behind.ensures c.before.before.before.before.before.before.before.a.given.1) (entry_rest _ _ c.before.before.before.before.before.before.before.before.before.read-str-behind.ensures _ _ c.before.before.before.before.before.before.before.a.given.1 (next_stop _ _ c.before.before.skip-value.ensures c.enum-told2.given.1)) refl ∙ later_held _ _ _ _ c.before.before.before.before.same_id.ensures c.before.before.before.later.ensures)
 
 skip-attributes-requires : tie.Need-skip-attributes-requires invariant-loop decreases-loop
 skip-attributes-requires c κs = search rules
@@ -75,7 +75,7 @@ enum_told_3 : tie.Need-enum-told-3 invariant-loop decreases-loop
 enum_told_3 c = search rules
 
 returns_3 : tie.Need-returns-3 invariant-loop decreases-loop
-returns_3 c = last_found _ (c.before.before.before.before.before.before.before.before.before.before.before.before.before.before.before.loop.invariant ∙ last-stuck entry_head entry_outline _ _ _ _ _ c.before.before.before.before.before.before.before.before.before.before.before.before.before.before.loop-test.true (entry_head_law _ _ c.before.before.before.before.before.before.before.before.before.before.before.before.before.read-str-behind.ensures c.before.before.before.before.before.before.before.before.before.before.before.a.given.1) (entry-rest _ _ c.before.before.before.before.before.before.before.before.before.before.before.before.before.read-str-behind.ensures _ _ c.before.before.before.before.before.before.before.before.before.before.before.a.given.1 (next-step _ _ c.before.before.before.before.before.before.skip-value.ensures c.before.before.before.before.p.given.1 (λ v. c.before.before.skip-attributes.ensures))) c.enum-told3.given.1 ∙ later_held _ _ _ _ c.before.before.before.before.before.before.before.before.same_id.ensures c.before.before.before.before.before.before.before.later.ensures)
+returns_3 c = last_found _ (c.before.before.before.before.before.before.before.before.before.before.before.before.before.before.before.loop.invariant ∙ last_stuck entry_head entry_outline _ _ _ _ _ c.before.before.before.before.before.before.before.before.before.before.before.before.before.before.loop-test.true (entry_head_law _ _ c.before.before.before.before.before.before.before.before.before.before.before.before.before.read-str-behind.ensures c.before.before.before.before.before.before.before.before.before.before.before.a.given.1) (entry_rest _ _ c.before.before.before.before.before.before.before.before.before.before.before.before.before.read-str-behind.ensures _ _ c.before.before.before.before.before.before.before.before.before.before.before.a.given.1 (next_step _ _ c.before.before.before.before.before.before.skip-value.ensures c.before.before.before.before.p.given.1 (λ v. c.before.before.skip-attributes.ensures))) c.enum-told3.given.1 ∙ later_held _ _ _ _ c.before.before.before.before.before.before.before.before.same_id.ensures c.before.before.before.before.before.before.before.later.ensures)
 
 sub_left : tie.Need-overflow-sub-left invariant-loop decreases-loop
 sub_left c = search rules
@@ -84,7 +84,7 @@ loop_less : tie.Need-loop-smaller invariant-loop decreases-loop
 loop_less c = search rules
 
 loop_again : tie.Need-loop-preserved invariant-loop decreases-loop
-loop_again c = c.before.before.before.before.before.before.before.before.before.before.before.before.before.before.before.before.loop.invariant ∙ last-next entry_head entry_outline _ _ _ _ _ c.before.before.before.before.before.before.before.before.before.before.before.before.before.before.before.loop-test.true (entry_head_law _ _ c.before.before.before.before.before.before.before.before.before.before.before.before.before.before.read-str-behind.ensures c.before.before.before.before.before.before.before.before.before.before.before.before.a.given.1) (entry-rest _ _ c.before.before.before.before.before.before.before.before.before.before.before.before.before.before.read-str-behind.ensures _ _ c.before.before.before.before.before.before.before.before.before.before.before.before.a.given.1 (next-step _ _ c.before.before.before.before.before.before.before.skip-value.ensures c.before.before.before.before.before.p.given.1 (λ v. c.before.before.before.skip-attributes.ensures))) c.before.next.given.1 ∙ ap (LastOf entry_head entry_outline _ _ _ _) (later_held _ _ _ _ c.before.before.before.before.before.before.before.before.before.same_id.ensures c.before.before.before.before.before.before.before.before.later.ensures)
+loop_again c = c.before.before.before.before.before.before.before.before.before.before.before.before.before.before.before.before.loop.invariant ∙ last_next entry_head entry_outline _ _ _ _ _ c.before.before.before.before.before.before.before.before.before.before.before.before.before.before.before.loop-test.true (entry_head_law _ _ c.before.before.before.before.before.before.before.before.before.before.before.before.before.before.read-str-behind.ensures c.before.before.before.before.before.before.before.before.before.before.before.before.a.given.1) (entry_rest _ _ c.before.before.before.before.before.before.before.before.before.before.before.before.before.before.read-str-behind.ensures _ _ c.before.before.before.before.before.before.before.before.before.before.before.before.a.given.1 (next_step _ _ c.before.before.before.before.before.before.before.skip-value.ensures c.before.before.before.before.before.p.given.1 (λ v. c.before.before.before.skip-attributes.ensures))) c.before.next.given.1 ∙ ap (LastOf entry_head entry_outline _ _ _ _) (later_held _ _ _ _ c.before.before.before.before.before.before.before.before.before.same_id.ensures c.before.before.before.before.before.before.before.before.later.ensures)
 
 returns_4 : tie.Need-returns-4 invariant-loop decreases-loop
 returns_4 c = last_found _ (c.before.loop.invariant ∙ last_none entry_head entry_outline _ _ _ _ _ c.loop-test.false)

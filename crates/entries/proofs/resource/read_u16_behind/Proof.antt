@@ -1,5 +1,5 @@
 -- `entries::resource::read_u16_behind` meets its contract: what is behind the bytes that are skipped.
-use Rattle.entries.proofs.Walk.{behind-step, behind-stop}
+use Rattle.entries.proofs.Walk.{behind_step, behind_stop}
 use Rattle.records.specs.Bytes.{number_at}
 use borrow.Author.Rules.{rules}
 use Rattle.entries.proofs.resource.read_u16_behind.Statement.{statement}
@@ -15,13 +15,13 @@ enum_told : tie.Need-enum-told
 enum_told c = search rules
 
 returns : tie.Need-returns
-returns c = behind-stop _ (number_at 2) _ _ c.before.before.skip-bytes.ensures c.enum_told.given.1
+returns c = behind_stop _ (number_at 2) _ _ c.before.before.skip-bytes.ensures c.enum_told.given.1
 
 read_u16_requires : tie.Need-read-u16-requires
 read_u16_requires c κs = search rules
 
 returns_2 : tie.Need-returns-2
-returns_2 c = behind-step _ (number_at 2) _ _ c.before.before.before.before.skip-bytes.ensures c.before.before.p.given.1 c.read-u16.ensures
+returns_2 c = behind_step _ (number_at 2) _ _ c.before.before.before.before.skip-bytes.ensures c.before.before.p.given.1 c.read-u16.ensures
 
 pub read-u16-behind-spec : {M : Type 1} → statement M
 read-u16-behind-spec = tie.close (tie.spec skip-bytes-requires enum_known_p enum_told returns read_u16_requires returns_2)

@@ -1,5 +1,5 @@
 -- What is left of the attributes ends where all of them end.
-use Rattle.records.proofs.Laws.{left_end, left-stop, left-turn}
+use Rattle.records.proofs.Laws.{left_end, left_stop, left_turn}
 use Rattle.records.specs.Decode.{many}
 use Rattle.records.specs.Relations.Answer.{next_of}
 use Rattle.records.specs.Images.{attribute_at}
@@ -29,7 +29,7 @@ enum_told : tie.Need-enum-told invariant-loop decreases-loop
 enum_told c = search rules
 
 returns : tie.Need-returns invariant-loop decreases-loop
-returns c = left-stop [] ◌∷◌ attribute_at c.before.before.before.before.before.before.args.s.now c.before.before.before.before.loop.left c.before.before.before.before.loop.at c.before.before.before.before.loop.invariant c.before.before.before.loop-test.true c.before.before.check-attribute.ensures c.enum_told.given.1
+returns c = left_stop [] ◌∷◌ attribute_at c.before.before.before.before.before.before.args.s.now c.before.before.before.before.loop.left c.before.before.before.before.loop.at c.before.before.before.before.loop.invariant c.before.before.before.loop-test.true c.before.before.check-attribute.ensures c.enum_told.given.1
 
 sub_left : tie.Need-overflow-sub-left invariant-loop decreases-loop
 sub_left c = omega arith
@@ -38,7 +38,7 @@ loop_less : tie.Need-loop-smaller invariant-loop decreases-loop
 loop_less c = omega arith
 
 loop_again : tie.Need-loop-preserved invariant-loop decreases-loop
-loop_again c = left-turn [] ◌∷◌ attribute_at c.before.before.before.before.before.before.before.args.s.now c.before.before.before.before.before.loop.left c.before.before.before.before.before.loop.at c.before.before.before.before.before.loop.invariant c.before.before.before.before.loop-test.true c.before.before.before.check-attribute.ensures c.before.e.given.1
+loop_again c = left_turn [] ◌∷◌ attribute_at c.before.before.before.before.before.before.before.args.s.now c.before.before.before.before.before.loop.left c.before.before.before.before.before.loop.at c.before.before.before.before.before.loop.invariant c.before.before.before.before.loop-test.true c.before.before.before.check-attribute.ensures c.before.e.given.1
 
 returns_2 : tie.Need-returns-2 invariant-loop decreases-loop
 returns_2 c = left_end [] ◌∷◌ attribute_at c.before.before.before.args.s.now c.before.loop.left c.before.loop.at c.before.loop.invariant c.loop-test.false

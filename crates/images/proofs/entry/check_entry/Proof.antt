@@ -1,5 +1,5 @@
 -- The kind decides what must follow.
-use Rattle.images.proofs.Laws.{entry-bad, kind_other, message-is, term_is}
+use Rattle.images.proofs.Laws.{entry_bad, kind_other, message_is, term_is}
 use Rattle.records.specs.Relations.Answer.{next_of}
 use borrow.Author.Rules.{rules}
 use mathlib.Core.Path.{◌∙◌, ap, sym}
@@ -16,7 +16,7 @@ enum_told : tie.Need-enum-told
 enum_told c = search rules
 
 returns : tie.Need-returns
-returns c = entry-bad c.before.before.before.before.args.s.now c.before.before.before.before.args.at c.before.before.read_byte.ensures c.enum_told.given.1
+returns c = entry_bad c.before.before.before.before.args.s.now c.before.before.before.before.args.at c.before.before.read_byte.ensures c.enum_told.given.1
 
 check-entry-of-requires : tie.Need-check-entry-of-requires
 check-entry-of-requires c κs = search rules
@@ -25,7 +25,7 @@ check-entry-of-requires-2 : tie.Need-check-entry-of-requires-2
 check-entry-of-requires-2 c κs = search rules
 
 returns_2 : tie.Need-returns-2
-returns_2 c = c.check-entry-of.ensures ∙ ap next_of (sym (message-is c.before.before.before.before.before.before.before.args.s.now c.before.before.before.before.before.before.before.args.at c.before.before.before.before.before.read_byte.ensures c.before.before.before.kind.given.1 c.before.if1.true))
+returns_2 c = c.check-entry-of.ensures ∙ ap next_of (sym (message_is c.before.before.before.before.before.before.before.args.s.now c.before.before.before.before.before.before.before.args.at c.before.before.before.before.before.read_byte.ensures c.before.before.before.kind.given.1 c.before.if1.true))
 
 returns_3 : tie.Need-returns-3
 returns_3 c = c.check-entry-of2.ensures ∙ ap next_of (sym (term_is c.before.before.before.before.before.before.before.before.args.s.now c.before.before.before.before.before.before.before.before.args.at c.before.before.before.before.before.before.read_byte.ensures c.before.before.before.before.kind.given.1 c.before.if2.true))

@@ -1,6 +1,6 @@
 -- `numbers::words::place_in` meets its contract: the words before, and the place in what is left.
 use Prim.Native.Nat.{◌-◌}
-use Rattle.numbers.proofs.Places.{turn-comma, turn-found, turn_none, turn-other}
+use Rattle.numbers.proofs.Places.{turn_comma, turn_found, turn_none, turn_other}
 use mathlib.Core.Path.{◌∙◌, sym}
 use native.Mathlib.Omega.{arith}
 use Rattle.numbers.proofs.words.place_in.Goals as goal
@@ -18,7 +18,7 @@ pub loop-i-smaller-then-list-i-ne44 : goal.loop-i-smaller-then-list-i-ne44
 loop-i-smaller-then-list-i-ne44 c = omega arith
 
 pub loop-i-preserved-then-list-i-ne44 : goal.loop-i-preserved-then-list-i-ne44
-loop-i-preserved-then-list-i-ne44 c = (omega arith, omega arith, omega arith, turn-other c.args.word.now c.args.list.now c.loop-i.n c.loop-i.from c.loop-i.i c.loop-i.invariant.0 c.loop-i-test.true c.loop-i.invariant.3 c.if-list-i-ne44.true)
+loop-i-preserved-then-list-i-ne44 c = (omega arith, omega arith, omega arith, turn_other c.args.word.now c.args.list.now c.loop-i.n c.loop-i.from c.loop-i.i c.loop-i.invariant.0 c.loop-i-test.true c.loop-i.invariant.3 c.if-list-i-ne44.true)
 
 pub slice_bounds-same_bytes-count : goal.slice_bounds-same_bytes-count
 slice_bounds-same_bytes-count c = omega arith
@@ -30,7 +30,7 @@ pub slice_bounds-same_bytes-end : goal.slice_bounds-same_bytes-end
 slice_bounds-same_bytes-end c = omega arith
 
 pub returns-then-same_bytes : goal.returns-then-same_bytes
-returns-then-same_bytes c = turn-found c.args.word.now c.args.list.now c.loop-i.n c.loop-i.from c.loop-i.i c.loop-i.invariant.0 c.loop-i-test.true c.loop-i.invariant.3 c.if-list-i-ne44.false (sym c.same_bytes.ensures ∙ c.if-same_bytes.true)
+returns-then-same_bytes c = turn_found c.args.word.now c.args.list.now c.loop-i.n c.loop-i.from c.loop-i.i c.loop-i.invariant.0 c.loop-i-test.true c.loop-i.invariant.3 c.if-list-i-ne44.false (sym c.same_bytes.ensures ∙ c.if-same_bytes.true)
 
 pub overflow_add-n : goal.overflow_add-n
 overflow_add-n c = omega arith
@@ -42,7 +42,7 @@ pub loop-i-smaller : goal.loop-i-smaller
 loop-i-smaller c = omega arith
 
 pub loop-i-preserved : goal.loop-i-preserved
-loop-i-preserved c = (omega arith, omega arith, omega arith, turn-comma c.args.word.now c.args.list.now c.loop-i.n c.loop-i.from c.loop-i.i c.loop-i.invariant.0 c.loop-i-test.true c.loop-i.invariant.3 c.if-list-i-ne44.false (sym c.same_bytes.ensures ∙ c.if-same_bytes.false))
+loop-i-preserved c = (omega arith, omega arith, omega arith, turn_comma c.args.word.now c.args.list.now c.loop-i.n c.loop-i.from c.loop-i.i c.loop-i.invariant.0 c.loop-i-test.true c.loop-i.invariant.3 c.if-list-i-ne44.false (sym c.same_bytes.ensures ∙ c.if-same_bytes.false))
 
 pub returns : goal.returns
 returns c = turn_none c.args.word.now _ c.args.list.now c.loop-i.n c.loop-i.i (omega arith) c.loop-i.invariant.3

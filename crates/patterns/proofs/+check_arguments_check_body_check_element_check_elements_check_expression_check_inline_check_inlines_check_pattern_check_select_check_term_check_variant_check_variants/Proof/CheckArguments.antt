@@ -1,6 +1,6 @@
 -- What is left of `check_arguments`.
 use Prim.Native.Nat.{ℕ}
-use Rattle.records.proofs.Laws.{next-end, next-step, next-stop, num-step, num-stop}
+use Rattle.records.proofs.Laws.{next_end, next_step, next_stop, num_step, num_stop}
 use Rattle.records.specs.Decode.{arguments_at}
 use borrow.Author.Rules.{rules}
 use native.Mathlib.Omega.{arith}
@@ -19,7 +19,7 @@ enum_told t c = search rules
 
 pub returns : (t : ℕ) → CheckArgumentsLts.Need-returns (check_arguments_claims t) (check_arguments_at t) CheckArgumentsReads.Post
 unfolding arguments_at
-returns t c = num-stop _ _ c.before.before.read-u16.ensures c.enum_told.given.1
+returns t c = num_stop _ _ c.before.before.read-u16.ensures c.enum_told.given.1
 
 pub check_inlines_requires : (t : ℕ) → CheckArgumentsLts.Need-check-inlines-requires (check_arguments_claims t) (check_arguments_at t) CheckArgumentsReads.Post
 check_inlines_requires t c κs = omega arith
@@ -32,7 +32,7 @@ enum_told_2 t c = search rules
 
 pub returns_2 : (t : ℕ) → CheckArgumentsLts.Need-returns-2 (check_arguments_claims t) (check_arguments_at t) CheckArgumentsReads.Post
 unfolding arguments_at
-returns_2 t c = num-step _ _ c.before.before.before.before.before.before.read-u16.ensures c.before.before.before.before.n.given.1 (next-stop _ _ c.before.before.check-inlines.ensures c.enum-told2.given.1)
+returns_2 t c = num_step _ _ c.before.before.before.before.before.before.read-u16.ensures c.before.before.before.before.n.given.1 (next_stop _ _ c.before.before.check-inlines.ensures c.enum-told2.given.1)
 
 pub read_u16_requires_2 : (t : ℕ) → CheckArgumentsLts.Need-read-u16-requires-2 (check_arguments_claims t) (check_arguments_at t) CheckArgumentsReads.Post
 read_u16_requires_2 t c κs = search rules
@@ -45,11 +45,11 @@ enum_told_3 t c = search rules
 
 pub returns_3 : (t : ℕ) → CheckArgumentsLts.Need-returns-3 (check_arguments_claims t) (check_arguments_at t) CheckArgumentsReads.Post
 unfolding arguments_at
-returns_3 t c = num-step _ _ c.before.before.before.before.before.before.before.before.before.before.read-u16.ensures c.before.before.before.before.before.before.before.before.n.given.1 (next-step _ _ c.before.before.before.before.before.before.check-inlines.ensures c.before.before.before.before.q.given.1 (λ _. num-stop _ _ c.before.before.read-u162.ensures c.enum-told3.given.1))
+returns_3 t c = num_step _ _ c.before.before.before.before.before.before.before.before.before.before.read-u16.ensures c.before.before.before.before.before.before.before.before.n.given.1 (next_step _ _ c.before.before.before.before.before.before.check-inlines.ensures c.before.before.before.before.q.given.1 (λ _. num_stop _ _ c.before.before.read-u162.ensures c.enum-told3.given.1))
 
 pub check_named_arguments_requires : (t : ℕ) → CheckArgumentsLts.Need-check-named-arguments-requires (check_arguments_claims t) (check_arguments_at t) CheckArgumentsReads.Post
 check_named_arguments_requires t c κs = search rules
 
 pub returns_4 : (t : ℕ) → CheckArgumentsLts.Need-returns-4 (check_arguments_claims t) (check_arguments_at t) CheckArgumentsReads.Post
 unfolding arguments_at
-returns_4 t c = num-step _ _ c.before.before.before.before.before.before.before.before.before.before.before.before.read-u16.ensures c.before.before.before.before.before.before.before.before.before.before.n.given.1 (next-step _ _ c.before.before.before.before.before.before.before.before.check-inlines.ensures c.before.before.before.before.before.before.q.given.1 (λ _. num-step _ _ c.before.before.before.before.read-u162.ensures c.before.before.m.given.1 (next-end _ _ c.check-named-arguments.ensures)))
+returns_4 t c = num_step _ _ c.before.before.before.before.before.before.before.before.before.before.before.before.read-u16.ensures c.before.before.before.before.before.before.before.before.before.before.n.given.1 (next_step _ _ c.before.before.before.before.before.before.before.before.check-inlines.ensures c.before.before.before.before.before.before.q.given.1 (λ _. num_step _ _ c.before.before.before.before.read-u162.ensures c.before.before.m.given.1 (next_end _ _ c.check-named-arguments.ensures)))

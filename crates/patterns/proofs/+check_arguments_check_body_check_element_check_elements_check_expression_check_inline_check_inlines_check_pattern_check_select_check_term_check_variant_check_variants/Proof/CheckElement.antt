@@ -1,7 +1,7 @@
 -- What is left of `check_element`.
 use Prim.Native.Nat.{ℕ}
-use Rattle.records.proofs.Laws.{fails, isnt, next-end, num-step, num-stop, passes, is as is-tag}
-use Rattle.records.specs.Decode.{elementAt, text_read_at}
+use Rattle.records.proofs.Laws.{fails, isnt, next_end, num_step, num_stop, passes, is as is-tag}
+use Rattle.records.specs.Decode.{element_at, text_read_at}
 use Rattle.records.specs.Relations.Rule.{rule_of}
 use borrow.Author.Rules.{rules}
 use native.Mathlib.Omega.{arith}
@@ -19,8 +19,8 @@ pub enum_told : (t : ℕ) → CheckElementLts.Need-enum-told (check_element_clai
 enum_told t c = search rules
 
 pub returns : (t : ℕ) → CheckElementLts.Need-returns (check_element_claims t) (check_element_at t) CheckElementReads.Post
-unfolding elementAt
-returns t c = num-stop _ _ c.before.before.read_byte.ensures c.enum_told.given.1
+unfolding element_at
+returns t c = num_stop _ _ c.before.before.read_byte.ensures c.enum_told.given.1
 
 pub check_ruled_requires : (t : ℕ) → CheckElementLts.Need-check-ruled-requires (check_element_claims t) (check_element_at t) CheckElementReads.Post
 check_ruled_requires t c κs = search rules
@@ -29,13 +29,13 @@ pub check_expression_requires : (t : ℕ) → CheckElementLts.Need-check-express
 check_expression_requires t c κs = omega arith
 
 pub returns_2 : (t : ℕ) → CheckElementLts.Need-returns-2 (check_element_claims t) (check_element_at t) CheckElementReads.Post
-unfolding elementAt text_read_at rule_of
-returns_2 t c = num-step _ _ c.before.before.before.before.before.read_byte.ensures c.before.before.before.tag.given.1 (is-tag _ _ c.before.if1.true (next-end _ _ c.check-ruled.ensures))
+unfolding element_at text_read_at rule_of
+returns_2 t c = num_step _ _ c.before.before.before.before.before.read_byte.ensures c.before.before.before.tag.given.1 (is-tag _ _ c.before.if1.true (next_end _ _ c.check-ruled.ensures))
 
 pub returns_3 : (t : ℕ) → CheckElementLts.Need-returns-3 (check_element_claims t) (check_element_at t) CheckElementReads.Post
-unfolding elementAt
-returns_3 t c = num-step _ _ c.before.before.before.before.before.before.read_byte.ensures c.before.before.before.before.tag.given.1 (isnt _ _ c.before.before.if1.false (passes _ c.before.if2.true (next-end _ _ c.check-expression.ensures)))
+unfolding element_at
+returns_3 t c = num_step _ _ c.before.before.before.before.before.before.read_byte.ensures c.before.before.before.before.tag.given.1 (isnt _ _ c.before.before.if1.false (passes _ c.before.if2.true (next_end _ _ c.check-expression.ensures)))
 
 pub returns_4 : (t : ℕ) → CheckElementLts.Need-returns-4 (check_element_claims t) (check_element_at t) CheckElementReads.Post
-unfolding elementAt
-returns_4 t c = num-step _ _ c.before.before.before.before.before.read_byte.ensures c.before.before.before.tag.given.1 (isnt _ _ c.before.if1.false (fails _ c.if2.false))
+unfolding element_at
+returns_4 t c = num_step _ _ c.before.before.before.before.before.read_byte.ensures c.before.before.before.tag.given.1 (isnt _ _ c.before.if1.false (fails _ c.if2.false))

@@ -1,7 +1,7 @@
 -- What is left of `check_expression`.
 use Prim.Native.Nat.{ℕ}
-use Rattle.records.proofs.Laws.{expression-deeper, expression-none, isnt, next-end, num-step, num-stop, is as is-tag}
-use Rattle.records.specs.Decode.{exprAt}
+use Rattle.records.proofs.Laws.{expression_deeper, expression_none, isnt, next_end, num_step, num_stop, is as is-tag}
+use Rattle.records.specs.Decode.{expr_at}
 use borrow.Author.Rules.{rules}
 use native.Mathlib.Omega.{arith}
 use Rattle.patterns.proofs.check_expression.Reads as CheckExpressionReads
@@ -9,7 +9,7 @@ use Rattle.patterns.proofs.+check_arguments_check_body_check_element_check_eleme
 use Rattle.patterns.proofs.+check_arguments_check_body_check_element_check_elements_check_expression_check_inline_check_inlines_check_pattern_check_select_check_term_check_variant_check_variants.Proof.Base.{check_expression_at, check_expression_claims}
 
 pub returns : (t : ℕ) → CheckExpressionLts.Need-returns (check_expression_claims t) (check_expression_at t) CheckExpressionReads.Post
-returns t c = expression-none _ _ _ c.if1.true
+returns t c = expression_none _ _ _ c.if1.true
 
 pub read_byte_requires : (t : ℕ) → CheckExpressionLts.Need-read-byte-requires (check_expression_claims t) (check_expression_at t) CheckExpressionReads.Post
 read_byte_requires t c κs = search rules
@@ -21,8 +21,8 @@ pub enum_told : (t : ℕ) → CheckExpressionLts.Need-enum-told (check_expressio
 enum_told t c = search rules
 
 pub returns_2 : (t : ℕ) → CheckExpressionLts.Need-returns-2 (check_expression_claims t) (check_expression_at t) CheckExpressionReads.Post
-unfolding exprAt
-returns_2 t c = expression-deeper _ _ _ c.before.before.before.if1.false (num-stop _ _ c.before.before.read_byte.ensures c.enum_told.given.1)
+unfolding expr_at
+returns_2 t c = expression_deeper _ _ _ c.before.before.before.if1.false (num_stop _ _ c.before.before.read_byte.ensures c.enum_told.given.1)
 
 pub sub_check_select : (t : ℕ) → CheckExpressionLts.Need-overflow-sub-check-select (check_expression_claims t) (check_expression_at t) CheckExpressionReads.Post
 sub_check_select t c = search rules
@@ -37,9 +37,9 @@ pub check_body_requires : (t : ℕ) → CheckExpressionLts.Need-check-body-requi
 check_body_requires t c κs = omega arith
 
 pub returns_3 : (t : ℕ) → CheckExpressionLts.Need-returns-3 (check_expression_claims t) (check_expression_at t) CheckExpressionReads.Post
-unfolding exprAt
-returns_3 t c = expression-deeper _ _ _ c.before.before.before.before.before.before.if1.false (num-step _ _ c.before.before.before.before.before.read_byte.ensures c.before.before.before.tag.given.1 (is-tag _ _ c.before.if2.true c.check-select.ensures))
+unfolding expr_at
+returns_3 t c = expression_deeper _ _ _ c.before.before.before.before.before.before.if1.false (num_step _ _ c.before.before.before.before.before.read_byte.ensures c.before.before.before.tag.given.1 (is-tag _ _ c.before.if2.true c.check-select.ensures))
 
 pub returns_4 : (t : ℕ) → CheckExpressionLts.Need-returns-4 (check_expression_claims t) (check_expression_at t) CheckExpressionReads.Post
-unfolding exprAt
-returns_4 t c = expression-deeper _ _ _ c.before.before.before.before.before.before.if1.false (num-step _ _ c.before.before.before.before.before.read_byte.ensures c.before.before.before.tag.given.1 (isnt _ _ c.before.if2.false (next-end _ _ c.check-body.ensures)))
+unfolding expr_at
+returns_4 t c = expression_deeper _ _ _ c.before.before.before.before.before.before.if1.false (num_step _ _ c.before.before.before.before.before.read_byte.ensures c.before.before.before.tag.given.1 (isnt _ _ c.before.if2.false (next_end _ _ c.check-body.ensures)))

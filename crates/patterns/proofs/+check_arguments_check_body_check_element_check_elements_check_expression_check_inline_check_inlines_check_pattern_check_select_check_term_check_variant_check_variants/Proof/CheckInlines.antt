@@ -1,9 +1,9 @@
 -- What is left of `check_inlines`.
 use Prim.Native.Nat.{ℕ}
-use Rattle.records.proofs.Laws.{left_end, left-stop, left-turn}
-use Rattle.records.specs.Decode.{inline, inlinesAt}
+use Rattle.records.proofs.Laws.{left_end, left_stop, left_turn}
+use Rattle.records.specs.Decode.{inline, inlines_at}
 use Rattle.records.specs.Relations.Answer.{next_of}
-use Rattle.records.specs.Tree.{and, no-inline}
+use Rattle.records.specs.Tree.{and, no_inline}
 use borrow.Author.Rules.{rules}
 use mathlib.Core.Path.{◌≡◌}
 use native.Mathlib.Omega.{arith}
@@ -12,7 +12,7 @@ use Rattle.patterns.proofs.+check_arguments_check_body_check_element_check_eleme
 use Rattle.patterns.proofs.+check_arguments_check_body_check_element_check_elements_check_expression_check_inline_check_inlines_check_pattern_check_select_check_term_check_variant_check_variants.Proof.Base.{check_inlines_at, check_inlines_claims}
 
 abbrev pub InvLoop : CheckInlinesLts.invariant-loop
-InvLoop s from count depth at₀ left₀ at left = next_of (inlinesAt (inline depth) left s at) ≡ next_of (inlinesAt (inline depth) count s from)
+InvLoop s from count depth at₀ left₀ at left = next_of (inlines_at (inline depth) left s at) ≡ next_of (inlines_at (inline depth) count s from)
 
 abbrev pub μ-loop : CheckInlinesLts.decreases-loop
 μ-loop s from count depth at₀ left₀ at left = left
@@ -30,8 +30,8 @@ pub enum_told : (t : ℕ) → CheckInlinesLts.Need-enum-told (check_inlines_clai
 enum_told t c = search rules
 
 pub returns : (t : ℕ) → CheckInlinesLts.Need-returns (check_inlines_claims t) (check_inlines_at t) CheckInlinesReads.Post InvLoop μ-loop
-unfolding inlinesAt
-returns t c = left-stop no-inline and (inline c.before.before.before.before.before.before.args.depth) c.before.before.before.before.before.before.args.s.now c.before.before.before.before.loop.left c.before.before.before.before.loop.at c.before.before.before.before.loop.invariant c.before.before.before.loop-test.true c.before.before.check-inline.ensures c.enum_told.given.1
+unfolding inlines_at
+returns t c = left_stop no_inline and (inline c.before.before.before.before.before.before.args.depth) c.before.before.before.before.before.before.args.s.now c.before.before.before.before.loop.left c.before.before.before.before.loop.at c.before.before.before.before.loop.invariant c.before.before.before.loop-test.true c.before.before.check-inline.ensures c.enum_told.given.1
 
 pub sub_left : (t : ℕ) → CheckInlinesLts.Need-overflow-sub-left (check_inlines_claims t) (check_inlines_at t) CheckInlinesReads.Post InvLoop μ-loop
 sub_left t c = search rules
@@ -40,9 +40,9 @@ pub loop_less : (t : ℕ) → CheckInlinesLts.Need-loop-smaller (check_inlines_c
 loop_less t c = search rules
 
 pub loop_again : (t : ℕ) → CheckInlinesLts.Need-loop-preserved (check_inlines_claims t) (check_inlines_at t) CheckInlinesReads.Post InvLoop μ-loop
-unfolding inlinesAt
-loop_again t c = left-turn no-inline and (inline c.before.before.before.before.before.before.before.args.depth) c.before.before.before.before.before.before.before.args.s.now c.before.before.before.before.before.loop.left c.before.before.before.before.before.loop.at c.before.before.before.before.before.loop.invariant c.before.before.before.before.loop-test.true c.before.before.before.check-inline.ensures c.before.e.given.1
+unfolding inlines_at
+loop_again t c = left_turn no_inline and (inline c.before.before.before.before.before.before.before.args.depth) c.before.before.before.before.before.before.before.args.s.now c.before.before.before.before.before.loop.left c.before.before.before.before.before.loop.at c.before.before.before.before.before.loop.invariant c.before.before.before.before.loop-test.true c.before.before.before.check-inline.ensures c.before.e.given.1
 
 pub returns_2 : (t : ℕ) → CheckInlinesLts.Need-returns-2 (check_inlines_claims t) (check_inlines_at t) CheckInlinesReads.Post InvLoop μ-loop
-unfolding inlinesAt
-returns_2 t c = left_end no-inline and (inline c.before.before.before.args.depth) c.before.before.before.args.s.now c.before.loop.left c.before.loop.at c.before.loop.invariant c.loop-test.false
+unfolding inlines_at
+returns_2 t c = left_end no_inline and (inline c.before.before.before.args.depth) c.before.before.before.args.s.now c.before.loop.left c.before.loop.at c.before.loop.invariant c.loop-test.false

@@ -1,7 +1,7 @@
 -- What is left of `check_select`.
 use Prim.Native.Nat.{ℕ}
-use Rattle.records.proofs.Laws.{above, next-end, next-step, next-stop, not-above, num-step, num-stop}
-use Rattle.records.specs.Decode.{selectAt}
+use Rattle.records.proofs.Laws.{above, next_end, next_step, next_stop, not_above, num_step, num_stop}
+use Rattle.records.specs.Decode.{select_at}
 use borrow.Author.Rules.{rules}
 use native.Mathlib.Omega.{arith}
 use Rattle.patterns.proofs.check_select.Reads as CheckSelectReads
@@ -18,8 +18,8 @@ pub enum_told : (t : ℕ) → CheckSelectLts.Need-enum-told (check_select_claims
 enum_told t c = search rules
 
 pub returns : (t : ℕ) → CheckSelectLts.Need-returns (check_select_claims t) (check_select_at t) CheckSelectReads.Post
-unfolding selectAt
-returns t c = next-stop _ _ c.before.before.check-inline.ensures c.enum_told.given.1
+unfolding select_at
+returns t c = next_stop _ _ c.before.before.check-inline.ensures c.enum_told.given.1
 
 pub read_u16_requires : (t : ℕ) → CheckSelectLts.Need-read-u16-requires (check_select_claims t) (check_select_at t) CheckSelectReads.Post
 read_u16_requires t c κs = search rules
@@ -31,16 +31,16 @@ pub enum_told_2 : (t : ℕ) → CheckSelectLts.Need-enum-told-2 (check_select_cl
 enum_told_2 t c = search rules
 
 pub returns_2 : (t : ℕ) → CheckSelectLts.Need-returns-2 (check_select_claims t) (check_select_at t) CheckSelectReads.Post
-unfolding selectAt
-returns_2 t c = next-step _ _ c.before.before.before.before.before.before.check-inline.ensures c.before.before.before.before.p.given.1 (λ _. num-stop _ _ c.before.before.read-u16.ensures c.enum-told2.given.1)
+unfolding select_at
+returns_2 t c = next_step _ _ c.before.before.before.before.before.before.check-inline.ensures c.before.before.before.before.p.given.1 (λ _. num_stop _ _ c.before.before.read-u16.ensures c.enum-told2.given.1)
 
 pub check_variants_requires : (t : ℕ) → CheckSelectLts.Need-check-variants-requires (check_select_claims t) (check_select_at t) CheckSelectReads.Post
 check_variants_requires t c κs = omega arith
 
 pub returns_3 : (t : ℕ) → CheckSelectLts.Need-returns-3 (check_select_claims t) (check_select_at t) CheckSelectReads.Post
-unfolding selectAt
-returns_3 t c = next-step _ _ c.before.before.before.before.before.before.before.before.before.check-inline.ensures c.before.before.before.before.before.before.before.p.given.1 (λ _. num-step _ _ c.before.before.before.before.before.read-u16.ensures c.before.before.before.k.given.1 (above _ c.before.if1.true (next-end _ _ c.check-variants.ensures)))
+unfolding select_at
+returns_3 t c = next_step _ _ c.before.before.before.before.before.before.before.before.before.check-inline.ensures c.before.before.before.before.before.before.before.p.given.1 (λ _. num_step _ _ c.before.before.before.before.before.read-u16.ensures c.before.before.before.k.given.1 (above _ c.before.if1.true (next_end _ _ c.check-variants.ensures)))
 
 pub returns_4 : (t : ℕ) → CheckSelectLts.Need-returns-4 (check_select_claims t) (check_select_at t) CheckSelectReads.Post
-unfolding selectAt
-returns_4 t c = next-step _ _ c.before.before.before.before.before.before.before.before.check-inline.ensures c.before.before.before.before.before.before.p.given.1 (λ _. num-step _ _ c.before.before.before.before.read-u16.ensures c.before.before.k.given.1 (not-above _ c.if1.false))
+unfolding select_at
+returns_4 t c = next_step _ _ c.before.before.before.before.before.before.before.before.check-inline.ensures c.before.before.before.before.before.before.p.given.1 (λ _. num_step _ _ c.before.before.before.before.read-u16.ensures c.before.before.k.given.1 (not_above _ c.if1.false))

@@ -1,6 +1,6 @@
 -- What is left of `check_variants`.
 use Prim.Native.Nat.{ℕ}
-use Rattle.records.proofs.Laws.{left_end, left-stop, left-turn}
+use Rattle.records.proofs.Laws.{left_end, left_stop, left_turn}
 use Rattle.records.specs.Decode.{expression, many, variant_at}
 use Rattle.records.specs.Relations.Answer.{next_of}
 use Rattle.records.specs.Tree.{no_variant, or}
@@ -30,7 +30,7 @@ pub enum_told : (t : ℕ) → CheckVariantsLts.Need-enum-told (check_variants_cl
 enum_told t c = search rules
 
 pub returns : (t : ℕ) → CheckVariantsLts.Need-returns (check_variants_claims t) (check_variants_at t) CheckVariantsReads.Post InvLoop μ-loop
-returns t c = left-stop no_variant or (variant_at (expression c.before.before.before.before.before.before.args.depth)) c.before.before.before.before.before.before.args.s.now c.before.before.before.before.loop.left c.before.before.before.before.loop.at c.before.before.before.before.loop.invariant c.before.before.before.loop-test.true c.before.before.check-variant.ensures c.enum_told.given.1
+returns t c = left_stop no_variant or (variant_at (expression c.before.before.before.before.before.before.args.depth)) c.before.before.before.before.before.before.args.s.now c.before.before.before.before.loop.left c.before.before.before.before.loop.at c.before.before.before.before.loop.invariant c.before.before.before.loop-test.true c.before.before.check-variant.ensures c.enum_told.given.1
 
 pub sub_left : (t : ℕ) → CheckVariantsLts.Need-overflow-sub-left (check_variants_claims t) (check_variants_at t) CheckVariantsReads.Post InvLoop μ-loop
 sub_left t c = search rules
@@ -39,7 +39,7 @@ pub loop_less : (t : ℕ) → CheckVariantsLts.Need-loop-smaller (check_variants
 loop_less t c = search rules
 
 pub loop_again : (t : ℕ) → CheckVariantsLts.Need-loop-preserved (check_variants_claims t) (check_variants_at t) CheckVariantsReads.Post InvLoop μ-loop
-loop_again t c = left-turn no_variant or (variant_at (expression c.before.before.before.before.before.before.before.args.depth)) c.before.before.before.before.before.before.before.args.s.now c.before.before.before.before.before.loop.left c.before.before.before.before.before.loop.at c.before.before.before.before.before.loop.invariant c.before.before.before.before.loop-test.true c.before.before.before.check-variant.ensures c.before.e.given.1
+loop_again t c = left_turn no_variant or (variant_at (expression c.before.before.before.before.before.before.before.args.depth)) c.before.before.before.before.before.before.before.args.s.now c.before.before.before.before.before.loop.left c.before.before.before.before.before.loop.at c.before.before.before.before.before.loop.invariant c.before.before.before.before.loop-test.true c.before.before.before.check-variant.ensures c.before.e.given.1
 
 pub returns_2 : (t : ℕ) → CheckVariantsLts.Need-returns-2 (check_variants_claims t) (check_variants_at t) CheckVariantsReads.Post InvLoop μ-loop
 returns_2 t c = left_end no_variant or (variant_at (expression c.before.before.before.args.depth)) c.before.before.before.args.s.now c.before.loop.left c.before.loop.at c.before.loop.invariant c.loop-test.false

@@ -1,5 +1,5 @@
 -- `records::bytes::read_u32` meets its contract.
-use Rattle.records.proofs.Laws.{number_short, number-there, there}
+use Rattle.records.proofs.Laws.{number_short, number_there, there}
 use native.Mathlib.Omega.{arith}
 use Rattle.records.proofs.bytes.read_u32.Goals as goal
 
@@ -14,7 +14,7 @@ overflow_add-result c =
     let h = inside in omega arith
 
 pub returns-then-has_bytes : goal.returns-then-has_bytes
-returns-then-has_bytes c = number-there c.args.s.now c.args.at 4 c.has_bytes.ensures c.if-has_bytes.true c.four.ensures.0
+returns-then-has_bytes c = number_there c.args.s.now c.args.at 4 c.has_bytes.ensures c.if-has_bytes.true c.four.ensures.0
 
 pub returns : goal.returns
 returns c = number_short c.args.s.now c.args.at 4 c.has_bytes.ensures c.if-has_bytes.false

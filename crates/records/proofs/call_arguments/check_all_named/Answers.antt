@@ -1,5 +1,5 @@
 -- What is left of the named arguments ends where all of them end.
-use Rattle.records.proofs.Laws.{left_end, left-stop, left-turn}
+use Rattle.records.proofs.Laws.{left_end, left_stop, left_turn}
 use Rattle.records.specs.Decode.{named_at}
 use mathlib.Core.List.{[], ◌∷◌}
 use mathlib.Core.Path.{refl}
@@ -10,7 +10,7 @@ pub loop-left-init : goal.loop-left-init
 loop-left-init c = refl
 
 pub returns-in_default : goal.returns-in_default
-returns-in_default c = left-stop [] ◌∷◌ named_at c.args.s.now c.loop-left.left c.loop-left.at c.loop-left.invariant c.loop-left-test.true c.check_named.ensures c.in_default.is
+returns-in_default c = left_stop [] ◌∷◌ named_at c.args.s.now c.loop-left.left c.loop-left.at c.loop-left.invariant c.loop-left-test.true c.check_named.ensures c.in_default.is
 
 pub overflow_sub-left : goal.overflow_sub-left
 overflow_sub-left c = omega arith
@@ -19,7 +19,7 @@ pub loop-left-smaller : goal.loop-left-smaller
 loop-left-smaller c = omega arith
 
 pub loop-left-preserved : goal.loop-left-preserved
-loop-left-preserved c = left-turn [] ◌∷◌ named_at c.args.s.now c.loop-left.left c.loop-left.at c.loop-left.invariant c.loop-left-test.true c.check_named.ensures c.in-At.is
+loop-left-preserved c = left_turn [] ◌∷◌ named_at c.args.s.now c.loop-left.left c.loop-left.at c.loop-left.invariant c.loop-left-test.true c.check_named.ensures c.in-At.is
 
 pub returns : goal.returns
 returns c = left_end [] ◌∷◌ named_at c.args.s.now c.loop-left.left c.loop-left.at c.loop-left.invariant c.loop-left-test.false

@@ -1,17 +1,17 @@
 -- `records::check_named_arguments` meets its contract.
-use Rattle.records.proofs.Laws.{fails-to, holds, next_got, next-know, next-stop}
+use Rattle.records.proofs.Laws.{fails_to, holds, next_got, next_know, next_stop}
 use Rattle.records.specs.Decode.{named_arguments_at}
 use mathlib.Core.Path.{◌∙◌, sym}
 use Rattle.records.proofs.call_arguments.check_named_arguments.Goals as goal
 
 pub returns-in_default : goal.returns-in_default
 unfolding named_arguments_at
-returns-in_default c = next-stop _ _ c.check_all_named.ensures c.in_default.is
+returns-in_default c = next_stop _ _ c.check_all_named.ensures c.in_default.is
 
 pub returns-then-names_distinct : goal.returns-then-names_distinct
 unfolding named_arguments_at
-returns-then-names_distinct c = next-know _ _ c.check_all_named.ensures c.in-At.is (λ l h. holds _ _ (sym (c.names_distinct.ensures l _ h) ∙ c.if-names_distinct.true) (next_got _ _))
+returns-then-names_distinct c = next_know _ _ c.check_all_named.ensures c.in-At.is (λ l h. holds _ _ (sym (c.names_distinct.ensures l _ h) ∙ c.if-names_distinct.true) (next_got _ _))
 
 pub returns-else-names_distinct : goal.returns-else-names_distinct
 unfolding named_arguments_at
-returns-else-names_distinct c = next-know _ _ c.check_all_named.ensures c.in-At.is (λ l h. fails-to _ _ (sym (c.names_distinct.ensures l _ h) ∙ c.if-names_distinct.false))
+returns-else-names_distinct c = next_know _ _ c.check_all_named.ensures c.in-At.is (λ l h. fails_to _ _ (sym (c.names_distinct.ensures l _ h) ∙ c.if-names_distinct.false))

@@ -1,7 +1,7 @@
 -- `records::write::write_bytes` meets its contract: byte by byte, where all of them fit.
 use Prim.Native.Nat.{◌+◌, ◌-◌, ℕ}
 use Rattle.records.proofs.Laws.{there}
-use Rattle.records.proofs.Writing.{fits-paste, stays}
+use Rattle.records.proofs.Writing.{fits_paste, stays}
 use borrow.Author.Rules.{rules}
 use lib.ListN.{get_or, length, length-set, set}
 use lib.Seq.{paste, paste-suc, paste-zero}
@@ -51,7 +51,7 @@ pub returns-after-loop-i : goal.returns-after-loop-i
 returns-after-loop-i c =
     let room = there c.args.d.now c.args.at (length c.args.src.now) c.has_bytes.ensures c.if-has_bytes.true in
     let e : c.loop-i.i ≡ length c.args.src.now = omega arith in
-    c.loop-i.invariant.2 ∙ ap (λ (k : ℕ). paste c.args.d.now c.args.at c.args.src.now k) e ∙ sym (fits-paste c.args.d.now c.args.at c.args.src.now room)
+    c.loop-i.invariant.2 ∙ ap (λ (k : ℕ). paste c.args.d.now c.args.at c.args.src.now k) e ∙ sym (fits_paste c.args.d.now c.args.at c.args.src.now room)
 
 pub returns-else-has_bytes : goal.returns-else-has_bytes
 returns-else-has_bytes c = stays c.args.d.now c.args.at c.args.src.now c.has_bytes.ensures c.if-has_bytes.false

@@ -1,7 +1,7 @@
 -- `records::write::write_u16` meets its contract: two bytes, where they fit.
 use Prim.Native.Nat.{◌%◌, ◌/◌}
 use Rattle.records.proofs.Laws.{there}
-use Rattle.records.proofs.Writing.{fits-sets, stays}
+use Rattle.records.proofs.Writing.{fits_sets, stays}
 use Rattle.records.specs.Bytes.{to_be}
 use lib.ListN.{length-set}
 use mathlib.Core.Path.{◌≡◌, sym}
@@ -29,7 +29,7 @@ unfolding to_be
 returns-then-has_bytes c =
     let room = there c.args.d.now c.args.at 2 c.has_bytes.ensures c.if-has_bytes.true in
     let e : c.args.v / 1 % 256 ≡ c.args.v % 256 = omega arith in
-    simp (add-one, ← e) (sym (fits-sets c.args.d.now c.args.at (to_be 2 c.args.v) room))
+    simp (add-one, ← e) (sym (fits_sets c.args.d.now c.args.at (to_be 2 c.args.v) room))
 
 pub returns-else-has_bytes : goal.returns-else-has_bytes
 unfolding to_be

@@ -1,5 +1,5 @@
 -- `repeats::marks::mark_at` meets its contract: an entry that stands in its slot is marked as its slot is, one that another stands there for is held by that; any other is marked by walking.
-use Rattle.repeats.proofs.Notes.{mark-before, mark-quick}
+use Rattle.repeats.proofs.Notes.{mark_before, mark_quick}
 use borrow.Author.Rules.{rules}
 use native.Mathlib.Omega.{arith}
 use Rattle.repeats.proofs.marks.mark_at.Statement.{statement}
@@ -30,10 +30,10 @@ element-copy-out-result : tie.Need-element-copy-out-result
 element-copy-out-result c = search rules
 
 returns : tie.Need-returns
-returns c = λ st f count pre hs r hc lk hp hi. mark-quick _ _ _ _ r hc _ _ _ _ _ _ pre lk hp hi c.before.before.before.before.before.before.seek.ensures c.before.before.before.before.before.if1.true c.before.before.before.position.ensures c.before.before.if2.true c.before.if3.true
+returns c = λ st f count pre hs r hc lk hp hi. mark_quick _ _ _ _ r hc _ _ _ _ _ _ pre lk hp hi c.before.before.before.before.before.before.seek.ensures c.before.before.before.before.before.if1.true c.before.before.before.position.ensures c.before.before.if2.true c.before.if3.true
 
 returns_2 : tie.Need-returns-2
-returns_2 c = λ st f count pre hs r hc lk hp hi. mark-before _ _ _ _ r hc _ _ _ _ _ _ pre lk hp hi c.before.before.before.before.before.before.seek.ensures c.before.before.before.before.before.if1.true c.before.before.before.position.ensures c.before.before.if2.true c.if4.true
+returns_2 c = λ st f count pre hs r hc lk hp hi. mark_before _ _ _ _ r hc _ _ _ _ _ _ pre lk hp hi c.before.before.before.before.before.before.seek.ensures c.before.before.before.before.before.if1.true c.before.before.before.position.ensures c.before.before.if2.true c.if4.true
 
 mark-of-requires : tie.Need-mark-of-requires
 mark-of-requires c κs = search rules

@@ -2,7 +2,7 @@
 use Prim.Native.Nat.{ℕ}
 use Rattle.entries.proofs.Walk.{behind_in}
 use Rattle.records.proofs.Views.{num_is, num_none}
-use Rattle.repeats.proofs.Notes.{entries-bad, entries_next, entries_none, entries-stuck}
+use Rattle.repeats.proofs.Notes.{entries_bad, entries_next, entries_none, entries_stuck}
 use Rattle.repeats.specs.Relations.Slots.{NotesEntries}
 use borrow.Author.Rules.{rules}
 use mathlib.Core.List.{List}
@@ -29,7 +29,7 @@ enum_told : tie.Need-enum-told invariant-loop decreases-loop
 enum_told c = search rules
 
 returns : tie.Need-returns invariant-loop decreases-loop
-returns c = c.before.before.before.before.loop.invariant _ (entries-bad _ _ _ c.before.before.before.loop-test.true (num_none c.before.before.read-str-behind.ensures c.enum_told.given.1))
+returns c = c.before.before.before.before.loop.invariant _ (entries_bad _ _ _ c.before.before.before.loop-test.true (num_none c.before.before.read-str-behind.ensures c.enum_told.given.1))
 
 sub-note-id : tie.Need-overflow-sub-note-id invariant-loop decreases-loop
 sub-note-id c =
@@ -59,7 +59,7 @@ enum_told_2 : tie.Need-enum-told-2 invariant-loop decreases-loop
 enum_told_2 c = search rules
 
 returns_2 : tie.Need-returns-2 invariant-loop decreases-loop
-returns_2 c = c.before.before.before.before.before.before.before.before.before.before.before.loop.invariant _ (entries-stuck _ _ _ c.before.before.before.before.before.before.before.before.before.before.loop-test.true c.before.before.skip-entry.ensures c.enum-told2.given.1)
+returns_2 c = c.before.before.before.before.before.before.before.before.before.before.before.loop.invariant _ (entries_stuck _ _ _ c.before.before.before.before.before.before.before.before.before.before.loop-test.true c.before.before.skip-entry.ensures c.enum-told2.given.1)
 
 sub_left : tie.Need-overflow-sub-left invariant-loop decreases-loop
 sub_left c = search rules

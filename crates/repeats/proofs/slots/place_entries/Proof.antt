@@ -3,7 +3,7 @@ use Prim.Native.Nat.{◌-◌, ℕ}
 use Rattle.entries.proofs.Lengths.{u16_small}
 use Rattle.entries.proofs.Walk.{behind_in}
 use Rattle.records.proofs.Views.{num_is, num_none}
-use Rattle.repeats.proofs.Places.{PlaceFrom, place_all, place-bad, place-next, place_none, place-stuck, place_unread}
+use Rattle.repeats.proofs.Places.{PlaceFrom, place_all, place_bad, place_next, place_none, place_stuck, place_unread}
 use borrow.Author.Rules.{rules}
 use mathlib.Core.List.{List}
 use native.Mathlib.Omega.{arith}
@@ -43,7 +43,7 @@ enum_told_2 c = search rules
 returns_2 : tie.Need-returns-2 invariant-loop decreases-loop
 returns_2 c =
     let count = num_is c.before.before.before.before.before.before.before.before.read-u16.ensures c.before.before.before.before.before.before.count.given.1 in
-    λ es f hr cl. place_all count (c.before.before.before.before.loop.invariant _ (place-bad _ _ (omega arith) (num_none c.before.before.read-str-behind.ensures c.enum-told2.given.1))) es f hr cl
+    λ es f hr cl. place_all count (c.before.before.before.before.loop.invariant _ (place_bad _ _ (omega arith) (num_none c.before.before.read-str-behind.ensures c.enum-told2.given.1))) es f hr cl
 
 sub-place : tie.Need-overflow-sub-place invariant-loop decreases-loop
 sub-place c =
@@ -75,7 +75,7 @@ enum_told_3 c = search rules
 returns_3 : tie.Need-returns-3 invariant-loop decreases-loop
 returns_3 c =
     let count = num_is c.before.before.before.before.before.before.before.before.before.before.before.before.before.before.before.read-u16.ensures c.before.before.before.before.before.before.before.before.before.before.before.before.before.count.given.1 in
-    λ es f hr cl. place_all count (c.before.before.before.before.before.before.before.before.before.before.before.loop.invariant _ (place-stuck _ _ (omega arith) c.before.before.skip-entry.ensures c.enum-told3.given.1)) es f hr cl
+    λ es f hr cl. place_all count (c.before.before.before.before.before.before.before.before.before.before.before.loop.invariant _ (place_stuck _ _ (omega arith) c.before.before.skip-entry.ensures c.enum-told3.given.1)) es f hr cl
 
 add-k : tie.Need-overflow-add-k invariant-loop decreases-loop
 add-k c =
@@ -89,7 +89,7 @@ loop_less c = search rules
 loop_again : tie.Need-loop-preserved invariant-loop decreases-loop
 loop_again c =
     let span = num_is c.before.before.before.before.before.before.before.before.before.before.read-str-behind.ensures c.before.before.before.before.before.before.before.before.a.given.1 in
-    λ out h. c.before.before.before.before.before.before.before.before.before.before.before.before.loop.invariant out (place-next _ _ _ c.before.before.before.before.before.before.before.before.before.before.before.loop-test.true span c.before.before.before.before.place.ensures c.before.before.before.skip-entry.ensures c.before.next.given.1 h)
+    λ out h. c.before.before.before.before.before.before.before.before.before.before.before.before.loop.invariant out (place_next _ _ _ c.before.before.before.before.before.before.before.before.before.before.before.loop-test.true span c.before.before.before.before.place.ensures c.before.before.before.skip-entry.ensures c.before.next.given.1 h)
 
 returns_4 : tie.Need-returns-4 invariant-loop decreases-loop
 returns_4 c =

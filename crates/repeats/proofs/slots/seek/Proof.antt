@@ -1,6 +1,6 @@
 -- `repeats::slots::seek` meets its contract. The loop's invariant: what is found in the slots that are left is what is found in all eight.
 use Prim.Native.Nat.{◌+◌, ◌-◌, ◌≤◌}
-use Rattle.repeats.proofs.Seeking.{seek-ended, seek_found, seek-starts, seek-turn, suited-at}
+use Rattle.repeats.proofs.Seeking.{seek_ended, seek_found, seek_starts, seek_turn, suited_at}
 use Rattle.repeats.specs.Relations.Slots.{seek_from, seek_of}
 use borrow.Author.Rules.{rules}
 use mathlib.Core.Path.{◌≡◌}
@@ -18,7 +18,7 @@ slot-requires : tie.Need-slot-requires invariant-loop decreases-loop
 slot-requires c κs = search rules
 
 loop_holds : tie.Need-loop-init invariant-loop decreases-loop
-loop_holds c = (seek-starts _ _ _ c.slot.ensures.0, omega arith)
+loop_holds c = (seek_starts _ _ _ c.slot.ensures.0, omega arith)
 
 add-position : tie.Need-overflow-add-position invariant-loop decreases-loop
 add-position c = search rules
@@ -39,7 +39,7 @@ add-result : tie.Need-overflow-add-result invariant-loop decreases-loop
 add-result c = search rules
 
 returns : tie.Need-returns invariant-loop decreases-loop
-returns c = seek_found _ _ _ _ c.before.before.before.before.loop-test.true (suited-at _ _ _ c.before.before.position.ensures c.before.is-suited.ensures c.if1.true) c.before.before.before.before.before.loop.invariant.0
+returns c = seek_found _ _ _ _ c.before.before.before.before.loop-test.true (suited_at _ _ _ c.before.before.position.ensures c.before.is-suited.ensures c.if1.true) c.before.before.before.before.before.loop.invariant.0
 
 add-j : tie.Need-overflow-add-j invariant-loop decreases-loop
 add-j c = search rules
@@ -48,10 +48,10 @@ loop_less : tie.Need-loop-smaller invariant-loop decreases-loop
 loop_less c = search rules
 
 loop_again : tie.Need-loop-preserved invariant-loop decreases-loop
-loop_again c = (seek-turn _ _ _ _ c.before.before.before.before.loop-test.true (suited-at _ _ _ c.before.before.position.ensures c.before.is-suited.ensures c.if1.false) c.before.before.before.before.before.loop.invariant.0, omega arith)
+loop_again c = (seek_turn _ _ _ _ c.before.before.before.before.loop-test.true (suited_at _ _ _ c.before.before.position.ensures c.before.is-suited.ensures c.if1.false) c.before.before.before.before.before.loop.invariant.0, omega arith)
 
 returns_2 : tie.Need-returns-2 invariant-loop decreases-loop
-returns_2 c = seek-ended _ _ _ _ c.loop-test.false c.before.loop.invariant.0
+returns_2 c = seek_ended _ _ _ _ c.loop-test.false c.before.loop.invariant.0
 
 pub seek-spec : {M : Type 1} → statement M
 seek-spec = tie.close (tie.spec invariant-loop decreases-loop slot-requires loop_holds add-position mul-position element-copy-out-position position-requires is-suited-requires add-result returns add-j loop_less loop_again returns_2)

@@ -1,6 +1,6 @@
 -- `repeats::slots::slot` meets its contract. The loop's invariant: what the bytes that are left make of the number so far is what all make of 0; and it is small.
 use Prim.Native.Nat.{◌%◌, ◌*◌, ◌+◌, ◌-◌, ◌/◌, ◌<◌, ℕ}
-use Rattle.decimals.proofs.Run.{run-done, run-turn}
+use Rattle.decimals.proofs.Run.{run_done, run_turn}
 use Rattle.decimals.specs.Bytes.{run}
 use Rattle.repeats.specs.Relations.Slots.{hash_step, mixed, slot_of}
 use borrow.Author.Rules.{rules}
@@ -39,7 +39,7 @@ loop_less c = search rules
 
 loop_again : tie.Need-loop-preserved invariant-loop decreases-loop
 unfolding hash_step
-loop_again c = (run-turn hash_step _ c.before.before.loop-test.true c.before.before.before.loop.invariant.0 (ap (λ (b : ℕ). (c.before.before.before.loop.h * 31 + b) % 4294967296) c.wide.ensures.0), omega arith)
+loop_again c = (run_turn hash_step _ c.before.before.loop-test.true c.before.before.before.loop.invariant.0 (ap (λ (b : ℕ). (c.before.before.before.loop.h * 31 + b) % 4294967296) c.wide.ensures.0), omega arith)
 
 add-result : tie.Need-overflow-add-result invariant-loop decreases-loop
 add-result c = search rules
@@ -49,7 +49,7 @@ mul-result c = search rules
 
 returns : tie.Need-returns invariant-loop decreases-loop
 unfolding slot_of mixed
-returns c = (ap (λ (h : ℕ). (((h + h / 65536) * 2654435769) % 4294967296) / 524288) (sym (run-done hash_step _ c.before.loop.h c.loop-test.false c.before.loop.invariant.0)), omega arith)
+returns c = (ap (λ (h : ℕ). (((h + h / 65536) * 2654435769) % 4294967296) / 524288) (sym (run_done hash_step _ c.before.loop.h c.loop-test.false c.before.loop.invariant.0)), omega arith)
 
 pub slot-spec : {M : Type 1} → statement M
 slot-spec = tie.close (tie.spec invariant-loop decreases-loop loop_holds mul-h shared-slice-read-wide wide-requires add-h add-i loop_less loop_again add-result mul-result returns)

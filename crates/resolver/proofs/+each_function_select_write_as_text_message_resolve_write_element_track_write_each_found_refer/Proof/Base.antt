@@ -144,7 +144,7 @@ call_function_at t = cycle.and 7 CallFunctionKinds.ps (cycle.is 7 CallFunctionKi
 abbrev pub call_function_below : ℕ → In 7 CallFunctionKinds.ps
 call_function_below t = cycle.and 7 CallFunctionKinds.ps (cycle.falls 7 CallFunctionKinds.ps ◌<◌ μ-call-function t) CallFunctionReads.Pre
 
--- what `expression-select` is given at the measure t, and what a call of it asks below t
+-- what `expression_select` is given at the measure t, and what a call of it asks below t
 abbrev pub expression_select_at : ℕ → In 7 ExpressionSelectKinds.ps
 expression_select_at t = cycle.and 7 ExpressionSelectKinds.ps (cycle.is 7 ExpressionSelectKinds.ps μ-expression-select t) ExpressionSelectReads.Pre
 
@@ -165,7 +165,7 @@ inline_as_text_at t = cycle.and 7 InlineAsTextKinds.ps (cycle.is 7 InlineAsTextK
 abbrev pub inline_as_text_below : ℕ → In 7 InlineAsTextKinds.ps
 inline_as_text_below t = cycle.and 7 InlineAsTextKinds.ps (cycle.falls 7 InlineAsTextKinds.ps ◌<◌ μ-inline-as-text t) InlineAsTextReads.Pre
 
--- what `inline-message` is given at the measure t, and what a call of it asks below t
+-- what `inline_message` is given at the measure t, and what a call of it asks below t
 abbrev pub inline_message_at : ℕ → In 7 InlineMessageKinds.ps
 inline_message_at t = cycle.and 7 InlineMessageKinds.ps (cycle.is 7 InlineMessageKinds.ps μ-inline-message t) InlineMessageReads.Pre
 

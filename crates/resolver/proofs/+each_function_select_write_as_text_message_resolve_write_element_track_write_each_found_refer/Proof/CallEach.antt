@@ -1,12 +1,12 @@
 -- What is left of `call-each`.
 use Prim.Native.Nat.{◌≤◌, ℕ}
 use Rattle.records.proofs.Views.{num_is, num_none}
-use Rattle.resolver.proofs.Calls.{InlinesAt, Taken, inlines-more, inlines-none, inlines-stop, none_yet, positional-all, positional-none, taken-first, taken-later}
-use Rattle.resolver.proofs.Parts.{positional-as, positional-stop}
+use Rattle.resolver.proofs.Calls.{InlinesAt, Taken, inlines_more, inlines_none, inlines_stop, none_yet, positional_all, positional_none, taken_first, taken_later}
+use Rattle.resolver.proofs.Parts.{positional_as, positional_stop}
 use Rattle.resolver.specs.Relations.Meets.{lent, World, env, world}
 use Rattle.state.specs.Progress.{progress_of}
 use Rattle.values.specs.Stored.{value_of}
-use Rattle.walks.proofs.Passing.{inline-passed}
+use Rattle.walks.proofs.Passing.{inline_passed}
 use borrow.Author.Rules.{rules}
 use lib.ListN.{length}
 use mathlib.Core.Logic.{⊎_elim}
@@ -36,7 +36,7 @@ pub enum_told : (t : ℕ) → CallEachLts.Need-enum-told (call_each_claims t) (c
 enum_told t c = search rules
 
 pub returns : (t : ℕ) → CallEachLts.Need-returns (call_each_claims t) (call_each_at t) CallEachReads.Post InvLoop μ-loop
-returns t c = positional-none _ _ _ (world c.before.before.before.before.before.before.before.before.args.store.now c.before.before.before.before.before.before.before.before.args.text.now c.before.before.before.before.before.before.before.before.args.list.now c.before.before.before.before.before.before.before.before.args.work.now c.before.before.before.before.before.before.before.before.args.trail.now (progress_of c.before.before.before.before.before.before.before.before.args.st.now)) _ _ (num_none c.before.before.read-u16.ensures c.enum_told.given.1)
+returns t c = positional_none _ _ _ (world c.before.before.before.before.before.before.before.before.args.store.now c.before.before.before.before.before.before.before.before.args.text.now c.before.before.before.before.before.before.before.before.args.list.now c.before.before.before.before.before.before.before.before.args.work.now c.before.before.before.before.before.before.before.before.args.trail.now (progress_of c.before.before.before.before.before.before.before.before.args.st.now)) _ _ (num_none c.before.before.read-u16.ensures c.enum_told.given.1)
 
 pub hold_wrong_requires : (t : ℕ) → CallEachLts.Need-hold-wrong-requires (call_each_claims t) (call_each_at t) CallEachReads.Post InvLoop μ-loop
 hold_wrong_requires t c κs = search rules
@@ -66,7 +66,7 @@ pub same_length_3 : (t : ℕ) → CallEachLts.Need-same-length-3 (call_each_clai
 same_length_3 t c = c.before.before.before.before.before.before.before.before.before.before.resolve.auto.1.1.1.1.1.0 ∙ c.before.before.before.before.before.before.before.before.before.before.before.before.before.before.before.before.before.before.loop.invariant.2
 
 pub returns_2 : (t : ℕ) → CallEachLts.Need-returns-2 (call_each_claims t) (call_each_at t) CallEachReads.Post InvLoop μ-loop
-returns_2 t c = positional-stop _ _ _ (num_is c.before.before.before.before.before.before.before.before.before.before.before.before.before.before.before.before.before.before.before.before.before.before.before.before.before.read-u16.ensures c.before.before.before.before.before.before.before.before.before.before.before.before.before.before.before.before.before.before.before.before.before.before.before.n.given.1) (λ end. c.before.before.before.before.before.before.before.before.before.before.before.before.before.before.before.before.before.before.loop.invariant.5 _ end (inlines-stop _ _ _ _ c.before.before.before.before.before.before.before.before.before.before.before.before.before.before.before.before.before.loop-test.true c.before.before.before.before.before.before.before.before.before.before.resolve.ensures (inline-passed _ _ _ c.before.before.skip-expression.ensures) c.enum-told2.given.1 end)) _ _
+returns_2 t c = positional_stop _ _ _ (num_is c.before.before.before.before.before.before.before.before.before.before.before.before.before.before.before.before.before.before.before.before.before.before.before.before.before.read-u16.ensures c.before.before.before.before.before.before.before.before.before.before.before.before.before.before.before.before.before.before.before.before.before.before.before.n.given.1) (λ end. c.before.before.before.before.before.before.before.before.before.before.before.before.before.before.before.before.before.before.loop.invariant.5 _ end (inlines_stop _ _ _ _ c.before.before.before.before.before.before.before.before.before.before.before.before.before.before.before.before.before.loop-test.true c.before.before.before.before.before.before.before.before.before.before.resolve.ensures (inline_passed _ _ _ c.before.before.skip-expression.ensures) c.enum-told2.given.1 end)) _ _
 
 pub sub_i : (t : ℕ) → CallEachLts.Need-overflow-sub-i (call_each_claims t) (call_each_at t) CallEachReads.Post InvLoop μ-loop
 sub_i t c = search rules
@@ -80,8 +80,8 @@ loop_again t c = (
   c.before.before.before.before.before.before.before.before.before.before.before.resolve.auto.1.1.1.1.0 ∙ c.before.before.before.before.before.before.before.before.before.before.before.before.before.before.before.before.before.before.before.loop.invariant.1,
   c.before.before.before.before.before.before.before.before.before.before.before.resolve.auto.1.1.1.1.1.0 ∙ c.before.before.before.before.before.before.before.before.before.before.before.before.before.before.before.before.before.before.before.loop.invariant.2,
   le_trans c.before.before.before.before.before.before.before.before.before.before.before.before.before.before.before.before.before.before.before.loop.invariant.3 c.before.before.before.before.before.before.before.before.before.before.before.resolve.ensures.kept.begun,
-  ⊎_elim (λ y. rw y.2 (taken-first _ c.before.before.before.before.before.before.before.before.before.before.before.before.before.before.before.before.before.before.loop-test.true y.0.taken c.before.before.before.before.before.before.before.before.before.before.before.before.before.before.before.before.before.before.before.loop.invariant.4 c.before.before.before.before.before.before.before.before.before.before.before.resolve.ensures)) (λ y. rw y.1 (taken-later _ c.before.before.before.before.before.before.before.before.before.before.before.before.before.before.before.before.before.before.loop-test.true y.0.left c.before.before.before.before.before.before.before.before.before.before.before.before.before.before.before.before.before.before.before.loop.invariant.4 c.before.before.before.before.before.before.before.before.before.before.before.resolve.ensures)) c.before.before.before.before.if1.branch,
-  λ v e h. c.before.before.before.before.before.before.before.before.before.before.before.before.before.before.before.before.before.before.before.loop.invariant.5 v e (inlines-more _ _ _ _ c.before.before.before.before.before.before.before.before.before.before.before.before.before.before.before.before.before.before.loop-test.true c.before.before.before.before.before.before.before.before.before.before.before.resolve.ensures (inline-passed _ _ _ c.before.before.before.skip-expression.ensures) c.before.q.given.1 v e h),
+  ⊎_elim (λ y. rw y.2 (taken_first _ c.before.before.before.before.before.before.before.before.before.before.before.before.before.before.before.before.before.before.loop-test.true y.0.taken c.before.before.before.before.before.before.before.before.before.before.before.before.before.before.before.before.before.before.before.loop.invariant.4 c.before.before.before.before.before.before.before.before.before.before.before.resolve.ensures)) (λ y. rw y.1 (taken_later _ c.before.before.before.before.before.before.before.before.before.before.before.before.before.before.before.before.before.before.loop-test.true y.0.left c.before.before.before.before.before.before.before.before.before.before.before.before.before.before.before.before.before.before.before.loop.invariant.4 c.before.before.before.before.before.before.before.before.before.before.before.resolve.ensures)) c.before.before.before.before.if1.branch,
+  λ v e h. c.before.before.before.before.before.before.before.before.before.before.before.before.before.before.before.before.before.before.before.loop.invariant.5 v e (inlines_more _ _ _ _ c.before.before.before.before.before.before.before.before.before.before.before.before.before.before.before.before.before.before.loop-test.true c.before.before.before.before.before.before.before.before.before.before.before.resolve.ensures (inline_passed _ _ _ c.before.before.before.skip-expression.ensures) c.before.q.given.1 v e h),
 )
 
 pub set_end_requires : (t : ℕ) → CallEachLts.Need-set-end-requires (call_each_claims t) (call_each_at t) CallEachReads.Post InvLoop μ-loop
@@ -97,4 +97,4 @@ pub same_length_6 : (t : ℕ) → CallEachLts.Need-same-length-6 (call_each_clai
 same_length_6 t c = c.before.before.before.loop.invariant.2
 
 pub returns_3 : (t : ℕ) → CallEachLts.Need-returns-3 (call_each_claims t) (call_each_at t) CallEachReads.Post InvLoop μ-loop
-returns_3 t c = positional-as _ _ _ c.set-end.ensures.0 c.set-end.ensures.2 (positional-all _ _ _ (num_is c.before.before.before.before.before.before.before.before.before.before.read-u16.ensures c.before.before.before.before.before.before.before.before.n.given.1) (λ e. omega (arith, c.before.before.loop-test.false)) c.before.before.before.loop.invariant.4 (c.before.before.before.loop.invariant.5 _ _ (inlines-none _ _ _ _ _ c.before.before.loop-test.false)))
+returns_3 t c = positional_as _ _ _ c.set-end.ensures.0 c.set-end.ensures.2 (positional_all _ _ _ (num_is c.before.before.before.before.before.before.before.before.before.before.read-u16.ensures c.before.before.before.before.before.before.before.before.n.given.1) (λ e. omega (arith, c.before.before.loop-test.false)) c.before.before.before.loop.invariant.4 (c.before.before.before.loop.invariant.5 _ _ (inlines_none _ _ _ _ _ c.before.before.loop-test.false)))

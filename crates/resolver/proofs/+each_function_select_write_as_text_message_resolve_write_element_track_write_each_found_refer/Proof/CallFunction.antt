@@ -1,7 +1,7 @@
 -- What is left of `call-function`.
 use Prim.Native.Nat.{ℕ}
 use Rattle.records.proofs.Views.{num_is, num_none}
-use Rattle.resolver.proofs.Calls.{called-none}
+use Rattle.resolver.proofs.Calls.{called_none}
 use Rattle.resolver.specs.Relations.Meets.{world}
 use Rattle.state.specs.Progress.{progress_of}
 use borrow.Author.Rules.{rules}
@@ -21,7 +21,7 @@ pub enum_told : (t : ℕ) → CallFunctionLts.Need-enum-told (call_function_clai
 enum_told t c = search rules
 
 pub returns : (t : ℕ) → CallFunctionLts.Need-returns (call_function_claims t) (call_function_at t) CallFunctionReads.Post
-returns t c = called-none _ _ _ (world c.before.before.before.before.before.before.before.before.args.store.now c.before.before.before.before.before.before.before.before.args.text.now c.before.before.before.before.before.before.before.before.args.list.now c.before.before.before.before.before.before.before.before.args.work.now c.before.before.before.before.before.before.before.before.args.trail.now (progress_of c.before.before.before.before.before.before.before.before.args.st.now)) _ _ (num_none c.before.before.read-str.ensures c.enum_told.given.1)
+returns t c = called_none _ _ _ (world c.before.before.before.before.before.before.before.before.args.store.now c.before.before.before.before.before.before.before.before.args.text.now c.before.before.before.before.before.before.before.before.args.list.now c.before.before.before.before.before.before.before.before.args.work.now c.before.before.before.before.before.before.before.before.args.trail.now (progress_of c.before.before.before.before.before.before.before.before.args.st.now)) _ _ (num_none c.before.before.read-str.ensures c.enum_told.given.1)
 
 pub element_copy_out_old : (t : ℕ) → CallFunctionLts.Need-element-copy-out-old (call_function_claims t) (call_function_at t) CallFunctionReads.Post
 element_copy_out_old t c = search rules

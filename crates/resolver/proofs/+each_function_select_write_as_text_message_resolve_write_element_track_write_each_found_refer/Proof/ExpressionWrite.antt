@@ -1,7 +1,7 @@
 -- What is left of `expression-write`.
 use Prim.Native.Nat.{ℕ}
 use Rattle.records.proofs.Views.{num_is, num_none}
-use Rattle.resolver.proofs.Expressions.{expression-deep, expression-inline, expression-none, expression-over, expression-select}
+use Rattle.resolver.proofs.Expressions.{expression_deep, expression_inline, expression_none, expression_over, expression_select}
 use Rattle.resolver.specs.Relations.Meets.{world}
 use Rattle.state.specs.Progress.{progress_of}
 use borrow.Author.Rules.{rules}
@@ -14,10 +14,10 @@ pub element_copy_out_if1 : (t : ℕ) → ExpressionWriteLts.Need-element-copy-ou
 element_copy_out_if1 t c = search rules
 
 pub returns : (t : ℕ) → ExpressionWriteLts.Need-returns (expression_write_claims t) (expression_write_at t) ExpressionWriteReads.Post
-returns t c = expression-over _ _ _ (world c.before.before.before.before.before.before.before.args.store.now c.before.before.before.before.before.before.before.args.text.now c.before.before.before.before.before.before.before.args.list.now c.before.before.before.before.before.before.before.args.work.now c.before.before.before.before.before.before.before.args.trail.now (progress_of c.before.before.before.before.before.before.before.args.st.now)) c.if1.true
+returns t c = expression_over _ _ _ (world c.before.before.before.before.before.before.before.args.store.now c.before.before.before.before.before.before.before.args.text.now c.before.before.before.before.before.before.before.args.list.now c.before.before.before.before.before.before.before.args.work.now c.before.before.before.before.before.before.before.args.trail.now (progress_of c.before.before.before.before.before.before.before.args.st.now)) c.if1.true
 
 pub returns_2 : (t : ℕ) → ExpressionWriteLts.Need-returns-2 (expression_write_claims t) (expression_write_at t) ExpressionWriteReads.Post
-returns_2 t c = expression-deep _ _ _ (world c.before.before.before.before.before.before.before.before.args.store.now c.before.before.before.before.before.before.before.before.args.text.now c.before.before.before.before.before.before.before.before.args.list.now c.before.before.before.before.before.before.before.before.args.work.now c.before.before.before.before.before.before.before.before.args.trail.now (progress_of c.before.before.before.before.before.before.before.before.args.st.now)) c.if2.true
+returns_2 t c = expression_deep _ _ _ (world c.before.before.before.before.before.before.before.before.args.store.now c.before.before.before.before.before.before.before.before.args.text.now c.before.before.before.before.before.before.before.before.args.list.now c.before.before.before.before.before.before.before.before.args.work.now c.before.before.before.before.before.before.before.before.args.trail.now (progress_of c.before.before.before.before.before.before.before.before.args.st.now)) c.if2.true
 
 pub read_byte_requires : (t : ℕ) → ExpressionWriteLts.Need-read-byte-requires (expression_write_claims t) (expression_write_at t) ExpressionWriteReads.Post
 read_byte_requires t c κs = search rules
@@ -29,7 +29,7 @@ pub enum_told : (t : ℕ) → ExpressionWriteLts.Need-enum-told (expression_writ
 enum_told t c = search rules
 
 pub returns_3 : (t : ℕ) → ExpressionWriteLts.Need-returns-3 (expression_write_claims t) (expression_write_at t) ExpressionWriteReads.Post
-returns_3 t c = expression-none _ _ _ (world c.before.before.before.before.before.before.before.before.before.before.before.args.store.now c.before.before.before.before.before.before.before.before.before.before.before.args.text.now c.before.before.before.before.before.before.before.before.before.before.before.args.list.now c.before.before.before.before.before.before.before.before.before.before.before.args.work.now c.before.before.before.before.before.before.before.before.before.before.before.args.trail.now (progress_of c.before.before.before.before.before.before.before.before.before.before.before.args.st.now)) (num_none c.before.before.read_byte.ensures c.enum_told.given.1)
+returns_3 t c = expression_none _ _ _ (world c.before.before.before.before.before.before.before.before.before.before.before.args.store.now c.before.before.before.before.before.before.before.before.before.before.before.args.text.now c.before.before.before.before.before.before.before.before.before.before.before.args.list.now c.before.before.before.before.before.before.before.before.before.before.before.args.work.now c.before.before.before.before.before.before.before.before.before.before.before.args.trail.now (progress_of c.before.before.before.before.before.before.before.before.before.before.before.args.st.now)) (num_none c.before.before.read_byte.ensures c.enum_told.given.1)
 
 pub sub_select : (t : ℕ) → ExpressionWriteLts.Need-overflow-sub-select (expression_write_claims t) (expression_write_at t) ExpressionWriteReads.Post
 sub_select t c = search rules
@@ -49,7 +49,7 @@ same_length_3 t c = search rules
 pub returns_4 : (t : ℕ) → ExpressionWriteLts.Need-returns-4 (expression_write_claims t) (expression_write_at t) ExpressionWriteReads.Post
 returns_4 t c =
     let tag_is = num_is c.before.before.before.before.before.before.before.before.before.before.before.before.before.before.before.before.before.read_byte.ensures c.before.before.before.before.before.before.before.before.before.before.before.before.before.before.before.tag.given.1 in
-    expression-select _ _ _ _ _ {w = (world c.before.before.before.before.before.before.before.before.before.before.before.before.before.before.before.before.before.before.before.before.before.before.before.before.before.before.args.store.now c.before.before.before.before.before.before.before.before.before.before.before.before.before.before.before.before.before.before.before.before.before.before.before.before.before.before.args.text.now c.before.before.before.before.before.before.before.before.before.before.before.before.before.before.before.before.before.before.before.before.before.before.before.before.before.before.args.list.now c.before.before.before.before.before.before.before.before.before.before.before.before.before.before.before.before.before.before.before.before.before.before.before.before.before.before.args.work.now c.before.before.before.before.before.before.before.before.before.before.before.before.before.before.before.before.before.before.before.before.before.before.before.before.before.before.args.trail.now (progress_of c.before.before.before.before.before.before.before.before.before.before.before.before.before.before.before.before.before.before.before.before.before.before.before.before.before.before.args.st.now))} tag_is c.before.before.before.before.before.before.before.before.before.before.before.before.before.if3.true c.before.before.before.before.before.before.select.ensures
+    expression_select _ _ _ _ _ {w = (world c.before.before.before.before.before.before.before.before.before.before.before.before.before.before.before.before.before.before.before.before.before.before.before.before.before.before.args.store.now c.before.before.before.before.before.before.before.before.before.before.before.before.before.before.before.before.before.before.before.before.before.before.before.before.before.before.args.text.now c.before.before.before.before.before.before.before.before.before.before.before.before.before.before.before.before.before.before.before.before.before.before.before.before.before.before.args.list.now c.before.before.before.before.before.before.before.before.before.before.before.before.before.before.before.before.before.before.before.before.before.before.before.before.before.before.args.work.now c.before.before.before.before.before.before.before.before.before.before.before.before.before.before.before.before.before.before.before.before.before.before.before.before.before.before.args.trail.now (progress_of c.before.before.before.before.before.before.before.before.before.before.before.before.before.before.before.before.before.before.before.before.before.before.before.before.before.before.args.st.now))} tag_is c.before.before.before.before.before.before.before.before.before.before.before.before.before.if3.true c.before.before.before.before.before.before.select.ensures
 
 pub write_requires : (t : ℕ) → ExpressionWriteLts.Need-write-requires (expression_write_claims t) (expression_write_at t) ExpressionWriteReads.Post
 write_requires t c κs = (omega (arith, c.before.before.before.before.before.before.before.before.before.before.before.before.before.before.before.before.before.before.before.requires.0), tt)
@@ -66,4 +66,4 @@ same_length_6 t c = search rules
 pub returns_5 : (t : ℕ) → ExpressionWriteLts.Need-returns-5 (expression_write_claims t) (expression_write_at t) ExpressionWriteReads.Post
 returns_5 t c =
     let tag_is = num_is c.before.before.before.before.before.before.before.before.before.before.before.before.before.before.before.before.before.read_byte.ensures c.before.before.before.before.before.before.before.before.before.before.before.before.before.before.before.tag.given.1 in
-    expression-inline _ _ _ _ _ {w = (world c.before.before.before.before.before.before.before.before.before.before.before.before.before.before.before.before.before.before.before.before.before.before.before.before.before.before.args.store.now c.before.before.before.before.before.before.before.before.before.before.before.before.before.before.before.before.before.before.before.before.before.before.before.before.before.before.args.text.now c.before.before.before.before.before.before.before.before.before.before.before.before.before.before.before.before.before.before.before.before.before.before.before.before.before.before.args.list.now c.before.before.before.before.before.before.before.before.before.before.before.before.before.before.before.before.before.before.before.before.before.before.before.before.before.before.args.work.now c.before.before.before.before.before.before.before.before.before.before.before.before.before.before.before.before.before.before.before.before.before.before.before.before.before.before.args.trail.now (progress_of c.before.before.before.before.before.before.before.before.before.before.before.before.before.before.before.before.before.before.before.before.before.before.before.before.before.before.args.st.now))} tag_is c.before.before.before.before.before.before.before.before.before.before.before.before.before.if3.false c.before.before.before.before.before.before.write.ensures
+    expression_inline _ _ _ _ _ {w = (world c.before.before.before.before.before.before.before.before.before.before.before.before.before.before.before.before.before.before.before.before.before.before.before.before.before.before.args.store.now c.before.before.before.before.before.before.before.before.before.before.before.before.before.before.before.before.before.before.before.before.before.before.before.before.before.before.args.text.now c.before.before.before.before.before.before.before.before.before.before.before.before.before.before.before.before.before.before.before.before.before.before.before.before.before.before.args.list.now c.before.before.before.before.before.before.before.before.before.before.before.before.before.before.before.before.before.before.before.before.before.before.before.before.before.before.args.work.now c.before.before.before.before.before.before.before.before.before.before.before.before.before.before.before.before.before.before.before.before.before.before.before.before.before.before.args.trail.now (progress_of c.before.before.before.before.before.before.before.before.before.before.before.before.before.before.before.before.before.before.before.before.before.before.before.before.before.before.args.st.now))} tag_is c.before.before.before.before.before.before.before.before.before.before.before.before.before.if3.false c.before.before.before.before.before.before.write.ensures

@@ -1,7 +1,7 @@
 -- What is left of `inline-as_text`.
 use Prim.Native.Nat.{ℕ}
 use Rattle.heads.proofs.Heads.{text_tag_law}
-use Rattle.resolver.proofs.Inlines.{inline-message, inline-nested, inline-term}
+use Rattle.resolver.proofs.Inlines.{inline_message, inline_nested, inline_term}
 use Rattle.resolver.proofs.Parts.{text_deep}
 use Rattle.state.specs.Progress.{Progress, progress_of}
 use borrow.Author.Rules.{rules}
@@ -33,10 +33,10 @@ pub same_length_2 : (t : ℕ) → InlineAsTextLts.Need-same-length-2 (inline_as_
 same_length_2 t c = c.before.before.before.before.before.before.before.before.before.before.before.before.message.auto.1.1.1.1.0
 
 pub same_length_3 : (t : ℕ) → InlineAsTextLts.Need-same-length-3 (inline_as_text_claims t) (inline_as_text_at t) InlineAsTextReads.Post
-same_length_3 t c = c.before.before.keep-text.auto.0 ∙ c.before.before.before.before.before.before.before.before.before.before.before.before.message.auto.1.1.1.1.1.0
+same_length_3 t c = c.before.before.keep_text.auto.0 ∙ c.before.before.before.before.before.before.before.before.before.before.before.before.message.auto.1.1.1.1.1.0
 
 pub returns : (t : ℕ) → InlineAsTextLts.Need-returns (inline_as_text_claims t) (inline_as_text_at t) InlineAsTextReads.Post
-returns t c = λ hb ht. c.before.before.keep-text.ensures.kept _ _ _ c.before.before.before.before.before.before.before.before.before.before.before.before.before.before.before.before.before.before.before.before.before.before.before.before.before.before.before.before.before.args.text.now c.before.before.before.before.before.before.before.before.before.before.before.before.before.before.before.before.before.before.before.before.before.before.before.before.before.before.before.before.before.args.list.now c.before.before.before.before.before.before.before.before.before.before.before.before.before.before.before.before.before.before.before.before.before.before.before.before.before.before.before.before.before.args.work.now c.before.before.before.before.before.before.before.before.before.before.before.before.before.before.before.before.before.before.before.before.before.before.before.before.before.before.before.before.before.args.trail.now (progress_of c.before.before.before.before.before.before.before.before.before.before.before.before.before.before.before.before.before.before.before.before.before.before.before.before.before.before.before.before.before.args.st.now) c.before.before.before.before.before.before.before.before.before.before.before.before.before.before.before.before.before.before.before.before.set-aside.ensures _ _ _ _ (inline-message _ _ _ _ _ hb c.before.before.before.before.before.before.before.before.before.before.before.before.before.before.before.before.before.before.before.if1.true c.before.before.before.before.before.before.before.before.before.before.before.before.message.ensures) refl refl
+returns t c = λ hb ht. c.before.before.keep_text.ensures.kept _ _ _ c.before.before.before.before.before.before.before.before.before.before.before.before.before.before.before.before.before.before.before.before.before.before.before.before.before.before.before.before.before.args.text.now c.before.before.before.before.before.before.before.before.before.before.before.before.before.before.before.before.before.before.before.before.before.before.before.before.before.before.before.before.before.args.list.now c.before.before.before.before.before.before.before.before.before.before.before.before.before.before.before.before.before.before.before.before.before.before.before.before.before.before.before.before.before.args.work.now c.before.before.before.before.before.before.before.before.before.before.before.before.before.before.before.before.before.before.before.before.before.before.before.before.before.before.before.before.before.args.trail.now (progress_of c.before.before.before.before.before.before.before.before.before.before.before.before.before.before.before.before.before.before.before.before.before.before.before.before.before.before.before.before.before.args.st.now) c.before.before.before.before.before.before.before.before.before.before.before.before.before.before.before.before.before.before.before.before.set-aside.ensures _ _ _ _ (inline_message _ _ _ _ _ hb c.before.before.before.before.before.before.before.before.before.before.before.before.before.before.before.before.before.before.before.if1.true c.before.before.before.before.before.before.before.before.before.before.before.before.message.ensures) refl refl
 
 pub returns_2 : (t : ℕ) → InlineAsTextLts.Need-returns-2 (inline_as_text_claims t) (inline_as_text_at t) InlineAsTextReads.Post
 returns_2 t c = λ hb ht. text_deep _ _ _ c.before.before.before.before.before.before.before.before.before.before.before.args.text.now c.before.before.before.before.before.before.before.before.before.before.before.args.list.now c.before.before.before.before.before.before.before.before.before.before.before.args.work.now c.before.before.before.before.before.before.before.before.before.before.before.args.trail.now (progress_of c.before.before.before.before.before.before.before.before.before.before.before.args.st.now) _ c.before.before.set-aside.ensures c.if2.true
@@ -60,7 +60,7 @@ pub same_length_6 : (t : ℕ) → InlineAsTextLts.Need-same-length-6 (inline_as_
 same_length_6 t c = c.before.before.keep-text2.auto.0 ∙ c.before.before.before.before.before.before.before.before.before.before.before.before.refer.auto.1.1.1.1.1.0
 
 pub returns_3 : (t : ℕ) → InlineAsTextLts.Need-returns-3 (inline_as_text_claims t) (inline_as_text_at t) InlineAsTextReads.Post
-returns_3 t c = λ hb ht. c.before.before.keep-text2.ensures.kept _ _ _ c.before.before.before.before.before.before.before.before.before.before.before.before.before.before.before.before.before.before.before.before.before.before.before.before.before.before.before.before.before.before.before.args.text.now c.before.before.before.before.before.before.before.before.before.before.before.before.before.before.before.before.before.before.before.before.before.before.before.before.before.before.before.before.before.before.before.args.list.now c.before.before.before.before.before.before.before.before.before.before.before.before.before.before.before.before.before.before.before.before.before.before.before.before.before.before.before.before.before.before.before.args.work.now c.before.before.before.before.before.before.before.before.before.before.before.before.before.before.before.before.before.before.before.before.before.before.before.before.before.before.before.before.before.before.before.args.trail.now (progress_of c.before.before.before.before.before.before.before.before.before.before.before.before.before.before.before.before.before.before.before.before.before.before.before.before.before.before.before.before.before.before.before.args.st.now) c.before.before.before.before.before.before.before.before.before.before.before.before.before.before.before.before.before.before.before.before.before.before.set-aside.ensures _ _ _ _ (inline-term _ _ _ _ _ hb c.before.before.before.before.before.before.before.before.before.before.before.before.before.before.before.before.before.before.before.if3.true c.before.before.before.before.before.before.before.before.before.before.before.before.refer.ensures) refl refl
+returns_3 t c = λ hb ht. c.before.before.keep-text2.ensures.kept _ _ _ c.before.before.before.before.before.before.before.before.before.before.before.before.before.before.before.before.before.before.before.before.before.before.before.before.before.before.before.before.before.before.before.args.text.now c.before.before.before.before.before.before.before.before.before.before.before.before.before.before.before.before.before.before.before.before.before.before.before.before.before.before.before.before.before.before.before.args.list.now c.before.before.before.before.before.before.before.before.before.before.before.before.before.before.before.before.before.before.before.before.before.before.before.before.before.before.before.before.before.before.before.args.work.now c.before.before.before.before.before.before.before.before.before.before.before.before.before.before.before.before.before.before.before.before.before.before.before.before.before.before.before.before.before.before.before.args.trail.now (progress_of c.before.before.before.before.before.before.before.before.before.before.before.before.before.before.before.before.before.before.before.before.before.before.before.before.before.before.before.before.before.before.before.args.st.now) c.before.before.before.before.before.before.before.before.before.before.before.before.before.before.before.before.before.before.before.before.before.before.set-aside.ensures _ _ _ _ (inline_term _ _ _ _ _ hb c.before.before.before.before.before.before.before.before.before.before.before.before.before.before.before.before.before.before.before.if3.true c.before.before.before.before.before.before.before.before.before.before.before.before.refer.ensures) refl refl
 
 pub sub_write : (t : ℕ) → InlineAsTextLts.Need-overflow-sub-write (inline_as_text_claims t) (inline_as_text_at t) InlineAsTextReads.Post
 sub_write t c = search rules
@@ -81,4 +81,4 @@ pub same_length_9 : (t : ℕ) → InlineAsTextLts.Need-same-length-9 (inline_as_
 same_length_9 t c = c.before.before.keep-text3.auto.0 ∙ c.before.before.before.before.before.before.before.before.before.before.before.before.write.auto.1.1.1.1.1.0
 
 pub returns_4 : (t : ℕ) → InlineAsTextLts.Need-returns-4 (inline_as_text_claims t) (inline_as_text_at t) InlineAsTextReads.Post
-returns_4 t c = λ hb ht. c.before.before.keep-text3.ensures.kept _ _ _ c.before.before.before.before.before.before.before.before.before.before.before.before.before.before.before.before.before.before.before.before.before.before.before.before.before.before.before.before.before.before.before.args.text.now c.before.before.before.before.before.before.before.before.before.before.before.before.before.before.before.before.before.before.before.before.before.before.before.before.before.before.before.before.before.before.before.args.list.now c.before.before.before.before.before.before.before.before.before.before.before.before.before.before.before.before.before.before.before.before.before.before.before.before.before.before.before.before.before.before.before.args.work.now c.before.before.before.before.before.before.before.before.before.before.before.before.before.before.before.before.before.before.before.before.before.before.before.before.before.before.before.before.before.before.before.args.trail.now (progress_of c.before.before.before.before.before.before.before.before.before.before.before.before.before.before.before.before.before.before.before.before.before.before.before.before.before.before.before.before.before.before.before.args.st.now) c.before.before.before.before.before.before.before.before.before.before.before.before.before.before.before.before.before.before.before.before.before.before.set-aside.ensures _ _ _ _ (inline-nested _ _ _ _ _ hb (text_tag_law _ ht (λ q. absurd (c.before.before.before.before.before.before.before.before.before.before.before.before.before.before.before.before.before.before.before.before.before.if1.false q)) (λ q. absurd (c.before.before.before.before.before.before.before.before.before.before.before.before.before.before.before.before.before.before.before.if3.false q)) (λ q. q)) c.before.before.before.before.before.before.before.before.before.before.before.before.write.ensures) refl refl
+returns_4 t c = λ hb ht. c.before.before.keep-text3.ensures.kept _ _ _ c.before.before.before.before.before.before.before.before.before.before.before.before.before.before.before.before.before.before.before.before.before.before.before.before.before.before.before.before.before.before.before.args.text.now c.before.before.before.before.before.before.before.before.before.before.before.before.before.before.before.before.before.before.before.before.before.before.before.before.before.before.before.before.before.before.before.args.list.now c.before.before.before.before.before.before.before.before.before.before.before.before.before.before.before.before.before.before.before.before.before.before.before.before.before.before.before.before.before.before.before.args.work.now c.before.before.before.before.before.before.before.before.before.before.before.before.before.before.before.before.before.before.before.before.before.before.before.before.before.before.before.before.before.before.before.args.trail.now (progress_of c.before.before.before.before.before.before.before.before.before.before.before.before.before.before.before.before.before.before.before.before.before.before.before.before.before.before.before.before.before.before.before.args.st.now) c.before.before.before.before.before.before.before.before.before.before.before.before.before.before.before.before.before.before.before.before.before.before.set-aside.ensures _ _ _ _ (inline_nested _ _ _ _ _ hb (text_tag_law _ ht (λ q. absurd (c.before.before.before.before.before.before.before.before.before.before.before.before.before.before.before.before.before.before.before.before.before.if1.false q)) (λ q. absurd (c.before.before.before.before.before.before.before.before.before.before.before.before.before.before.before.before.before.before.before.if3.false q)) (λ q. q)) c.before.before.before.before.before.before.before.before.before.before.before.before.write.ensures) refl refl

@@ -2,7 +2,7 @@
 use Prim.Native.Nat.{ℕ}
 use Rattle.records.proofs.Views.{num_is, num_none}
 use Rattle.resolver.proofs.Parts.{lone_other, lone_variable}
-use Rattle.resolver.proofs.Values.{value-deep, value-function, value_none, value-of-text, value-over}
+use Rattle.resolver.proofs.Values.{value_deep, value_function, value_none, value_of_text, value_over}
 use Rattle.resolver.specs.Relations.Meets.{world}
 use Rattle.state.specs.Progress.{progress_of}
 use borrow.Author.Rules.{rules}
@@ -16,10 +16,10 @@ pub element_copy_out_if1 : (t : ℕ) → InlineResolveLts.Need-element-copy-out-
 element_copy_out_if1 t c = search rules
 
 pub returns : (t : ℕ) → InlineResolveLts.Need-returns (inline_resolve_claims t) (inline_resolve_at t) InlineResolveReads.Post
-returns t c = value-over _ _ _ (world c.before.before.before.before.before.before.before.args.store.now c.before.before.before.before.before.before.before.args.text.now c.before.before.before.before.before.before.before.args.list.now c.before.before.before.before.before.before.before.args.work.now c.before.before.before.before.before.before.before.args.trail.now (progress_of c.before.before.before.before.before.before.before.args.st.now)) _ c.if1.true
+returns t c = value_over _ _ _ (world c.before.before.before.before.before.before.before.args.store.now c.before.before.before.before.before.before.before.args.text.now c.before.before.before.before.before.before.before.args.list.now c.before.before.before.before.before.before.before.args.work.now c.before.before.before.before.before.before.before.args.trail.now (progress_of c.before.before.before.before.before.before.before.args.st.now)) _ c.if1.true
 
 pub returns_2 : (t : ℕ) → InlineResolveLts.Need-returns-2 (inline_resolve_claims t) (inline_resolve_at t) InlineResolveReads.Post
-returns_2 t c = value-deep _ _ _ (world c.before.before.before.before.before.before.before.before.args.store.now c.before.before.before.before.before.before.before.before.args.text.now c.before.before.before.before.before.before.before.before.args.list.now c.before.before.before.before.before.before.before.before.args.work.now c.before.before.before.before.before.before.before.before.args.trail.now (progress_of c.before.before.before.before.before.before.before.before.args.st.now)) _ c.if2.true
+returns_2 t c = value_deep _ _ _ (world c.before.before.before.before.before.before.before.before.args.store.now c.before.before.before.before.before.before.before.before.args.text.now c.before.before.before.before.before.before.before.before.args.list.now c.before.before.before.before.before.before.before.before.args.work.now c.before.before.before.before.before.before.before.before.args.trail.now (progress_of c.before.before.before.before.before.before.before.before.args.st.now)) _ c.if2.true
 
 pub read_byte_requires : (t : ℕ) → InlineResolveLts.Need-read-byte-requires (inline_resolve_claims t) (inline_resolve_at t) InlineResolveReads.Post
 read_byte_requires t c κs = search rules
@@ -66,7 +66,7 @@ pub returns_5 : (t : ℕ) → InlineResolveLts.Need-returns-5 (inline_resolve_cl
 returns_5 t c =
     let tag_is = num_is c.before.before.before.before.before.before.before.before.before.before.before.before.before.before.before.before.before.before.before.read_byte.ensures c.before.before.before.before.before.before.before.before.before.before.before.before.before.before.before.before.before.tag.given.1 in
     let gives = sym c.before.before.before.before.before.before.before.before.before.before.before.before.before.before.gives-text.ensures ∙ c.before.before.before.before.before.before.before.before.before.before.before.before.before.if4.true in
-    value-of-text _ _ _ _ _ tag_is {w = (world c.before.before.before.before.before.before.before.before.before.before.before.before.before.before.before.before.before.before.before.before.before.before.before.before.before.before.before.before.args.store.now c.before.before.before.before.before.before.before.before.before.before.before.before.before.before.before.before.before.before.before.before.before.before.before.before.before.before.before.before.args.text.now c.before.before.before.before.before.before.before.before.before.before.before.before.before.before.before.before.before.before.before.before.before.before.before.before.before.before.before.before.args.list.now c.before.before.before.before.before.before.before.before.before.before.before.before.before.before.before.before.before.before.before.before.before.before.before.before.before.before.before.before.args.work.now c.before.before.before.before.before.before.before.before.before.before.before.before.before.before.before.before.before.before.before.before.before.before.before.before.before.before.before.before.args.trail.now (progress_of c.before.before.before.before.before.before.before.before.before.before.before.before.before.before.before.before.before.before.before.before.before.before.before.before.before.before.before.before.args.st.now))} (c.before.before.before.before.before.before.as-text.ensures tag_is gives) gives
+    value_of_text _ _ _ _ _ tag_is {w = (world c.before.before.before.before.before.before.before.before.before.before.before.before.before.before.before.before.before.before.before.before.before.before.before.before.before.before.before.before.args.store.now c.before.before.before.before.before.before.before.before.before.before.before.before.before.before.before.before.before.before.before.before.before.before.before.before.before.before.before.before.args.text.now c.before.before.before.before.before.before.before.before.before.before.before.before.before.before.before.before.before.before.before.before.before.before.before.before.before.before.before.before.args.list.now c.before.before.before.before.before.before.before.before.before.before.before.before.before.before.before.before.before.before.before.before.before.before.before.before.before.before.before.before.args.work.now c.before.before.before.before.before.before.before.before.before.before.before.before.before.before.before.before.before.before.before.before.before.before.before.before.before.before.before.before.args.trail.now (progress_of c.before.before.before.before.before.before.before.before.before.before.before.before.before.before.before.before.before.before.before.before.before.before.before.before.before.before.before.before.args.st.now))} (c.before.before.before.before.before.before.as-text.ensures tag_is gives) gives
 
 pub sub_function : (t : ℕ) → InlineResolveLts.Need-overflow-sub-function (inline_resolve_claims t) (inline_resolve_at t) InlineResolveReads.Post
 sub_function t c = search rules
@@ -87,7 +87,7 @@ pub returns_6 : (t : ℕ) → InlineResolveLts.Need-returns-6 (inline_resolve_cl
 returns_6 t c =
     let tag_is = num_is c.before.before.before.before.before.before.before.before.before.before.before.before.before.before.before.before.before.before.before.before.read_byte.ensures c.before.before.before.before.before.before.before.before.before.before.before.before.before.before.before.before.before.before.tag.given.1 in
     let three = c.before.before.before.before.before.before.before.before.before.before.before.before.before.if5.true in
-    value-function _ _ _ _ _ tag_is {w = (world c.before.before.before.before.before.before.before.before.before.before.before.before.before.before.before.before.before.before.before.before.before.before.before.before.before.before.before.before.before.args.store.now c.before.before.before.before.before.before.before.before.before.before.before.before.before.before.before.before.before.before.before.before.before.before.before.before.before.before.before.before.before.args.text.now c.before.before.before.before.before.before.before.before.before.before.before.before.before.before.before.before.before.before.before.before.before.before.before.before.before.before.before.before.before.args.list.now c.before.before.before.before.before.before.before.before.before.before.before.before.before.before.before.before.before.before.before.before.before.before.before.before.before.before.before.before.before.args.work.now c.before.before.before.before.before.before.before.before.before.before.before.before.before.before.before.before.before.before.before.before.before.before.before.before.before.before.before.before.before.args.trail.now (progress_of c.before.before.before.before.before.before.before.before.before.before.before.before.before.before.before.before.before.before.before.before.before.before.before.before.before.before.before.before.before.args.st.now))} (λ q. omega (arith, three)) (λ q. omega (arith, three)) (λ q. omega (arith, three)) (λ q. omega (arith, three)) (λ q. omega (arith, three)) (λ q. omega (arith, three)) c.before.before.before.before.before.before.function.ensures
+    value_function _ _ _ _ _ tag_is {w = (world c.before.before.before.before.before.before.before.before.before.before.before.before.before.before.before.before.before.before.before.before.before.before.before.before.before.before.before.before.before.args.store.now c.before.before.before.before.before.before.before.before.before.before.before.before.before.before.before.before.before.before.before.before.before.before.before.before.before.before.before.before.before.args.text.now c.before.before.before.before.before.before.before.before.before.before.before.before.before.before.before.before.before.before.before.before.before.before.before.before.before.before.before.before.before.args.list.now c.before.before.before.before.before.before.before.before.before.before.before.before.before.before.before.before.before.before.before.before.before.before.before.before.before.before.before.before.before.args.work.now c.before.before.before.before.before.before.before.before.before.before.before.before.before.before.before.before.before.before.before.before.before.before.before.before.before.before.before.before.before.args.trail.now (progress_of c.before.before.before.before.before.before.before.before.before.before.before.before.before.before.before.before.before.before.before.before.before.before.before.before.before.before.before.before.before.args.st.now))} (λ q. omega (arith, three)) (λ q. omega (arith, three)) (λ q. omega (arith, three)) (λ q. omega (arith, three)) (λ q. omega (arith, three)) (λ q. omega (arith, three)) c.before.before.before.before.before.before.function.ensures
 
 pub resolve_leaf_requires_2 : (t : ℕ) → InlineResolveLts.Need-resolve-leaf-requires-2 (inline_resolve_claims t) (inline_resolve_at t) InlineResolveReads.Post
 resolve_leaf_requires_2 t c κs = search rules

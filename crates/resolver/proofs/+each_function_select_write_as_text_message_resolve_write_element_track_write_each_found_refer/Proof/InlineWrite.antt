@@ -1,7 +1,7 @@
 -- What is left of `inline-write`.
 use Prim.Native.Nat.{ℕ}
 use Rattle.records.proofs.Views.{num_is, num_none}
-use Rattle.resolver.proofs.Inlines.{inline-deep, inline-message, inline-nested, inline-none, inline-over, inline-term}
+use Rattle.resolver.proofs.Inlines.{inline_deep, inline_message, inline_nested, inline_none, inline_over, inline_term}
 use Rattle.resolver.specs.Relations.Meets.{world}
 use Rattle.state.specs.Progress.{progress_of}
 use borrow.Author.Rules.{rules}
@@ -14,10 +14,10 @@ pub element_copy_out_if1 : (t : ℕ) → InlineWriteLts.Need-element-copy-out-if
 element_copy_out_if1 t c = search rules
 
 pub returns : (t : ℕ) → InlineWriteLts.Need-returns (inline_write_claims t) (inline_write_at t) InlineWriteReads.Post
-returns t c = inline-over _ _ _ (world c.before.before.before.before.before.before.before.args.store.now c.before.before.before.before.before.before.before.args.text.now c.before.before.before.before.before.before.before.args.list.now c.before.before.before.before.before.before.before.args.work.now c.before.before.before.before.before.before.before.args.trail.now (progress_of c.before.before.before.before.before.before.before.args.st.now)) c.if1.true
+returns t c = inline_over _ _ _ (world c.before.before.before.before.before.before.before.args.store.now c.before.before.before.before.before.before.before.args.text.now c.before.before.before.before.before.before.before.args.list.now c.before.before.before.before.before.before.before.args.work.now c.before.before.before.before.before.before.before.args.trail.now (progress_of c.before.before.before.before.before.before.before.args.st.now)) c.if1.true
 
 pub returns_2 : (t : ℕ) → InlineWriteLts.Need-returns-2 (inline_write_claims t) (inline_write_at t) InlineWriteReads.Post
-returns_2 t c = inline-deep _ _ _ (world c.before.before.before.before.before.before.before.before.args.store.now c.before.before.before.before.before.before.before.before.args.text.now c.before.before.before.before.before.before.before.before.args.list.now c.before.before.before.before.before.before.before.before.args.work.now c.before.before.before.before.before.before.before.before.args.trail.now (progress_of c.before.before.before.before.before.before.before.before.args.st.now)) c.if2.true
+returns_2 t c = inline_deep _ _ _ (world c.before.before.before.before.before.before.before.before.args.store.now c.before.before.before.before.before.before.before.before.args.text.now c.before.before.before.before.before.before.before.before.args.list.now c.before.before.before.before.before.before.before.before.args.work.now c.before.before.before.before.before.before.before.before.args.trail.now (progress_of c.before.before.before.before.before.before.before.before.args.st.now)) c.if2.true
 
 pub read_byte_requires : (t : ℕ) → InlineWriteLts.Need-read-byte-requires (inline_write_claims t) (inline_write_at t) InlineWriteReads.Post
 read_byte_requires t c κs = search rules
@@ -29,7 +29,7 @@ pub enum_told : (t : ℕ) → InlineWriteLts.Need-enum-told (inline_write_claims
 enum_told t c = search rules
 
 pub returns_3 : (t : ℕ) → InlineWriteLts.Need-returns-3 (inline_write_claims t) (inline_write_at t) InlineWriteReads.Post
-returns_3 t c = inline-none _ _ _ (world c.before.before.before.before.before.before.before.before.before.before.before.args.store.now c.before.before.before.before.before.before.before.before.before.before.before.args.text.now c.before.before.before.before.before.before.before.before.before.before.before.args.list.now c.before.before.before.before.before.before.before.before.before.before.before.args.work.now c.before.before.before.before.before.before.before.before.before.before.before.args.trail.now (progress_of c.before.before.before.before.before.before.before.before.before.before.before.args.st.now)) (num_none c.before.before.read_byte.ensures c.enum_told.given.1)
+returns_3 t c = inline_none _ _ _ (world c.before.before.before.before.before.before.before.before.before.before.before.args.store.now c.before.before.before.before.before.before.before.before.before.before.before.args.text.now c.before.before.before.before.before.before.before.before.before.before.before.args.list.now c.before.before.before.before.before.before.before.before.before.before.before.args.work.now c.before.before.before.before.before.before.before.before.before.before.before.args.trail.now (progress_of c.before.before.before.before.before.before.before.before.before.before.before.args.st.now)) (num_none c.before.before.read_byte.ensures c.enum_told.given.1)
 
 pub sub_write : (t : ℕ) → InlineWriteLts.Need-overflow-sub-write (inline_write_claims t) (inline_write_at t) InlineWriteReads.Post
 sub_write t c = search rules
@@ -49,7 +49,7 @@ same_length_3 t c = search rules
 pub returns_4 : (t : ℕ) → InlineWriteLts.Need-returns-4 (inline_write_claims t) (inline_write_at t) InlineWriteReads.Post
 returns_4 t c =
     let tag_is = num_is c.before.before.before.before.before.before.before.before.before.before.before.before.before.before.before.before.before.read_byte.ensures c.before.before.before.before.before.before.before.before.before.before.before.before.before.before.before.tag.given.1 in
-    inline-nested _ _ _ _ _ tag_is {w = (world c.before.before.before.before.before.before.before.before.before.before.before.before.before.before.before.before.before.before.before.before.before.before.before.before.before.before.args.store.now c.before.before.before.before.before.before.before.before.before.before.before.before.before.before.before.before.before.before.before.before.before.before.before.before.before.before.args.text.now c.before.before.before.before.before.before.before.before.before.before.before.before.before.before.before.before.before.before.before.before.before.before.before.before.before.before.args.list.now c.before.before.before.before.before.before.before.before.before.before.before.before.before.before.before.before.before.before.before.before.before.before.before.before.before.before.args.work.now c.before.before.before.before.before.before.before.before.before.before.before.before.before.before.before.before.before.before.before.before.before.before.before.before.before.before.args.trail.now (progress_of c.before.before.before.before.before.before.before.before.before.before.before.before.before.before.before.before.before.before.before.before.before.before.before.before.before.before.args.st.now))} c.before.before.before.before.before.before.before.before.before.before.before.before.before.if3.true c.before.before.before.before.before.before.write.ensures
+    inline_nested _ _ _ _ _ tag_is {w = (world c.before.before.before.before.before.before.before.before.before.before.before.before.before.before.before.before.before.before.before.before.before.before.before.before.before.before.args.store.now c.before.before.before.before.before.before.before.before.before.before.before.before.before.before.before.before.before.before.before.before.before.before.before.before.before.before.args.text.now c.before.before.before.before.before.before.before.before.before.before.before.before.before.before.before.before.before.before.before.before.before.before.before.before.before.before.args.list.now c.before.before.before.before.before.before.before.before.before.before.before.before.before.before.before.before.before.before.before.before.before.before.before.before.before.before.args.work.now c.before.before.before.before.before.before.before.before.before.before.before.before.before.before.before.before.before.before.before.before.before.before.before.before.before.before.args.trail.now (progress_of c.before.before.before.before.before.before.before.before.before.before.before.before.before.before.before.before.before.before.before.before.before.before.before.before.before.before.args.st.now))} c.before.before.before.before.before.before.before.before.before.before.before.before.before.if3.true c.before.before.before.before.before.before.write.ensures
 
 pub message_requires : (t : ℕ) → InlineWriteLts.Need-message-requires (inline_write_claims t) (inline_write_at t) InlineWriteReads.Post
 message_requires t c κs = (omega (arith, c.before.before.before.before.before.before.before.before.before.before.before.before.before.before.before.before.before.before.before.before.requires.0), tt)
@@ -66,7 +66,7 @@ same_length_6 t c = search rules
 pub returns_5 : (t : ℕ) → InlineWriteLts.Need-returns-5 (inline_write_claims t) (inline_write_at t) InlineWriteReads.Post
 returns_5 t c =
     let tag_is = num_is c.before.before.before.before.before.before.before.before.before.before.before.before.before.before.before.before.before.before.read_byte.ensures c.before.before.before.before.before.before.before.before.before.before.before.before.before.before.before.before.tag.given.1 in
-    inline-message _ _ _ _ _ tag_is {w = (world c.before.before.before.before.before.before.before.before.before.before.before.before.before.before.before.before.before.before.before.before.before.before.before.before.before.before.before.args.store.now c.before.before.before.before.before.before.before.before.before.before.before.before.before.before.before.before.before.before.before.before.before.before.before.before.before.before.before.args.text.now c.before.before.before.before.before.before.before.before.before.before.before.before.before.before.before.before.before.before.before.before.before.before.before.before.before.before.before.args.list.now c.before.before.before.before.before.before.before.before.before.before.before.before.before.before.before.before.before.before.before.before.before.before.before.before.before.before.before.args.work.now c.before.before.before.before.before.before.before.before.before.before.before.before.before.before.before.before.before.before.before.before.before.before.before.before.before.before.before.args.trail.now (progress_of c.before.before.before.before.before.before.before.before.before.before.before.before.before.before.before.before.before.before.before.before.before.before.before.before.before.before.before.args.st.now))} c.before.before.before.before.before.before.before.before.before.before.before.before.before.if4.true c.before.before.before.before.before.before.message.ensures
+    inline_message _ _ _ _ _ tag_is {w = (world c.before.before.before.before.before.before.before.before.before.before.before.before.before.before.before.before.before.before.before.before.before.before.before.before.before.before.before.args.store.now c.before.before.before.before.before.before.before.before.before.before.before.before.before.before.before.before.before.before.before.before.before.before.before.before.before.before.before.args.text.now c.before.before.before.before.before.before.before.before.before.before.before.before.before.before.before.before.before.before.before.before.before.before.before.before.before.before.before.args.list.now c.before.before.before.before.before.before.before.before.before.before.before.before.before.before.before.before.before.before.before.before.before.before.before.before.before.before.before.args.work.now c.before.before.before.before.before.before.before.before.before.before.before.before.before.before.before.before.before.before.before.before.before.before.before.before.before.before.before.args.trail.now (progress_of c.before.before.before.before.before.before.before.before.before.before.before.before.before.before.before.before.before.before.before.before.before.before.before.before.before.before.before.args.st.now))} c.before.before.before.before.before.before.before.before.before.before.before.before.before.if4.true c.before.before.before.before.before.before.message.ensures
 
 pub sub_refer : (t : ℕ) → InlineWriteLts.Need-overflow-sub-refer (inline_write_claims t) (inline_write_at t) InlineWriteReads.Post
 sub_refer t c = search rules
@@ -86,7 +86,7 @@ same_length_9 t c = search rules
 pub returns_6 : (t : ℕ) → InlineWriteLts.Need-returns-6 (inline_write_claims t) (inline_write_at t) InlineWriteReads.Post
 returns_6 t c =
     let tag_is = num_is c.before.before.before.before.before.before.before.before.before.before.before.before.before.before.before.before.before.before.before.read_byte.ensures c.before.before.before.before.before.before.before.before.before.before.before.before.before.before.before.before.before.tag.given.1 in
-    inline-term _ _ _ _ _ tag_is {w = (world c.before.before.before.before.before.before.before.before.before.before.before.before.before.before.before.before.before.before.before.before.before.before.before.before.before.before.before.before.args.store.now c.before.before.before.before.before.before.before.before.before.before.before.before.before.before.before.before.before.before.before.before.before.before.before.before.before.before.before.before.args.text.now c.before.before.before.before.before.before.before.before.before.before.before.before.before.before.before.before.before.before.before.before.before.before.before.before.before.before.before.before.args.list.now c.before.before.before.before.before.before.before.before.before.before.before.before.before.before.before.before.before.before.before.before.before.before.before.before.before.before.before.before.args.work.now c.before.before.before.before.before.before.before.before.before.before.before.before.before.before.before.before.before.before.before.before.before.before.before.before.before.before.before.before.args.trail.now (progress_of c.before.before.before.before.before.before.before.before.before.before.before.before.before.before.before.before.before.before.before.before.before.before.before.before.before.before.before.before.args.st.now))} c.before.before.before.before.before.before.before.before.before.before.before.before.before.if5.true c.before.before.before.before.before.before.refer.ensures
+    inline_term _ _ _ _ _ tag_is {w = (world c.before.before.before.before.before.before.before.before.before.before.before.before.before.before.before.before.before.before.before.before.before.before.before.before.before.before.before.before.args.store.now c.before.before.before.before.before.before.before.before.before.before.before.before.before.before.before.before.before.before.before.before.before.before.before.before.before.before.before.before.args.text.now c.before.before.before.before.before.before.before.before.before.before.before.before.before.before.before.before.before.before.before.before.before.before.before.before.before.before.before.before.args.list.now c.before.before.before.before.before.before.before.before.before.before.before.before.before.before.before.before.before.before.before.before.before.before.before.before.before.before.before.before.args.work.now c.before.before.before.before.before.before.before.before.before.before.before.before.before.before.before.before.before.before.before.before.before.before.before.before.before.before.before.before.args.trail.now (progress_of c.before.before.before.before.before.before.before.before.before.before.before.before.before.before.before.before.before.before.before.before.before.before.before.before.before.before.before.before.args.st.now))} c.before.before.before.before.before.before.before.before.before.before.before.before.before.if5.true c.before.before.before.before.before.before.refer.ensures
 
 pub sub_function : (t : ℕ) → InlineWriteLts.Need-overflow-sub-function (inline_write_claims t) (inline_write_at t) InlineWriteReads.Post
 sub_function t c = search rules

@@ -1,9 +1,9 @@
 -- What is left of `pattern-element`.
 use Prim.Native.Nat.{ℕ}
 use Rattle.heads.proofs.Heads.{marks_are}
-use Rattle.records.proofs.Laws.{str-in}
-use Rattle.records.proofs.Views.{num_is, num_none, str-bad, str-is}
-use Rattle.resolver.proofs.Elements.{element-dirty, element-far, element-full, element-none, element-over, element-placeable, element-text, element-text-none}
+use Rattle.records.proofs.Laws.{str_in}
+use Rattle.records.proofs.Views.{num_is, num_none, str_bad, str_is}
+use Rattle.resolver.proofs.Elements.{element_dirty, element_far, element_full, element_none, element_over, element_placeable, element_text, element_text_none}
 use Rattle.resolver.proofs.Single.Acting.{fsi_acts, pdi_acts, too_many_acts, written_acts}
 use Rattle.resolver.specs.Relations.Meets.{world}
 use Rattle.state.proofs.Laws.{begin_may, begin_not, begin_one}
@@ -21,13 +21,13 @@ pub element_copy_out_if1 : (t : ℕ) → PatternElementLts.Need-element-copy-out
 element_copy_out_if1 t c = search rules
 
 pub returns : (t : ℕ) → PatternElementLts.Need-returns (pattern_element_claims t) (pattern_element_at t) PatternElementReads.Post
-returns t c = element-over _ _ _ _ (world c.before.before.before.before.before.before.before.args.store.now c.before.before.before.before.before.before.before.args.text.now c.before.before.before.before.before.before.before.args.list.now c.before.before.before.before.before.before.before.args.work.now c.before.before.before.before.before.before.before.args.trail.now (progress_of c.before.before.before.before.before.before.before.args.st.now)) c.if1.true
+returns t c = element_over _ _ _ _ (world c.before.before.before.before.before.before.before.args.store.now c.before.before.before.before.before.before.before.args.text.now c.before.before.before.before.before.before.before.args.list.now c.before.before.before.before.before.before.before.args.work.now c.before.before.before.before.before.before.before.args.trail.now (progress_of c.before.before.before.before.before.before.before.args.st.now)) c.if1.true
 
 pub element_copy_out_if2 : (t : ℕ) → PatternElementLts.Need-element-copy-out-if2 (pattern_element_claims t) (pattern_element_at t) PatternElementReads.Post
 element_copy_out_if2 t c = search rules
 
 pub returns_2 : (t : ℕ) → PatternElementLts.Need-returns-2 (pattern_element_claims t) (pattern_element_at t) PatternElementReads.Post
-returns_2 t c = element-dirty _ _ _ _ _ c.before.before.before.before.before.before.before.before.before.args.text.now c.before.before.before.before.before.before.before.before.before.args.list.now c.before.before.before.before.before.before.before.before.before.args.work.now c.before.before.before.before.before.before.before.before.before.args.trail.now (progress_of c.before.before.before.before.before.before.before.before.before.args.st.now) (eq-eqb _ _ c.if2.true)
+returns_2 t c = element_dirty _ _ _ _ _ c.before.before.before.before.before.before.before.before.before.args.text.now c.before.before.before.before.before.before.before.before.before.args.list.now c.before.before.before.before.before.before.before.before.before.args.work.now c.before.before.before.before.before.before.before.before.before.args.trail.now (progress_of c.before.before.before.before.before.before.before.before.before.args.st.now) (eq-eqb _ _ c.if2.true)
 
 pub read_byte_requires : (t : ℕ) → PatternElementLts.Need-read-byte-requires (pattern_element_claims t) (pattern_element_at t) PatternElementReads.Post
 read_byte_requires t c κs = search rules
@@ -39,7 +39,7 @@ pub enum_told : (t : ℕ) → PatternElementLts.Need-enum-told (pattern_element_
 enum_told t c = search rules
 
 pub returns_3 : (t : ℕ) → PatternElementLts.Need-returns-3 (pattern_element_claims t) (pattern_element_at t) PatternElementReads.Post
-returns_3 t c = element-none _ _ _ _ (world c.before.before.before.before.before.before.before.before.before.before.before.before.args.store.now c.before.before.before.before.before.before.before.before.before.before.before.before.args.text.now c.before.before.before.before.before.before.before.before.before.before.before.before.args.list.now c.before.before.before.before.before.before.before.before.before.before.before.before.args.work.now c.before.before.before.before.before.before.before.before.before.before.before.before.args.trail.now (progress_of c.before.before.before.before.before.before.before.before.before.before.before.before.args.st.now)) (num_none c.before.before.read_byte.ensures c.enum_told.given.1)
+returns_3 t c = element_none _ _ _ _ (world c.before.before.before.before.before.before.before.before.before.before.before.before.args.store.now c.before.before.before.before.before.before.before.before.before.before.before.before.args.text.now c.before.before.before.before.before.before.before.before.before.before.before.before.args.list.now c.before.before.before.before.before.before.before.before.before.before.before.before.args.work.now c.before.before.before.before.before.before.before.before.before.before.before.before.args.trail.now (progress_of c.before.before.before.before.before.before.before.before.before.before.before.before.args.st.now)) (num_none c.before.before.read_byte.ensures c.enum_told.given.1)
 
 pub read_str_requires : (t : ℕ) → PatternElementLts.Need-read-str-requires (pattern_element_claims t) (pattern_element_at t) PatternElementReads.Post
 read_str_requires t c κs = search rules
@@ -53,21 +53,21 @@ enum_told_2 t c = search rules
 pub returns_4 : (t : ℕ) → PatternElementLts.Need-returns-4 (pattern_element_claims t) (pattern_element_at t) PatternElementReads.Post
 returns_4 t c =
     let tag_is = num_is c.before.before.before.before.before.before.before.read_byte.ensures c.before.before.before.before.before.tag.given.1 in
-    element-text-none _ _ _ _ _ _ tag_is (world c.before.before.before.before.before.before.before.before.before.before.before.before.before.before.before.before.before.args.store.now c.before.before.before.before.before.before.before.before.before.before.before.before.before.before.before.before.before.args.text.now c.before.before.before.before.before.before.before.before.before.before.before.before.before.before.before.before.before.args.list.now c.before.before.before.before.before.before.before.before.before.before.before.before.before.before.before.before.before.args.work.now c.before.before.before.before.before.before.before.before.before.before.before.before.before.before.before.before.before.args.trail.now (progress_of c.before.before.before.before.before.before.before.before.before.before.before.before.before.before.before.before.before.args.st.now)) c.before.before.before.if3.true (str-bad _ _ c.before.before.read-str.ensures c.enum-told2.given.1)
+    element_text_none _ _ _ _ _ _ tag_is (world c.before.before.before.before.before.before.before.before.before.before.before.before.before.before.before.before.before.args.store.now c.before.before.before.before.before.before.before.before.before.before.before.before.before.before.before.before.before.args.text.now c.before.before.before.before.before.before.before.before.before.before.before.before.before.before.before.before.before.args.list.now c.before.before.before.before.before.before.before.before.before.before.before.before.before.before.before.before.before.args.work.now c.before.before.before.before.before.before.before.before.before.before.before.before.before.before.before.before.before.args.trail.now (progress_of c.before.before.before.before.before.before.before.before.before.before.before.before.before.before.before.before.before.args.st.now)) c.before.before.before.if3.true (str_bad _ _ c.before.before.read-str.ensures c.enum-told2.given.1)
 
 pub sub_put : (t : ℕ) → PatternElementLts.Need-overflow-sub-put (pattern_element_claims t) (pattern_element_at t) PatternElementReads.Post
 sub_put t c =
-    let str-inside = str-in _ _ c.before.before.before.before.before.before.read-str.ensures c.before.before.before.before.a.given.1 in
+    let str-inside = str_in _ _ c.before.before.before.before.before.before.read-str.ensures c.before.before.before.before.a.given.1 in
     omega (arith, str-inside)
 
 pub part_put_start : (t : ℕ) → PatternElementLts.Need-slice-bounds-put-start (pattern_element_claims t) (pattern_element_at t) PatternElementReads.Post
 part_put_start t c =
-    let str-inside = str-in _ _ c.before.before.before.before.before.before.read-str.ensures c.before.before.before.before.a.given.1 in
+    let str-inside = str_in _ _ c.before.before.before.before.before.before.read-str.ensures c.before.before.before.before.a.given.1 in
     omega (arith, str-inside)
 
 pub part_put_end : (t : ℕ) → PatternElementLts.Need-slice-bounds-put-end (pattern_element_claims t) (pattern_element_at t) PatternElementReads.Post
 part_put_end t c =
-    let str-inside = str-in _ _ c.before.before.before.before.before.before.read-str.ensures c.before.before.before.before.a.given.1 in
+    let str-inside = str_in _ _ c.before.before.before.before.before.before.read-str.ensures c.before.before.before.before.a.given.1 in
     omega (arith, str-inside)
 
 pub put_requires : (t : ℕ) → PatternElementLts.Need-put-requires (pattern_element_claims t) (pattern_element_at t) PatternElementReads.Post
@@ -82,7 +82,7 @@ same_length_2 t c = search rules
 pub returns_5 : (t : ℕ) → PatternElementLts.Need-returns-5 (pattern_element_claims t) (pattern_element_at t) PatternElementReads.Post
 returns_5 t c =
     let tag_is = num_is c.before.before.before.before.before.before.before.before.before.before.before.before.before.before.before.before.before.read_byte.ensures c.before.before.before.before.before.before.before.before.before.before.before.before.before.before.before.tag.given.1 in
-    element-text _ _ _ _ _ _ tag_is {w = (world c.before.before.before.before.before.before.before.before.before.before.before.before.before.before.before.before.before.before.before.before.before.before.before.before.before.before.before.args.store.now c.before.before.before.before.before.before.before.before.before.before.before.before.before.before.before.before.before.before.before.before.before.before.before.before.before.before.before.args.text.now c.before.before.before.before.before.before.before.before.before.before.before.before.before.before.before.before.before.before.before.before.before.before.before.before.before.before.before.args.list.now c.before.before.before.before.before.before.before.before.before.before.before.before.before.before.before.before.before.before.before.before.before.before.before.before.before.before.before.args.work.now c.before.before.before.before.before.before.before.before.before.before.before.before.before.before.before.before.before.before.before.before.before.before.before.before.before.before.before.args.trail.now (progress_of c.before.before.before.before.before.before.before.before.before.before.before.before.before.before.before.before.before.before.before.before.before.before.before.before.before.before.before.args.st.now))} c.before.before.before.before.before.before.before.before.before.before.before.before.before.if3.true (str-is _ _ c.before.before.before.before.before.before.before.before.before.before.before.before.read-str.ensures c.before.before.before.before.before.before.before.before.before.before.a.given.1) (ne_eqb _ _ c.before.before.before.before.before.before.before.before.before.before.before.before.before.before.before.before.before.before.if2.false) (written_acts _ c.before.before.before.before.put.ensures _ _ _)
+    element_text _ _ _ _ _ _ tag_is {w = (world c.before.before.before.before.before.before.before.before.before.before.before.before.before.before.before.before.before.before.before.before.before.before.before.before.before.before.before.args.store.now c.before.before.before.before.before.before.before.before.before.before.before.before.before.before.before.before.before.before.before.before.before.before.before.before.before.before.before.args.text.now c.before.before.before.before.before.before.before.before.before.before.before.before.before.before.before.before.before.before.before.before.before.before.before.before.before.before.before.args.list.now c.before.before.before.before.before.before.before.before.before.before.before.before.before.before.before.before.before.before.before.before.before.before.before.before.before.before.before.args.work.now c.before.before.before.before.before.before.before.before.before.before.before.before.before.before.before.before.before.before.before.before.before.before.before.before.before.before.before.args.trail.now (progress_of c.before.before.before.before.before.before.before.before.before.before.before.before.before.before.before.before.before.before.before.before.before.before.before.before.before.before.before.args.st.now))} c.before.before.before.before.before.before.before.before.before.before.before.before.before.if3.true (str_is _ _ c.before.before.before.before.before.before.before.before.before.before.before.before.read-str.ensures c.before.before.before.before.before.before.before.before.before.before.a.given.1) (ne_eqb _ _ c.before.before.before.before.before.before.before.before.before.before.before.before.before.before.before.before.before.before.if2.false) (written_acts _ c.before.before.before.before.put.ensures _ _ _)
 
 pub may_begin_requires : (t : ℕ) → PatternElementLts.Need-may-begin-requires (pattern_element_claims t) (pattern_element_at t) PatternElementReads.Post
 may_begin_requires t c κs = search rules
@@ -93,7 +93,7 @@ element_copy_out_if5 t c = search rules
 pub returns_6 : (t : ℕ) → PatternElementLts.Need-returns-6 (pattern_element_claims t) (pattern_element_at t) PatternElementReads.Post
 returns_6 t c =
     let tag_is = num_is c.before.before.before.before.before.before.before.before.before.read_byte.ensures c.before.before.before.before.before.before.before.tag.given.1 in
-    element-far _ _ _ _ _ _ tag_is (world c.before.before.before.before.before.before.before.before.before.before.before.before.before.before.before.before.before.before.before.args.store.now c.before.before.before.before.before.before.before.before.before.before.before.before.before.before.before.before.before.before.before.args.text.now c.before.before.before.before.before.before.before.before.before.before.before.before.before.before.before.before.before.before.before.args.list.now c.before.before.before.before.before.before.before.before.before.before.before.before.before.before.before.before.before.before.before.args.work.now c.before.before.before.before.before.before.before.before.before.before.before.before.before.before.before.before.before.before.before.args.trail.now (progress_of c.before.before.before.before.before.before.before.before.before.before.before.before.before.before.before.before.before.before.before.args.st.now)) (ne_eqb _ _ c.before.before.before.before.before.before.before.before.before.before.if2.false) c.if5.true
+    element_far _ _ _ _ _ _ tag_is (world c.before.before.before.before.before.before.before.before.before.before.before.before.before.before.before.before.before.before.before.args.store.now c.before.before.before.before.before.before.before.before.before.before.before.before.before.before.before.before.before.before.before.args.text.now c.before.before.before.before.before.before.before.before.before.before.before.before.before.before.before.before.before.before.before.args.list.now c.before.before.before.before.before.before.before.before.before.before.before.before.before.before.before.before.before.before.before.args.work.now c.before.before.before.before.before.before.before.before.before.before.before.before.before.before.before.before.before.before.before.args.trail.now (progress_of c.before.before.before.before.before.before.before.before.before.before.before.before.before.before.before.before.before.before.before.args.st.now)) (ne_eqb _ _ c.before.before.before.before.before.before.before.before.before.before.if2.false) c.if5.true
 
 pub list_too_many_requires : (t : ℕ) → PatternElementLts.Need-list-too-many-requires (pattern_element_claims t) (pattern_element_at t) PatternElementReads.Post
 list_too_many_requires t c κs = search rules
@@ -104,7 +104,7 @@ same_length_3 t c = search rules
 pub returns_7 : (t : ℕ) → PatternElementLts.Need-returns-7 (pattern_element_claims t) (pattern_element_at t) PatternElementReads.Post
 returns_7 t c =
     let tag_is = num_is c.before.before.before.before.before.before.before.before.before.before.before.before.before.before.read_byte.ensures c.before.before.before.before.before.before.before.before.before.before.before.before.tag.given.1 in
-    element-full _ _ _ _ _ _ tag_is c.before.before.before.before.before.before.before.before.before.before.before.before.before.before.before.before.before.before.before.before.before.before.before.before.args.text.now c.before.before.before.before.before.before.before.before.before.before.before.before.before.before.before.before.before.before.before.before.before.before.before.before.args.list.now c.before.before.before.before.before.before.before.before.before.before.before.before.before.before.before.before.before.before.before.before.before.before.before.before.args.work.now c.before.before.before.before.before.before.before.before.before.before.before.before.before.before.before.before.before.before.before.before.before.before.before.before.args.trail.now (progress_of c.before.before.before.before.before.before.before.before.before.before.before.before.before.before.before.before.before.before.before.before.before.before.before.before.args.st.now) c.before.before.before.before.before.before.before.before.before.before.if3.false c.before.before.before.before.before.before.before.before.before.before.before.before.before.before.before.before.before.if1.false (ne_eqb _ _ c.before.before.before.before.before.before.before.before.before.before.before.before.before.before.before.if2.false) (let n = begin_not (progress_of c.before.before.before.before.before.before.before.before.before.before.before.before.before.before.before.before.before.before.before.before.before.before.before.before.args.st.now) (sym c.before.before.before.before.before.before.before.before.may-begin.ensures ∙ not-true _ c.before.before.before.before.before.before.before.if4.true) in omega (arith, n, c.before.before.before.before.before.if5.false)) (too_many_acts c.before.before.list-too-many.ensures)
+    element_full _ _ _ _ _ _ tag_is c.before.before.before.before.before.before.before.before.before.before.before.before.before.before.before.before.before.before.before.before.before.before.before.before.args.text.now c.before.before.before.before.before.before.before.before.before.before.before.before.before.before.before.before.before.before.before.before.before.before.before.before.args.list.now c.before.before.before.before.before.before.before.before.before.before.before.before.before.before.before.before.before.before.before.before.before.before.before.before.args.work.now c.before.before.before.before.before.before.before.before.before.before.before.before.before.before.before.before.before.before.before.before.before.before.before.before.args.trail.now (progress_of c.before.before.before.before.before.before.before.before.before.before.before.before.before.before.before.before.before.before.before.before.before.before.before.before.args.st.now) c.before.before.before.before.before.before.before.before.before.before.if3.false c.before.before.before.before.before.before.before.before.before.before.before.before.before.before.before.before.before.if1.false (ne_eqb _ _ c.before.before.before.before.before.before.before.before.before.before.before.before.before.before.before.if2.false) (let n = begin_not (progress_of c.before.before.before.before.before.before.before.before.before.before.before.before.before.before.before.before.before.before.before.before.before.before.before.before.args.st.now) (sym c.before.before.before.before.before.before.before.before.may-begin.ensures ∙ not-true _ c.before.before.before.before.before.before.before.if4.true) in omega (arith, n, c.before.before.before.before.before.if5.false)) (too_many_acts c.before.before.list-too-many.ensures)
 
 pub begin_requires : (t : ℕ) → PatternElementLts.Need-begin-requires (pattern_element_claims t) (pattern_element_at t) PatternElementReads.Post
 begin_requires t c κs = search rules
@@ -136,4 +136,4 @@ same_length_6 t c = c.before.before.before.before.put-pdi.auto.1.0 ∙ c.before.
 pub returns_8 : (t : ℕ) → PatternElementLts.Need-returns-8 (pattern_element_claims t) (pattern_element_at t) PatternElementReads.Post
 returns_8 t c =
     let tag_is = num_is c.before.before.before.before.before.before.before.before.before.before.before.before.before.before.before.before.before.before.before.before.before.before.before.before.before.before.before.before.before.before.before.before.before.before.before.before.before.before.before.before.before.before.before.before.before.before.before.read_byte.ensures c.before.before.before.before.before.before.before.before.before.before.before.before.before.before.before.before.before.before.before.before.before.before.before.before.before.before.before.before.before.before.before.before.before.before.before.before.before.before.before.before.before.before.before.before.before.tag.given.1 in
-    element-placeable _ _ _ _ _ _ tag_is c.before.before.before.before.before.before.before.before.before.before.before.before.before.before.before.before.before.before.before.before.before.before.before.before.before.before.before.before.before.before.before.before.before.before.before.before.before.before.before.before.before.before.before.before.before.before.before.before.before.before.before.before.before.before.before.before.before.args.text.now c.before.before.before.before.before.before.before.before.before.before.before.before.before.before.before.before.before.before.before.before.before.before.before.before.before.before.before.before.before.before.before.before.before.before.before.before.before.before.before.before.before.before.before.before.before.before.before.before.before.before.before.before.before.before.before.before.before.args.list.now c.before.before.before.before.before.before.before.before.before.before.before.before.before.before.before.before.before.before.before.before.before.before.before.before.before.before.before.before.before.before.before.before.before.before.before.before.before.before.before.before.before.before.before.before.before.before.before.before.before.before.before.before.before.before.before.before.before.args.work.now c.before.before.before.before.before.before.before.before.before.before.before.before.before.before.before.before.before.before.before.before.before.before.before.before.before.before.before.before.before.before.before.before.before.before.before.before.before.before.before.before.before.before.before.before.before.before.before.before.before.before.before.before.before.before.before.before.before.args.trail.now (progress_of c.before.before.before.before.before.before.before.before.before.before.before.before.before.before.before.before.before.before.before.before.before.before.before.before.before.before.before.before.before.before.before.before.before.before.before.before.before.before.before.before.before.before.before.before.before.before.before.before.before.before.before.before.before.before.before.before.before.args.st.now) c.before.before.before.before.before.before.before.before.before.before.before.before.before.before.before.before.before.before.before.before.before.before.before.before.before.before.before.before.before.before.before.before.before.before.before.before.before.before.before.before.before.before.before.if3.false c.before.before.before.before.before.before.before.before.before.before.before.before.before.before.before.before.before.before.before.before.before.before.before.before.before.before.before.before.before.before.before.before.before.before.before.before.before.before.before.before.before.before.before.before.before.before.before.before.before.before.if1.false (ne_eqb _ _ c.before.before.before.before.before.before.before.before.before.before.before.before.before.before.before.before.before.before.before.before.before.before.before.before.before.before.before.before.before.before.before.before.before.before.before.before.before.before.before.before.before.before.before.before.before.before.before.before.if2.false) (begin_may (progress_of c.before.before.before.before.before.before.before.before.before.before.before.before.before.before.before.before.before.before.before.before.before.before.before.before.before.before.before.before.before.before.before.before.before.before.before.before.before.before.before.before.before.before.before.before.before.before.before.before.before.before.before.before.before.before.before.before.before.args.st.now) (sym c.before.before.before.before.before.before.before.before.before.before.before.before.before.before.before.before.before.before.before.before.before.before.before.before.before.before.before.before.before.before.before.before.before.before.before.before.before.before.before.before.before.may-begin.ensures ∙ not-false _ c.before.before.before.before.before.before.before.before.before.before.before.before.before.before.before.before.before.before.before.before.before.before.before.before.before.before.before.before.before.before.before.before.before.before.before.before.before.before.before.before.if4.false)) (c.before.before.before.before.before.before.before.before.before.before.before.before.before.before.before.before.before.before.before.before.before.before.before.before.before.before.before.before.before.before.before.before.before.before.before.before.before.before.begin.ensures ∙ begin_one (progress_of c.before.before.before.before.before.before.before.before.before.before.before.before.before.before.before.before.before.before.before.before.before.before.before.before.before.before.before.before.before.before.before.before.before.before.before.before.before.before.before.before.before.before.before.before.before.before.before.before.before.before.before.before.before.before.before.before.before.args.st.now) (sym c.before.before.before.before.before.before.before.before.before.before.before.before.before.before.before.before.before.before.before.before.before.before.before.before.before.before.before.before.before.before.before.before.before.before.before.before.before.before.before.before.before.may-begin.ensures ∙ not-false _ c.before.before.before.before.before.before.before.before.before.before.before.before.before.before.before.before.before.before.before.before.before.before.before.before.before.before.before.before.before.before.before.before.before.before.before.before.before.before.before.before.if4.false)) (marks_are _ _ _ c.before.before.before.before.before.before.before.before.before.before.before.before.before.before.before.before.before.before.before.before.before.before.before.before.before.before.before.before.before.before.before.before.before.before.before.before.before.has_marks.ensures) (fsi_acts _ c.before.before.before.before.before.before.before.before.before.before.before.before.before.before.before.before.before.before.before.before.before.before.before.before.before.before.before.before.before.before.before.before.before.put-fsi.ensures _ _ _) c.before.before.before.before.before.before.before.before.before.before.before.before.before.before.before.before.before.before.before.before.before.before.write.ensures c.before.before.before.before.before.before.before.before.before.before.before.before.put-cut.ensures (pdi_acts _ c.before.before.before.before.put-pdi.ensures _ _ _)
+    element_placeable _ _ _ _ _ _ tag_is c.before.before.before.before.before.before.before.before.before.before.before.before.before.before.before.before.before.before.before.before.before.before.before.before.before.before.before.before.before.before.before.before.before.before.before.before.before.before.before.before.before.before.before.before.before.before.before.before.before.before.before.before.before.before.before.before.before.args.text.now c.before.before.before.before.before.before.before.before.before.before.before.before.before.before.before.before.before.before.before.before.before.before.before.before.before.before.before.before.before.before.before.before.before.before.before.before.before.before.before.before.before.before.before.before.before.before.before.before.before.before.before.before.before.before.before.before.before.args.list.now c.before.before.before.before.before.before.before.before.before.before.before.before.before.before.before.before.before.before.before.before.before.before.before.before.before.before.before.before.before.before.before.before.before.before.before.before.before.before.before.before.before.before.before.before.before.before.before.before.before.before.before.before.before.before.before.before.before.args.work.now c.before.before.before.before.before.before.before.before.before.before.before.before.before.before.before.before.before.before.before.before.before.before.before.before.before.before.before.before.before.before.before.before.before.before.before.before.before.before.before.before.before.before.before.before.before.before.before.before.before.before.before.before.before.before.before.before.before.args.trail.now (progress_of c.before.before.before.before.before.before.before.before.before.before.before.before.before.before.before.before.before.before.before.before.before.before.before.before.before.before.before.before.before.before.before.before.before.before.before.before.before.before.before.before.before.before.before.before.before.before.before.before.before.before.before.before.before.before.before.before.before.args.st.now) c.before.before.before.before.before.before.before.before.before.before.before.before.before.before.before.before.before.before.before.before.before.before.before.before.before.before.before.before.before.before.before.before.before.before.before.before.before.before.before.before.before.before.before.if3.false c.before.before.before.before.before.before.before.before.before.before.before.before.before.before.before.before.before.before.before.before.before.before.before.before.before.before.before.before.before.before.before.before.before.before.before.before.before.before.before.before.before.before.before.before.before.before.before.before.before.before.if1.false (ne_eqb _ _ c.before.before.before.before.before.before.before.before.before.before.before.before.before.before.before.before.before.before.before.before.before.before.before.before.before.before.before.before.before.before.before.before.before.before.before.before.before.before.before.before.before.before.before.before.before.before.before.before.if2.false) (begin_may (progress_of c.before.before.before.before.before.before.before.before.before.before.before.before.before.before.before.before.before.before.before.before.before.before.before.before.before.before.before.before.before.before.before.before.before.before.before.before.before.before.before.before.before.before.before.before.before.before.before.before.before.before.before.before.before.before.before.before.before.args.st.now) (sym c.before.before.before.before.before.before.before.before.before.before.before.before.before.before.before.before.before.before.before.before.before.before.before.before.before.before.before.before.before.before.before.before.before.before.before.before.before.before.before.before.before.may-begin.ensures ∙ not-false _ c.before.before.before.before.before.before.before.before.before.before.before.before.before.before.before.before.before.before.before.before.before.before.before.before.before.before.before.before.before.before.before.before.before.before.before.before.before.before.before.before.if4.false)) (c.before.before.before.before.before.before.before.before.before.before.before.before.before.before.before.before.before.before.before.before.before.before.before.before.before.before.before.before.before.before.before.before.before.before.before.before.before.before.begin.ensures ∙ begin_one (progress_of c.before.before.before.before.before.before.before.before.before.before.before.before.before.before.before.before.before.before.before.before.before.before.before.before.before.before.before.before.before.before.before.before.before.before.before.before.before.before.before.before.before.before.before.before.before.before.before.before.before.before.before.before.before.before.before.before.before.args.st.now) (sym c.before.before.before.before.before.before.before.before.before.before.before.before.before.before.before.before.before.before.before.before.before.before.before.before.before.before.before.before.before.before.before.before.before.before.before.before.before.before.before.before.before.may-begin.ensures ∙ not-false _ c.before.before.before.before.before.before.before.before.before.before.before.before.before.before.before.before.before.before.before.before.before.before.before.before.before.before.before.before.before.before.before.before.before.before.before.before.before.before.before.before.if4.false)) (marks_are _ _ _ c.before.before.before.before.before.before.before.before.before.before.before.before.before.before.before.before.before.before.before.before.before.before.before.before.before.before.before.before.before.before.before.before.before.before.before.before.before.has_marks.ensures) (fsi_acts _ c.before.before.before.before.before.before.before.before.before.before.before.before.before.before.before.before.before.before.before.before.before.before.before.before.before.before.before.before.before.before.before.before.before.put-fsi.ensures _ _ _) c.before.before.before.before.before.before.before.before.before.before.before.before.before.before.before.before.before.before.before.before.before.before.write.ensures c.before.before.before.before.before.before.before.before.before.before.before.before.put-cut.ensures (pdi_acts _ c.before.before.before.before.put-pdi.ensures _ _ _)

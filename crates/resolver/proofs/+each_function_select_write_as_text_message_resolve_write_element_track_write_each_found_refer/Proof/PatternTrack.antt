@@ -1,10 +1,10 @@
 -- What is left of `pattern-track`.
 use Prim.Native.Nat.{ℕ}
 use Rattle.resolver.proofs.Single.Acting.{plain_acts}
-use Rattle.resolver.proofs.Tracks.{track-cross, track-cyclic, track-far, track-over}
+use Rattle.resolver.proofs.Tracks.{track_cross, track_cyclic, track_far, track_over}
 use Rattle.resolver.specs.Relations.Meets.{world}
 use Rattle.state.specs.Progress.{Progress, progress_of}
-use Rattle.trail.proofs.Trail.{trail-within}
+use Rattle.trail.proofs.Trail.{trail_within}
 use borrow.Author.Rules.{rules}
 use mathlib.Core.Path.{ap}
 use native.Mathlib.Omega.{arith}
@@ -16,13 +16,13 @@ pub element_copy_out_if1 : (t : ℕ) → PatternTrackLts.Need-element-copy-out-i
 element_copy_out_if1 t c = search rules
 
 pub returns : (t : ℕ) → PatternTrackLts.Need-returns (pattern_track_claims t) (pattern_track_at t) PatternTrackReads.Post
-returns t c = track-over _ _ _ (world c.before.before.before.before.before.before.before.args.store.now c.before.before.before.before.before.before.before.args.text.now c.before.before.before.before.before.before.before.args.list.now c.before.before.before.before.before.before.before.args.work.now c.before.before.before.before.before.before.before.args.trail.now (progress_of c.before.before.before.before.before.before.before.args.st.now)) c.if1.true
+returns t c = track_over _ _ _ (world c.before.before.before.before.before.before.before.args.store.now c.before.before.before.before.before.before.before.args.text.now c.before.before.before.before.before.before.before.args.list.now c.before.before.before.before.before.before.before.args.work.now c.before.before.before.before.before.before.before.args.trail.now (progress_of c.before.before.before.before.before.before.before.args.st.now)) c.if1.true
 
 pub element_copy_out_d : (t : ℕ) → PatternTrackLts.Need-element-copy-out-d (pattern_track_claims t) (pattern_track_at t) PatternTrackReads.Post
 element_copy_out_d t c = search rules
 
 pub returns_2 : (t : ℕ) → PatternTrackLts.Need-returns-2 (pattern_track_claims t) (pattern_track_at t) PatternTrackReads.Post
-returns_2 t c = track-far _ _ _ (world c.before.before.before.before.before.before.before.before.before.args.store.now c.before.before.before.before.before.before.before.before.before.args.text.now c.before.before.before.before.before.before.before.before.before.args.list.now c.before.before.before.before.before.before.before.before.before.args.work.now c.before.before.before.before.before.before.before.before.before.args.trail.now (progress_of c.before.before.before.before.before.before.before.before.before.args.st.now)) c.if2.true
+returns_2 t c = track_far _ _ _ (world c.before.before.before.before.before.before.before.before.before.args.store.now c.before.before.before.before.before.before.before.before.before.args.text.now c.before.before.before.before.before.before.before.before.before.args.list.now c.before.before.before.before.before.before.before.before.before.args.work.now c.before.before.before.before.before.before.before.before.before.args.trail.now (progress_of c.before.before.before.before.before.before.before.before.before.args.st.now)) c.if2.true
 
 pub on_trail_requires : (t : ℕ) → PatternTrackLts.Need-on-trail-requires (pattern_track_claims t) (pattern_track_at t) PatternTrackReads.Post
 on_trail_requires t c κs = search rules
@@ -43,7 +43,7 @@ pub same_length_3 : (t : ℕ) → PatternTrackLts.Need-same-length-3 (pattern_tr
 same_length_3 t c = search rules
 
 pub returns_3 : (t : ℕ) → PatternTrackLts.Need-returns-3 (pattern_track_claims t) (pattern_track_at t) PatternTrackReads.Post
-returns_3 t c = track-cyclic _ _ _ c.before.before.before.before.before.before.before.before.before.before.before.before.before.before.before.before.before.before.before.before.before.before.before.before.before.args.text.now c.before.before.before.before.before.before.before.before.before.before.before.before.before.before.before.before.before.before.before.before.before.before.before.before.before.args.list.now c.before.before.before.before.before.before.before.before.before.before.before.before.before.before.before.before.before.before.before.before.before.before.before.before.before.args.work.now c.before.before.before.before.before.before.before.before.before.before.before.before.before.before.before.before.before.before.before.before.before.before.before.before.before.args.trail.now (progress_of c.before.before.before.before.before.before.before.before.before.before.before.before.before.before.before.before.before.before.before.before.before.before.before.before.before.args.st.now) _ (trail-within _ _ _ _ (omega (arith, c.before.before.before.before.before.before.before.before.before.before.before.before.before.before.before.before.if2.false)) c.before.before.before.before.before.before.before.before.before.before.before.before.before.before.on-trail.ensures) c.before.before.before.before.before.before.before.before.before.before.before.before.before.if3.true (plain_acts _ c.before.before.before.before.before.before.before.before.before.before.list-plain.ensures) c.before.before.before.before.put-error.ensures
+returns_3 t c = track_cyclic _ _ _ c.before.before.before.before.before.before.before.before.before.before.before.before.before.before.before.before.before.before.before.before.before.before.before.before.before.args.text.now c.before.before.before.before.before.before.before.before.before.before.before.before.before.before.before.before.before.before.before.before.before.before.before.before.before.args.list.now c.before.before.before.before.before.before.before.before.before.before.before.before.before.before.before.before.before.before.before.before.before.before.before.before.before.args.work.now c.before.before.before.before.before.before.before.before.before.before.before.before.before.before.before.before.before.before.before.before.before.before.before.before.before.args.trail.now (progress_of c.before.before.before.before.before.before.before.before.before.before.before.before.before.before.before.before.before.before.before.before.before.before.before.before.before.args.st.now) _ (trail_within _ _ _ _ (omega (arith, c.before.before.before.before.before.before.before.before.before.before.before.before.before.before.before.before.if2.false)) c.before.before.before.before.before.before.before.before.before.before.before.before.before.before.on-trail.ensures) c.before.before.before.before.before.before.before.before.before.before.before.before.before.if3.true (plain_acts _ c.before.before.before.before.before.before.before.before.before.before.list-plain.ensures) c.before.before.before.before.put-error.ensures
 
 pub mul_trail : (t : ℕ) → PatternTrackLts.Need-overflow-mul-trail (pattern_track_claims t) (pattern_track_at t) PatternTrackReads.Post
 mul_trail t c = search rules
@@ -73,4 +73,4 @@ pub same_length_6 : (t : ℕ) → PatternTrackLts.Need-same-length-6 (pattern_tr
 same_length_6 t c = search rules
 
 pub returns_4 : (t : ℕ) → PatternTrackLts.Need-returns-4 (pattern_track_claims t) (pattern_track_at t) PatternTrackReads.Post
-returns_4 t c = track-cross _ _ _ c.before.before.before.before.before.before.before.before.before.before.before.before.before.before.before.before.before.before.before.before.before.before.before.before.before.before.before.before.before.args.text.now c.before.before.before.before.before.before.before.before.before.before.before.before.before.before.before.before.before.before.before.before.before.before.before.before.before.before.before.before.before.args.list.now c.before.before.before.before.before.before.before.before.before.before.before.before.before.before.before.before.before.before.before.before.before.before.before.before.before.before.before.before.before.args.work.now c.before.before.before.before.before.before.before.before.before.before.before.before.before.before.before.before.before.before.before.before.before.before.before.before.before.before.before.before.before.args.trail.now (progress_of c.before.before.before.before.before.before.before.before.before.before.before.before.before.before.before.before.before.before.before.before.before.before.before.before.before.before.before.before.before.args.st.now) _ (trail-within _ _ _ _ (omega (arith, c.before.before.before.before.before.before.before.before.before.before.before.before.before.before.before.before.before.before.before.before.if2.false)) c.before.before.before.before.before.before.before.before.before.before.before.before.before.before.before.before.before.before.on-trail.ensures) c.before.before.before.before.before.before.before.before.before.before.before.before.before.before.before.before.before.before.before.before.before.before.if1.false c.before.before.before.before.before.before.before.before.before.before.before.before.before.before.before.before.before.if3.false c.before.before.before.before.before.before.before.before.before.before.before.before.before.before.before.before.before.before.before.before.if2.false c.before.before.before.before.before.before.before.before.before.before.before.before.before.before.before.set-depth.ensures c.before.before.before.before.before.before.before.before.write.ensures c.set-depth2.ensures
+returns_4 t c = track_cross _ _ _ c.before.before.before.before.before.before.before.before.before.before.before.before.before.before.before.before.before.before.before.before.before.before.before.before.before.before.before.before.before.args.text.now c.before.before.before.before.before.before.before.before.before.before.before.before.before.before.before.before.before.before.before.before.before.before.before.before.before.before.before.before.before.args.list.now c.before.before.before.before.before.before.before.before.before.before.before.before.before.before.before.before.before.before.before.before.before.before.before.before.before.before.before.before.before.args.work.now c.before.before.before.before.before.before.before.before.before.before.before.before.before.before.before.before.before.before.before.before.before.before.before.before.before.before.before.before.before.args.trail.now (progress_of c.before.before.before.before.before.before.before.before.before.before.before.before.before.before.before.before.before.before.before.before.before.before.before.before.before.before.before.before.before.args.st.now) _ (trail_within _ _ _ _ (omega (arith, c.before.before.before.before.before.before.before.before.before.before.before.before.before.before.before.before.before.before.before.before.if2.false)) c.before.before.before.before.before.before.before.before.before.before.before.before.before.before.before.before.before.before.on-trail.ensures) c.before.before.before.before.before.before.before.before.before.before.before.before.before.before.before.before.before.before.before.before.before.before.if1.false c.before.before.before.before.before.before.before.before.before.before.before.before.before.before.before.before.before.if3.false c.before.before.before.before.before.before.before.before.before.before.before.before.before.before.before.before.before.before.before.before.if2.false c.before.before.before.before.before.before.before.before.before.before.before.before.before.before.before.set-depth.ensures c.before.before.before.before.before.before.before.before.write.ensures c.set-depth2.ensures

@@ -2,11 +2,11 @@
 use Prim.Native.Nat.{◌≤◌, ℕ}
 use Rattle.heads.proofs.Heads.{isolating_is}
 use Rattle.records.proofs.Views.{num_is, num_none}
-use Rattle.resolver.proofs.Elements.{elements-more, elements-none, elements-stop, pattern-all, pattern-none, pattern-worse}
+use Rattle.resolver.proofs.Elements.{elements_more, elements_none, elements_stop, pattern_all, pattern_none, pattern_worse}
 use Rattle.resolver.specs.Relations.Meets.{lent, World, env, world}
 use Rattle.resolver.specs.Relations.Members.{ElementsAt}
 use Rattle.state.specs.Progress.{progress_of}
-use Rattle.walks.proofs.Passing.{element-passed}
+use Rattle.walks.proofs.Passing.{element_passed}
 use borrow.Author.Rules.{rules}
 use lib.ListN.{length}
 use mathlib.Core.Path.{◌∙◌, ◌≡◌, refl}
@@ -34,7 +34,7 @@ pub enum_told : (t : ℕ) → PatternWriteLts.Need-enum-told (pattern_write_clai
 enum_told t c = search rules
 
 pub returns : (t : ℕ) → PatternWriteLts.Need-returns (pattern_write_claims t) (pattern_write_at t) PatternWriteReads.Post InvLoop μ-loop
-returns t c = pattern-none _ _ _ (world c.before.before.before.before.before.before.before.before.args.store.now c.before.before.before.before.before.before.before.before.args.text.now c.before.before.before.before.before.before.before.before.args.list.now c.before.before.before.before.before.before.before.before.args.work.now c.before.before.before.before.before.before.before.before.args.trail.now (progress_of c.before.before.before.before.before.before.before.before.args.st.now)) (num_none c.before.before.read_u32.ensures c.enum_told.given.1)
+returns t c = pattern_none _ _ _ (world c.before.before.before.before.before.before.before.before.args.store.now c.before.before.before.before.before.before.before.before.args.text.now c.before.before.before.before.before.before.before.before.args.list.now c.before.before.before.before.before.before.before.before.args.work.now c.before.before.before.before.before.before.before.before.args.trail.now (progress_of c.before.before.before.before.before.before.before.before.args.st.now)) (num_none c.before.before.read_u32.ensures c.enum_told.given.1)
 
 pub read_u16_requires : (t : ℕ) → PatternWriteLts.Need-read-u16-requires (pattern_write_claims t) (pattern_write_at t) PatternWriteReads.Post InvLoop μ-loop
 read_u16_requires t c κs = search rules
@@ -46,7 +46,7 @@ pub enum_told_2 : (t : ℕ) → PatternWriteLts.Need-enum-told-2 (pattern_write_
 enum_told_2 t c = search rules
 
 pub returns_2 : (t : ℕ) → PatternWriteLts.Need-returns-2 (pattern_write_claims t) (pattern_write_at t) PatternWriteReads.Post InvLoop μ-loop
-returns_2 t c = pattern-worse _ _ _ _ (num_is c.before.before.before.before.before.before.read_u32.ensures c.before.before.before.before.a.given.1) (num_none c.before.before.read-u16.ensures c.enum-told2.given.1)
+returns_2 t c = pattern_worse _ _ _ _ (num_is c.before.before.before.before.before.before.read_u32.ensures c.before.before.before.before.a.given.1) (num_none c.before.before.read-u16.ensures c.enum-told2.given.1)
 
 pub isolates_requires : (t : ℕ) → PatternWriteLts.Need-isolates-requires (pattern_write_claims t) (pattern_write_at t) PatternWriteReads.Post InvLoop μ-loop
 isolates_requires t c κs = search rules
@@ -76,7 +76,7 @@ pub same_length_3 : (t : ℕ) → PatternWriteLts.Need-same-length-3 (pattern_wr
 same_length_3 t c = c.before.before.before.before.before.before.before.before.before.element.auto.1.1.1.1.1.0 ∙ c.before.before.before.before.before.before.before.before.before.before.before.before.before.before.before.before.before.loop.invariant.2
 
 pub returns_3 : (t : ℕ) → PatternWriteLts.Need-returns-3 (pattern_write_claims t) (pattern_write_at t) PatternWriteReads.Post InvLoop μ-loop
-returns_3 t c = pattern-all _ _ _ _ _ _ _ _ (num_is c.before.before.before.before.before.before.before.before.before.before.before.before.before.before.before.before.before.before.before.before.before.before.before.before.before.before.read_u32.ensures c.before.before.before.before.before.before.before.before.before.before.before.before.before.before.before.before.before.before.before.before.before.before.before.before.a.given.1) (num_is c.before.before.before.before.before.before.before.before.before.before.before.before.before.before.before.before.before.before.before.before.before.before.read-u16.ensures c.before.before.before.before.before.before.before.before.before.before.before.before.before.before.before.before.before.before.before.before.n.given.1) (isolating_is _ _ c.before.before.before.before.before.before.before.before.before.before.before.before.before.before.before.before.before.before.isolates.ensures) (c.before.before.before.before.before.before.before.before.before.before.before.before.before.before.before.before.before.loop.invariant.4 _ (elements-stop _ _ _ _ _ c.before.before.before.before.before.before.before.before.before.before.before.before.before.before.before.before.loop-test.true c.before.before.before.before.before.before.before.before.before.element.ensures (element-passed _ _ _ c.before.before.skip-element.ensures) c.enum-told3.given.1))
+returns_3 t c = pattern_all _ _ _ _ _ _ _ _ (num_is c.before.before.before.before.before.before.before.before.before.before.before.before.before.before.before.before.before.before.before.before.before.before.before.before.before.before.read_u32.ensures c.before.before.before.before.before.before.before.before.before.before.before.before.before.before.before.before.before.before.before.before.before.before.before.before.a.given.1) (num_is c.before.before.before.before.before.before.before.before.before.before.before.before.before.before.before.before.before.before.before.before.before.before.read-u16.ensures c.before.before.before.before.before.before.before.before.before.before.before.before.before.before.before.before.before.before.before.before.n.given.1) (isolating_is _ _ c.before.before.before.before.before.before.before.before.before.before.before.before.before.before.before.before.before.before.isolates.ensures) (c.before.before.before.before.before.before.before.before.before.before.before.before.before.before.before.before.before.loop.invariant.4 _ (elements_stop _ _ _ _ _ c.before.before.before.before.before.before.before.before.before.before.before.before.before.before.before.before.loop-test.true c.before.before.before.before.before.before.before.before.before.element.ensures (element_passed _ _ _ c.before.before.skip-element.ensures) c.enum-told3.given.1))
 
 pub sub_i : (t : ℕ) → PatternWriteLts.Need-overflow-sub-i (pattern_write_claims t) (pattern_write_at t) PatternWriteReads.Post InvLoop μ-loop
 sub_i t c = search rules
@@ -90,7 +90,7 @@ loop_again t c = (
   c.before.before.before.before.before.before.before.before.before.before.element.auto.1.1.1.1.0 ∙ c.before.before.before.before.before.before.before.before.before.before.before.before.before.before.before.before.before.before.loop.invariant.1,
   c.before.before.before.before.before.before.before.before.before.before.element.auto.1.1.1.1.1.0 ∙ c.before.before.before.before.before.before.before.before.before.before.before.before.before.before.before.before.before.before.loop.invariant.2,
   le_trans c.before.before.before.before.before.before.before.before.before.before.before.before.before.before.before.before.before.before.loop.invariant.3 c.before.before.before.before.before.before.before.before.before.before.element.ensures.kept.begun,
-  λ v h. c.before.before.before.before.before.before.before.before.before.before.before.before.before.before.before.before.before.before.loop.invariant.4 v (elements-more _ _ _ _ _ c.before.before.before.before.before.before.before.before.before.before.before.before.before.before.before.before.before.loop-test.true c.before.before.before.before.before.before.before.before.before.before.element.ensures (element-passed _ _ _ c.before.before.before.skip-element.ensures) c.before.q.given.1 v h),
+  λ v h. c.before.before.before.before.before.before.before.before.before.before.before.before.before.before.before.before.before.before.loop.invariant.4 v (elements_more _ _ _ _ _ c.before.before.before.before.before.before.before.before.before.before.before.before.before.before.before.before.before.loop-test.true c.before.before.before.before.before.before.before.before.before.before.element.ensures (element_passed _ _ _ c.before.before.before.skip-element.ensures) c.before.q.given.1 v h),
 )
 
 pub same_length_4 : (t : ℕ) → PatternWriteLts.Need-same-length-4 (pattern_write_claims t) (pattern_write_at t) PatternWriteReads.Post InvLoop μ-loop
@@ -103,4 +103,4 @@ pub same_length_6 : (t : ℕ) → PatternWriteLts.Need-same-length-6 (pattern_wr
 same_length_6 t c = c.before.loop.invariant.2
 
 pub returns_4 : (t : ℕ) → PatternWriteLts.Need-returns-4 (pattern_write_claims t) (pattern_write_at t) PatternWriteReads.Post InvLoop μ-loop
-returns_4 t c = pattern-all _ _ _ _ _ _ _ _ (num_is c.before.before.before.before.before.before.before.before.before.before.read_u32.ensures c.before.before.before.before.before.before.before.before.a.given.1) (num_is c.before.before.before.before.before.before.read-u16.ensures c.before.before.before.before.n.given.1) (isolating_is _ _ c.before.before.isolates.ensures) (c.before.loop.invariant.4 _ (elements-none _ _ _ _ _ _ c.loop-test.false))
+returns_4 t c = pattern_all _ _ _ _ _ _ _ _ (num_is c.before.before.before.before.before.before.before.before.before.before.read_u32.ensures c.before.before.before.before.before.before.before.before.a.given.1) (num_is c.before.before.before.before.before.before.read-u16.ensures c.before.before.before.before.n.given.1) (isolating_is _ _ c.before.before.isolates.ensures) (c.before.loop.invariant.4 _ (elements_none _ _ _ _ _ _ c.loop-test.false))

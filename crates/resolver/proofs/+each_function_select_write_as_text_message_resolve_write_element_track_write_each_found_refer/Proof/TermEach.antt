@@ -1,11 +1,11 @@
 -- What is left of `term-each`.
 use Prim.Native.Nat.{◌≤◌, ℕ}
 use Rattle.records.proofs.Views.{num_is, num_none}
-use Rattle.resolver.proofs.Calls.{InlinesAt, Taken, inlines-more, inlines-none, inlines-stop, none_yet, positional-all, positional-none}
-use Rattle.resolver.proofs.Parts.{positional-as, positional-stop, taken_next}
+use Rattle.resolver.proofs.Calls.{InlinesAt, Taken, inlines_more, inlines_none, inlines_stop, none_yet, positional_all, positional_none}
+use Rattle.resolver.proofs.Parts.{positional_as, positional_stop, taken_next}
 use Rattle.resolver.specs.Relations.Meets.{lent, World, env, world}
 use Rattle.state.specs.Progress.{progress_of}
-use Rattle.walks.proofs.Passing.{inline-passed}
+use Rattle.walks.proofs.Passing.{inline_passed}
 use borrow.Author.Rules.{rules}
 use lib.ListN.{length}
 use mathlib.Core.Path.{◌∙◌, ◌≡◌, refl}
@@ -36,7 +36,7 @@ pub enum_told : (t : ℕ) → TermEachLts.Need-enum-told (term_each_claims t) (t
 enum_told t c = search rules
 
 pub returns : (t : ℕ) → TermEachLts.Need-returns (term_each_claims t) (term_each_at t) TermEachReads.Post InvLoop μ-loop
-returns t c = (val.Wrong, positional-none _ _ _ (world c.before.before.before.before.before.before.before.before.args.store.now c.before.before.before.before.before.before.before.before.args.text.now c.before.before.before.before.before.before.before.before.args.list.now c.before.before.before.before.before.before.before.before.args.work.now c.before.before.before.before.before.before.before.before.args.trail.now (progress_of c.before.before.before.before.before.before.before.before.args.st.now)) _ _ (num_none c.before.before.read-u16.ensures c.enum_told.given.1))
+returns t c = (val.Wrong, positional_none _ _ _ (world c.before.before.before.before.before.before.before.before.args.store.now c.before.before.before.before.before.before.before.before.args.text.now c.before.before.before.before.before.before.before.before.args.list.now c.before.before.before.before.before.before.before.before.args.work.now c.before.before.before.before.before.before.before.before.args.trail.now (progress_of c.before.before.before.before.before.before.before.before.args.st.now)) _ _ (num_none c.before.before.read-u16.ensures c.enum_told.given.1))
 
 pub loop_holds : (t : ℕ) → TermEachLts.Need-loop-init (term_each_claims t) (term_each_at t) TermEachReads.Post InvLoop μ-loop
 loop_holds t c = (refl, refl, refl, omega arith, (val.Wrong, none_yet refl refl refl refl), λ v e h. h)
@@ -63,7 +63,7 @@ pub same_length_3 : (t : ℕ) → TermEachLts.Need-same-length-3 (term_each_clai
 same_length_3 t c = c.before.before.before.before.before.before.before.before.before.resolve.auto.1.1.1.1.1.0 ∙ c.before.before.before.before.before.before.before.before.before.before.before.before.before.before.before.before.before.loop.invariant.2
 
 pub returns_2 : (t : ℕ) → TermEachLts.Need-returns-2 (term_each_claims t) (term_each_at t) TermEachReads.Post InvLoop μ-loop
-returns_2 t c = (val.Wrong, positional-stop _ _ _ (num_is c.before.before.before.before.before.before.before.before.before.before.before.before.before.before.before.before.before.before.before.before.before.read-u16.ensures c.before.before.before.before.before.before.before.before.before.before.before.before.before.before.before.before.before.before.before.n.given.1) (λ end. c.before.before.before.before.before.before.before.before.before.before.before.before.before.before.before.before.before.loop.invariant.5 _ end (inlines-stop _ _ _ _ c.before.before.before.before.before.before.before.before.before.before.before.before.before.before.before.before.loop-test.true c.before.before.before.before.before.before.before.before.before.resolve.ensures (inline-passed _ _ _ c.before.before.skip-expression.ensures) c.enum-told2.given.1 end)) _ _)
+returns_2 t c = (val.Wrong, positional_stop _ _ _ (num_is c.before.before.before.before.before.before.before.before.before.before.before.before.before.before.before.before.before.before.before.before.before.read-u16.ensures c.before.before.before.before.before.before.before.before.before.before.before.before.before.before.before.before.before.before.before.n.given.1) (λ end. c.before.before.before.before.before.before.before.before.before.before.before.before.before.before.before.before.before.loop.invariant.5 _ end (inlines_stop _ _ _ _ c.before.before.before.before.before.before.before.before.before.before.before.before.before.before.before.before.loop-test.true c.before.before.before.before.before.before.before.before.before.resolve.ensures (inline_passed _ _ _ c.before.before.skip-expression.ensures) c.enum-told2.given.1 end)) _ _)
 
 pub sub_i : (t : ℕ) → TermEachLts.Need-overflow-sub-i (term_each_claims t) (term_each_at t) TermEachReads.Post InvLoop μ-loop
 sub_i t c = search rules
@@ -78,7 +78,7 @@ loop_again t c = (
   c.before.before.before.before.before.before.before.before.before.before.resolve.auto.1.1.1.1.1.0 ∙ c.before.before.before.before.before.before.before.before.before.before.before.before.before.before.before.before.before.before.loop.invariant.2,
   le_trans c.before.before.before.before.before.before.before.before.before.before.before.before.before.before.before.before.before.before.loop.invariant.3 c.before.before.before.before.before.before.before.before.before.before.resolve.ensures.kept.begun,
   taken_next _ c.before.before.before.before.before.before.before.before.before.before.before.before.before.before.before.before.before.loop-test.true c.before.before.before.before.before.before.before.before.before.before.before.before.before.before.before.before.before.before.loop.invariant.4.1 c.before.before.before.before.before.before.before.before.before.before.resolve.ensures,
-  λ v e h. c.before.before.before.before.before.before.before.before.before.before.before.before.before.before.before.before.before.before.loop.invariant.5 v e (inlines-more _ _ _ _ c.before.before.before.before.before.before.before.before.before.before.before.before.before.before.before.before.before.loop-test.true c.before.before.before.before.before.before.before.before.before.before.resolve.ensures (inline-passed _ _ _ c.before.before.before.skip-expression.ensures) c.before.q.given.1 v e h),
+  λ v e h. c.before.before.before.before.before.before.before.before.before.before.before.before.before.before.before.before.before.before.loop.invariant.5 v e (inlines_more _ _ _ _ c.before.before.before.before.before.before.before.before.before.before.before.before.before.before.before.before.before.loop-test.true c.before.before.before.before.before.before.before.before.before.before.resolve.ensures (inline_passed _ _ _ c.before.before.before.skip-expression.ensures) c.before.q.given.1 v e h),
 )
 
 pub set_end_requires : (t : ℕ) → TermEachLts.Need-set-end-requires (term_each_claims t) (term_each_at t) TermEachReads.Post InvLoop μ-loop
@@ -94,4 +94,4 @@ pub same_length_6 : (t : ℕ) → TermEachLts.Need-same-length-6 (term_each_clai
 same_length_6 t c = c.before.before.before.loop.invariant.2
 
 pub returns_3 : (t : ℕ) → TermEachLts.Need-returns-3 (term_each_claims t) (term_each_at t) TermEachReads.Post InvLoop μ-loop
-returns_3 t c = (c.before.before.before.loop.invariant.4.0, positional-as _ _ _ refl c.set-end.ensures.2 (positional-all _ _ _ (num_is c.before.before.before.before.before.before.before.read-u16.ensures c.before.before.before.before.before.n.given.1) (λ e. omega (arith, c.before.before.loop-test.false)) c.before.before.before.loop.invariant.4.1 (c.before.before.before.loop.invariant.5 _ _ (inlines-none _ _ _ _ _ c.before.before.loop-test.false))))
+returns_3 t c = (c.before.before.before.loop.invariant.4.0, positional_as _ _ _ refl c.set-end.ensures.2 (positional_all _ _ _ (num_is c.before.before.before.before.before.before.before.read-u16.ensures c.before.before.before.before.before.n.given.1) (λ e. omega (arith, c.before.before.loop-test.false)) c.before.before.before.loop.invariant.4.1 (c.before.before.before.loop.invariant.5 _ _ (inlines_none _ _ _ _ _ c.before.before.loop-test.false))))

@@ -1,5 +1,5 @@
 -- `resolver::call::apply` meets its contract: it is refused, or no arguments stand there, or the answer says it.
-use Rattle.records.proofs.Laws.{str-in}
+use Rattle.records.proofs.Laws.{str_in}
 use Rattle.records.proofs.Views.{num_is, num_none}
 use Rattle.resolver.proofs.Answers.{applied-answer, applied-halted, applied-none, applied-stopped, applied-unnamed}
 use borrow.Author.Rules.{rules}
@@ -57,17 +57,17 @@ returns_4 c = applied-halted _ _ (num_is c.before.before.before.before.before.be
 
 sub-answer : tie.Need-overflow-sub-answer
 sub-answer c =
-    let str-inside = str-in _ _ c.before.before.before.before.before.before.before.before.before.before.before.before.before.before.before.before.before.before.before.read-str.ensures c.before.before.before.before.before.before.before.before.before.before.before.before.before.before.before.before.before.a.given.1 in
+    let str-inside = str_in _ _ c.before.before.before.before.before.before.before.before.before.before.before.before.before.before.before.before.before.before.before.read-str.ensures c.before.before.before.before.before.before.before.before.before.before.before.before.before.before.before.before.before.a.given.1 in
     omega (arith, str-inside)
 
 part-answer-start : tie.Need-slice-bounds-answer-start
 part-answer-start c =
-    let str-inside = str-in _ _ c.before.before.before.before.before.before.before.before.before.before.before.before.before.before.before.before.before.before.before.read-str.ensures c.before.before.before.before.before.before.before.before.before.before.before.before.before.before.before.before.before.a.given.1 in
+    let str-inside = str_in _ _ c.before.before.before.before.before.before.before.before.before.before.before.before.before.before.before.before.before.before.before.read-str.ensures c.before.before.before.before.before.before.before.before.before.before.before.before.before.before.before.before.before.a.given.1 in
     omega (arith, str-inside)
 
 part-answer-end : tie.Need-slice-bounds-answer-end
 part-answer-end c =
-    let str-inside = str-in _ _ c.before.before.before.before.before.before.before.before.before.before.before.before.before.before.before.before.before.before.before.read-str.ensures c.before.before.before.before.before.before.before.before.before.before.before.before.before.before.before.before.before.a.given.1 in
+    let str-inside = str_in _ _ c.before.before.before.before.before.before.before.before.before.before.before.before.before.before.before.before.before.before.before.read-str.ensures c.before.before.before.before.before.before.before.before.before.before.before.before.before.before.before.before.before.a.given.1 in
     omega (arith, str-inside)
 
 answer-requires : tie.Need-answer-requires

@@ -1,5 +1,5 @@
 -- `resolver::format::find_message` meets its contract: by what holds the id, and then by the part.
-use Rattle.resolver.proofs.Patterns.{found-function, found-no-part, found_nothing, found_part, found-term}
+use Rattle.resolver.proofs.Patterns.{found_function, found_no_part, found_nothing, found_part, found_term_law}
 use borrow.Author.Rules.{rules}
 use Rattle.resolver.proofs.format.find_message.Statement.{statement}
 use Rattle.resolver.proofs.format.find_message.Tie as tie
@@ -20,7 +20,7 @@ enum_told : tie.Need-enum-told
 enum_told c = search rules
 
 returns : tie.Need-returns
-returns c = found-no-part _ _ _ c.before.before.before.before.before.before.find-holder.ensures c.before.before.before.before.entry.given.1 c.before.before.find-part.ensures c.enum_told.given.1
+returns c = found_no_part _ _ _ c.before.before.before.before.before.before.find-holder.ensures c.before.before.before.before.entry.given.1 c.before.before.find-part.ensures c.enum_told.given.1
 
 enum_told_2 : tie.Need-enum-told-2
 enum_told_2 c = search rules
@@ -35,10 +35,10 @@ returns_2 : tie.Need-returns-2
 returns_2 c = found_part _ _ _ c.before.before.before.before.before.before.before.find-holder.ensures c.before.before.before.before.before.entry.given.1 c.before.before.before.find-part.ensures c.before.q.given.1
 
 returns_3 : tie.Need-returns-3
-returns_3 c = found-term _ _ _ c.before.before.find-holder.ensures c.enum-told2.given.1
+returns_3 c = found_term_law _ _ _ c.before.before.find-holder.ensures c.enum-told2.given.1
 
 returns_4 : tie.Need-returns-4
-returns_4 c = found-function _ _ _ c.before.before.find-holder.ensures c.enum-told3.given.1
+returns_4 c = found_function _ _ _ c.before.before.find-holder.ensures c.enum-told3.given.1
 
 returns_5 : tie.Need-returns-5
 returns_5 c = found_nothing _ _ _ c.before.before.find-holder.ensures c.enum-told4.given.1

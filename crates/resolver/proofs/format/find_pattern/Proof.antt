@@ -1,6 +1,6 @@
 -- `resolver::format::find_pattern` meets its contract: each refusal in its order, and then the message's pattern.
 use Rattle.records.proofs.Views.{next_is, next_none}
-use Rattle.resolver.proofs.Patterns.{message-found, pattern-no-attribute-id, pattern-no-id, pattern_no_store, pattern-of}
+use Rattle.resolver.proofs.Patterns.{message_found_law, pattern_no_attribute_id, pattern_no_id, pattern_no_store, pattern_of_law}
 use borrow.Author.Rules.{rules}
 use borrow.Author.Tests.{not-false, not-true}
 use mathlib.Core.Path.{◌∙◌, refl, sym}
@@ -23,19 +23,19 @@ is-id-requires : tie.Need-is-id-requires
 is-id-requires c κs = search rules
 
 returns_2 : tie.Need-returns-2
-returns_2 c = next_is c.before.before.before.before.check-store.ensures c.before.before.enum_told.given.1 (λ st h. pattern-no-id _ _ _ h (sym c.before.is-id.ensures ∙ not-true _ c.if1.true) refl)
+returns_2 c = next_is c.before.before.before.before.check-store.ensures c.before.before.enum_told.given.1 (λ st h. pattern_no_id _ _ _ h (sym c.before.is-id.ensures ∙ not-true _ c.if1.true) refl)
 
 is-id-or-none-requires : tie.Need-is-id-or-none-requires
 is-id-or-none-requires c κs = search rules
 
 returns_3 : tie.Need-returns-3
-returns_3 c = next_is c.before.before.before.before.before.before.check-store.ensures c.before.before.before.before.enum_told.given.1 (λ st h. pattern-no-attribute-id _ _ _ h (sym c.before.before.before.is-id.ensures ∙ not-false _ c.before.before.if1.false) (sym c.before.is-id-or-none.ensures ∙ not-true _ c.if2.true) refl)
+returns_3 c = next_is c.before.before.before.before.before.before.check-store.ensures c.before.before.before.before.enum_told.given.1 (λ st h. pattern_no_attribute_id _ _ _ h (sym c.before.before.before.is-id.ensures ∙ not-false _ c.before.before.if1.false) (sym c.before.is-id-or-none.ensures ∙ not-true _ c.if2.true) refl)
 
 find-message-requires : tie.Need-find-message-requires
 find-message-requires c κs = search rules
 
 returns_4 : tie.Need-returns-4
-returns_4 c = next_is c.before.before.before.before.before.before.before.check-store.ensures c.before.before.before.before.before.enum_told.given.1 (λ st h. pattern-of _ _ _ h (sym c.before.before.before.before.is-id.ensures ∙ not-false _ c.before.before.before.if1.false) (sym c.before.before.is-id-or-none.ensures ∙ not-false _ c.before.if2.false) (message-found _ _ _ h c.find-message.ensures))
+returns_4 c = next_is c.before.before.before.before.before.before.before.check-store.ensures c.before.before.before.before.before.enum_told.given.1 (λ st h. pattern_of_law _ _ _ h (sym c.before.before.before.before.is-id.ensures ∙ not-false _ c.before.before.before.if1.false) (sym c.before.before.is-id-or-none.ensures ∙ not-false _ c.before.if2.false) (message_found_law _ _ _ h c.find-message.ensures))
 
 pub find-pattern-spec : {M : Type 1} → statement M
 find-pattern-spec = tie.close (tie.spec check-store-requires enum_told enum_told_2 returns is-id-requires returns_2 is-id-or-none-requires returns_3 find-message-requires returns_4)

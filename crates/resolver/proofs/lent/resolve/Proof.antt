@@ -157,14 +157,14 @@ module _ {M : Type 1} {𝓤 : Ura M} (𝓛 : Logic 𝓤) (at_mem : Memory → SP
       move ! (3 ∷ 0 ∷ []) $ join ! $ move ! (3 ∷ 0 ∷ []) $ join ! $ move ! (3 ∷ 0 ∷ []) $ join ! $ move ! (3 ∷ 0 ∷ []) $ join ! $ move ! (3 ∷ 0 ∷ []) $ join ! $ move ! (3 ∷ 0 ∷ []) $ join ! $ keep ! (0 ∷ []) $ done !
 
   -- the call of `new`: what its triple binds outside, that the caller has what it asks, and what it says
-  abbrev to-new : (New 𝓛 at_mem run).Ghost
-  to-new = ((tt, tt, tt, tt, tt), tt)
+  abbrev to_new : (New 𝓛 at_mem run).Ghost
+  to_new = ((tt, tt, tt, tt, tt), tt)
 
-  goes-new : ent 𝓤 (emp 𝓤) ((New 𝓛 at_mem run).pre to-new)
-  goes-new = qed 𝓛 [] ∵ nothing ! $ nothing ! $ join ! $ frame ! $ done !
+  goes_new : ent 𝓤 (emp 𝓤) ((New 𝓛 at_mem run).pre to_new)
+  goes_new = qed 𝓛 [] ∵ nothing ! $ nothing ! $ join ! $ frame ! $ done !
 
-  new-said : (r : Scope) → ent 𝓤 (ensured 𝓛 new.ended (new.clauses 𝓛 at_mem run) tt tt tt r) (fact 𝓤 (r ≡ h))
-  new-said r = ex_e 𝓤 _ (λ ws. snd∗ 𝓤 (sem 𝓛 (lasts new.ended tt tt ws)) (fact 𝓤 (r ≡ h)))
+  new_said : (r : Scope) → ent 𝓤 (ensured 𝓛 new.ended (new.clauses 𝓛 at_mem run) tt tt tt r) (fact 𝓤 (r ≡ h))
+  new_said r = ex_e 𝓤 _ (λ ws. snd∗ 𝓤 (sem 𝓛 (lasts new.ended tt tt ws)) (fact 𝓤 (r ≡ h)))
 
   -- the call of `write`, to which the scope is lent for the lifetime ρ under the name η
   abbrev κs₈ : ℕ → Lfts 8
@@ -239,9 +239,9 @@ module _ {M : Type 1} {𝓤 : Ura M} (𝓛 : Logic 𝓤) (at_mem : Memory → SP
         pass1 ! (init ! 28 refl (tt, tt)) $ pass1 ! (init ! 26 refl (tt, record { fits = n-fits })) $ pass0 ! $
         move ! (48 ∷ 49 ∷ []) $ use2 𝓛 Rest apart $
         -- `new`
-        use0 𝓛 (raw ((New 𝓛 at_mem run).pre to-new)) goes-new $ calls_at ! fm (New 𝓛 at_mem run) known-new to-new (no_more !) (λ u.
+        use0 𝓛 (raw ((New 𝓛 at_mem run).pre to_new)) goes_new $ calls_at ! fm (New 𝓛 at_mem run) known-new to_new (no_more !) (λ u.
         use1 𝓛 (later (some (λ (r : Scope). (‵ ftrue ⊛ ‵ (R.own r (u ∷ []))) ⊛ raw (ensured 𝓛 new.ended (new.clauses 𝓛 at_mem run) tt tt tt r)))) (id⊢ 𝓤 _) $ await ! tt $ pick ! (λ r₀. split ! $ move ! (1 ∷ []) $
-        use1 𝓛 (raw (fact 𝓤 (r₀ ≡ h))) (new-said r₀) $ heard ! (r₀ ≡ h) (λ e₁.
+        use1 𝓛 (raw (fact 𝓤 (r₀ ≡ h))) (new_said r₀) $ heard ! (r₀ ≡ h) (λ e₁.
         split ! $ rewrite ! 1 (λ (y : Scope). ‵ (R.own y (u ∷ []))) e₁ refl $ move ! (1 ∷ []) $
         -- [what the scope owns; true; the slices and the arrays; the locals]
         peeks ! R (Is R) (shows 𝓛 R) h (u ∷ []) (λ is. land ! (from ! (stop !)) (init ! 25 refl ((LL.lawful T.the_type T'.the_laws 𝓛).typed h _ is).0) $

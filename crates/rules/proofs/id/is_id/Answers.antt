@@ -1,6 +1,6 @@
 -- `rules::is_id` meets its contract.
 use Prim.Native.Nat.{◌-◌}
-use Rattle.decimals.proofs.Run.{run-done, run-turn}
+use Rattle.decimals.proofs.Run.{run_done, run_turn}
 use Rattle.rules.specs.Rules.{id_step, is_id}
 use borrow.Author.Rules.{rules}
 use borrow.Author.Tests.{eq-eqb, ne_eqb}
@@ -19,14 +19,14 @@ loop-i-smaller c = omega arith
 
 pub loop-i-preserved : goal.loop-i-preserved
 loop-i-preserved c =
-    (omega arith, run-turn id_step c.args.s.now c.loop-i-test.true c.loop-i.invariant.1 c.id_step-q.ensures)
+    (omega arith, run_turn id_step c.args.s.now c.loop-i-test.true c.loop-i.invariant.1 c.id_step-q.ensures)
 
 pub returns-then-q-eq1 : goal.returns-then-q-eq1
 unfolding is_id
 returns-then-q-eq1 c =
-    rw (run-done id_step c.args.s.now c.loop-i.q c.loop-i-test.false c.loop-i.invariant.1, eq-eqb _ _ c.if-q-eq1.true)
+    rw (run_done id_step c.args.s.now c.loop-i.q c.loop-i-test.false c.loop-i.invariant.1, eq-eqb _ _ c.if-q-eq1.true)
 
 pub returns-else-q-eq1 : goal.returns-else-q-eq1
 unfolding is_id
 returns-else-q-eq1 c =
-    rw (run-done id_step c.args.s.now c.loop-i.q c.loop-i-test.false c.loop-i.invariant.1, ne_eqb _ _ c.if-q-eq1.false)
+    rw (run_done id_step c.args.s.now c.loop-i.q c.loop-i-test.false c.loop-i.invariant.1, ne_eqb _ _ c.if-q-eq1.false)

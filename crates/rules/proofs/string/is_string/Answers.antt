@@ -1,6 +1,6 @@
 -- `rules::is_string` meets its contract.
 use Prim.Native.Nat.{◌-◌}
-use Rattle.decimals.proofs.Run.{run-done, run-turn}
+use Rattle.decimals.proofs.Run.{run_done, run_turn}
 use Rattle.rules.specs.Rules.{escape_step, is_string}
 use borrow.Author.Rules.{rules}
 use borrow.Author.Tests.{eq-eqb, ne_eqb}
@@ -18,12 +18,12 @@ pub loop-i-smaller : goal.loop-i-smaller
 loop-i-smaller c = omega arith
 
 pub loop-i-preserved : goal.loop-i-preserved
-loop-i-preserved c = (omega arith, run-turn escape_step c.args.s.now c.loop-i-test.true c.loop-i.invariant.1 c.escape_step-q.ensures)
+loop-i-preserved c = (omega arith, run_turn escape_step c.args.s.now c.loop-i-test.true c.loop-i.invariant.1 c.escape_step-q.ensures)
 
 pub returns-then-q-eq0 : goal.returns-then-q-eq0
 unfolding is_string
-returns-then-q-eq0 c = rw (run-done escape_step c.args.s.now c.loop-i.q c.loop-i-test.false c.loop-i.invariant.1, eq-eqb _ _ c.if-q-eq0.true) c.is_utf8.ensures
+returns-then-q-eq0 c = rw (run_done escape_step c.args.s.now c.loop-i.q c.loop-i-test.false c.loop-i.invariant.1, eq-eqb _ _ c.if-q-eq0.true) c.is_utf8.ensures
 
 pub returns-else-q-eq0 : goal.returns-else-q-eq0
 unfolding is_string
-returns-else-q-eq0 c = rw (run-done escape_step c.args.s.now c.loop-i.q c.loop-i-test.false c.loop-i.invariant.1, ne_eqb _ _ c.if-q-eq0.false)
+returns-else-q-eq0 c = rw (run_done escape_step c.args.s.now c.loop-i.q c.loop-i-test.false c.loop-i.invariant.1, ne_eqb _ _ c.if-q-eq0.false)

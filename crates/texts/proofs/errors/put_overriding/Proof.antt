@@ -1,5 +1,5 @@
 -- `texts::errors::put_overriding` meets its contract.
-use Rattle.texts.proofs.Recording.{overriding-is, overriding-length, recorded-fits, recorded-full, recorded-long, room-true}
+use Rattle.texts.proofs.Recording.{overriding_is, overriding_length, recorded_fits, recorded_full, recorded_long, room_true}
 use Rattle.buffers.specs.Relations.Append.{over}
 use Rattle.texts.specs.Relations.Report.{kind_of}
 use borrow.Author.Rules.{rules}
@@ -9,7 +9,7 @@ use Rattle.texts.proofs.errors.put_overriding.Statement.{statement}
 use Rattle.texts.proofs.errors.put_overriding.Tie as tie
 
 returns : tie.Need-returns
-returns c = recorded-long _ _ _ (omega (arith, overriding-length c.before.before.before.args.id.now (kind_of c.before.before.before.args.kind)))
+returns c = recorded_long _ _ _ (omega (arith, overriding_length c.before.before.before.args.id.now (kind_of c.before.before.before.args.kind)))
 
 add-room-for : tie.Need-overflow-add-room-for
 add-room-for c = search rules
@@ -25,7 +25,7 @@ kind-byte-requires c κs = search rules
 
 write-named-requires : tie.Need-write-named-requires
 write-named-requires c κs =
-    let room = room-true _ _ _ c.before.before.before.room_for.ensures c.before.before.if2.true in
+    let room = room_true _ _ _ c.before.before.before.room_for.ensures c.before.before.if2.true in
     omega arith
 
 add-t13 : tie.Need-overflow-add-t13
@@ -33,17 +33,17 @@ add-t13 c = search rules
 
 add-t15 : tie.Need-overflow-add-t15
 add-t15 c =
-    let room = room-true _ _ _ c.before.before.before.before.before.before.room_for.ensures c.before.before.before.before.before.if2.true in
+    let room = room_true _ _ _ c.before.before.before.before.before.before.room_for.ensures c.before.before.before.before.before.if2.true in
     omega arith
 
 same_length : tie.Need-same-length
 same_length c = search rules
 
 returns_2 : tie.Need-returns-2
-returns_2 c = recorded-fits _ _ _ _ c.before.before.before.before.before.before.room_for.ensures c.before.before.before.before.before.if2.true (overriding-length _ _) (c.before.before.write-named.ensures ∙ ap (over _ _) (overriding-is _ _ c.before.before.before.kind-byte.ensures))
+returns_2 c = recorded_fits _ _ _ _ c.before.before.before.before.before.before.room_for.ensures c.before.before.before.before.before.if2.true (overriding_length _ _) (c.before.before.write-named.ensures ∙ ap (over _ _) (overriding_is _ _ c.before.before.before.kind-byte.ensures))
 
 returns_3 : tie.Need-returns-3
-returns_3 c = recorded-full _ _ _ _ c.before.room_for.ensures c.if2.false (overriding-length _ _)
+returns_3 c = recorded_full _ _ _ _ c.before.room_for.ensures c.if2.false (overriding_length _ _)
 
 pub put-overriding-spec : {M : Type 1} → statement M
 put-overriding-spec = tie.close (tie.spec returns add-room-for room-for-requires add-write-named kind-byte-requires write-named-requires add-t13 add-t15 same_length returns_2 returns_3)

@@ -1,6 +1,6 @@
 -- `texts::errors::write_named` meets its contract.
 use Rattle.buffers.proofs.Place.{length_over}
-use Rattle.texts.proofs.Recording.{length_named, named-written}
+use Rattle.texts.proofs.Recording.{length_named, named_written}
 use borrow.Author.Rules.{rules}
 use lib.ListN.{length, length-set}
 use mathlib.Core.Path.{◌∙◌, ap}
@@ -25,12 +25,12 @@ write-str-requires c κs = simp length-set (omega (arith, c.before.before.before
 
 same_length : tie.Need-same-length
 same_length c =
-    let bytes = named-written _ _ _ _ _ _ c.before.before.before.before.before.before.before.before.before.before.requires.0 c.before.before.before.before.before.before.write-head.ensures c.before.before.write-str.ensures in
+    let bytes = named_written _ _ _ _ _ _ c.before.before.before.before.before.before.before.before.before.before.requires.0 c.before.before.before.before.before.before.write-head.ensures c.before.before.write-str.ensures in
     ap length bytes ∙ length_over _ _ _ (omega (arith, c.before.before.before.before.before.before.before.before.before.before.requires.0, length_named c.before.before.before.before.before.before.before.before.before.before.args.n c.before.before.before.before.before.before.before.before.before.before.args.tag c.before.before.before.before.before.before.before.before.before.before.args.kind c.before.before.before.before.before.before.before.before.before.before.args.s.now))
 
 returns : tie.Need-returns
 returns c =
-    let bytes = named-written _ _ _ _ _ _ c.before.before.before.before.before.before.before.before.before.before.requires.0 c.before.before.before.before.before.before.write-head.ensures c.before.before.write-str.ensures in
+    let bytes = named_written _ _ _ _ _ _ c.before.before.before.before.before.before.before.before.before.before.requires.0 c.before.before.before.before.before.before.write-head.ensures c.before.before.write-str.ensures in
     bytes
 
 pub write-named-spec : {M : Type 1} → statement M

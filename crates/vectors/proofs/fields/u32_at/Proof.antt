@@ -1,5 +1,5 @@
 -- `vectors::fields::u32_at` meets its contract: two u16, the second held to the end.
-use Rattle.vectors.proofs.Clamp.{u32-is}
+use Rattle.vectors.proofs.Clamp.{u32_is}
 use Rattle.std.proofs.Common.{arith, rules}
 use Rattle.vectors.proofs.fields.u32_at.Statement.{statement}
 use Rattle.vectors.proofs.fields.u32_at.Tie as tie
@@ -20,7 +20,7 @@ add-result : tie.Need-overflow-add-result
 add-result c = search rules
 
 returns : tie.Need-returns
-returns c = (u32-is c.before.before.before.before.args.s.now c.before.before.before.before.args.at c.before.before.u16-at.ensures.0 c.before.past.ensures c.u16-at2.ensures.0, omega arith)
+returns c = (u32_is c.before.before.before.before.args.s.now c.before.before.before.before.args.at c.before.before.u16-at.ensures.0 c.before.past.ensures c.u16-at2.ensures.0, omega arith)
 
 pub u32-at-spec : {M : Type 1} → statement M
 u32-at-spec = tie.close (tie.spec u16-at-requires mul-result past-requires u16-at-requires-2 add-result returns)

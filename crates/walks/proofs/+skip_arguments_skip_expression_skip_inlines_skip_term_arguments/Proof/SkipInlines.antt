@@ -1,6 +1,6 @@
 -- What is left of `skip_inlines`.
 use Prim.Native.Nat.{ℕ}
-use Rattle.records.proofs.Laws.{left_end, left-stop, left-turn}
+use Rattle.records.proofs.Laws.{left_end, left_stop, left_turn}
 use Rattle.records.specs.Relations.Answer.{next_of}
 use Rattle.walks.specs.Outline.{expression_outline, many_outline}
 use borrow.Author.Rules.{rules}
@@ -30,7 +30,7 @@ enum_told t c = search rules
 
 pub returns : (t : ℕ) → SkipInlinesLts.Need-returns (skip_inlines_claims t) (skip_inlines_at t) SkipInlinesReads.Post InvLoop μ-loop
 unfolding many_outline
-returns t c = left-stop tt (λ a l. l) (expression_outline c.before.before.before.before.before.before.args.left) c.before.before.before.before.before.before.args.s.now c.before.before.before.before.loop.i c.before.before.before.before.loop.at c.before.before.before.before.loop.invariant c.before.before.before.loop-test.true c.before.before.skip-expression.ensures c.enum_told.given.1
+returns t c = left_stop tt (λ a l. l) (expression_outline c.before.before.before.before.before.before.args.left) c.before.before.before.before.before.before.args.s.now c.before.before.before.before.loop.i c.before.before.before.before.loop.at c.before.before.before.before.loop.invariant c.before.before.before.loop-test.true c.before.before.skip-expression.ensures c.enum_told.given.1
 
 pub sub_i : (t : ℕ) → SkipInlinesLts.Need-overflow-sub-i (skip_inlines_claims t) (skip_inlines_at t) SkipInlinesReads.Post InvLoop μ-loop
 sub_i t c = search rules
@@ -40,7 +40,7 @@ loop_less t c = search rules
 
 pub loop_again : (t : ℕ) → SkipInlinesLts.Need-loop-preserved (skip_inlines_claims t) (skip_inlines_at t) SkipInlinesReads.Post InvLoop μ-loop
 unfolding many_outline
-loop_again t c = left-turn tt (λ a l. l) (expression_outline c.before.before.before.before.before.before.before.args.left) c.before.before.before.before.before.before.before.args.s.now c.before.before.before.before.before.loop.i c.before.before.before.before.before.loop.at c.before.before.before.before.before.loop.invariant c.before.before.before.before.loop-test.true c.before.before.before.skip-expression.ensures c.before.e.given.1
+loop_again t c = left_turn tt (λ a l. l) (expression_outline c.before.before.before.before.before.before.before.args.left) c.before.before.before.before.before.before.before.args.s.now c.before.before.before.before.before.loop.i c.before.before.before.before.before.loop.at c.before.before.before.before.before.loop.invariant c.before.before.before.before.loop-test.true c.before.before.before.skip-expression.ensures c.before.e.given.1
 
 pub returns_2 : (t : ℕ) → SkipInlinesLts.Need-returns-2 (skip_inlines_claims t) (skip_inlines_at t) SkipInlinesReads.Post InvLoop μ-loop
 unfolding many_outline

@@ -1,7 +1,7 @@
 -- What is left of `skip_term_arguments`.
 use Prim.Native.Nat.{ℕ}
-use Rattle.walks.proofs.Steps.{optional-bad, optional-none, optional-some}
-use Rattle.walks.specs.Outline.{argumentsOutline, expression_outline}
+use Rattle.walks.proofs.Steps.{optional_bad, optional_none, optional_some}
+use Rattle.walks.specs.Outline.{arguments_outline, expression_outline}
 use borrow.Author.Rules.{rules}
 use native.Mathlib.Omega.{arith}
 use Rattle.walks.proofs.skip_term_arguments.Reads as SkipTermArgumentsReads
@@ -18,13 +18,13 @@ pub enum_told : (t : ℕ) → SkipTermArgumentsLts.Need-enum-told (skip_term_arg
 enum_told t c = search rules
 
 pub returns : (t : ℕ) → SkipTermArgumentsLts.Need-returns (skip_term_arguments_claims t) (skip_term_arguments_at t) SkipTermArgumentsReads.Post
-returns t c = optional-bad (argumentsOutline (expression_outline c.before.before.before.before.args.left)) c.before.before.before.before.args.s.now c.before.before.before.before.args.at c.before.before.read_byte.ensures c.enum_told.given.1
+returns t c = optional_bad (arguments_outline (expression_outline c.before.before.before.before.args.left)) c.before.before.before.before.args.s.now c.before.before.before.before.args.at c.before.before.read_byte.ensures c.enum_told.given.1
 
 pub returns_2 : (t : ℕ) → SkipTermArgumentsLts.Need-returns-2 (skip_term_arguments_claims t) (skip_term_arguments_at t) SkipTermArgumentsReads.Post
-returns_2 t c = optional-none (argumentsOutline (expression_outline c.before.before.before.before.before.before.args.left)) c.before.before.before.before.before.before.args.s.now c.before.before.before.before.before.before.args.at c.before.before.before.before.read_byte.ensures c.before.before.flag.given.1 c.if1.true
+returns_2 t c = optional_none (arguments_outline (expression_outline c.before.before.before.before.before.before.args.left)) c.before.before.before.before.before.before.args.s.now c.before.before.before.before.before.before.args.at c.before.before.before.before.read_byte.ensures c.before.before.flag.given.1 c.if1.true
 
 pub skip_arguments_requires : (t : ℕ) → SkipTermArgumentsLts.Need-skip-arguments-requires (skip_term_arguments_claims t) (skip_term_arguments_at t) SkipTermArgumentsReads.Post
 skip_arguments_requires t c κs = omega arith
 
 pub returns_3 : (t : ℕ) → SkipTermArgumentsLts.Need-returns-3 (skip_term_arguments_claims t) (skip_term_arguments_at t) SkipTermArgumentsReads.Post
-returns_3 t c = optional-some (argumentsOutline (expression_outline c.before.before.before.before.before.before.before.args.left)) c.before.before.before.before.before.before.before.args.s.now c.before.before.before.before.before.before.before.args.at c.before.before.before.before.before.read_byte.ensures c.before.before.before.flag.given.1 c.before.if1.false c.skip-arguments.ensures
+returns_3 t c = optional_some (arguments_outline (expression_outline c.before.before.before.before.before.before.before.args.left)) c.before.before.before.before.before.before.before.args.s.now c.before.before.before.before.before.before.before.args.at c.before.before.before.before.before.read_byte.ensures c.before.before.before.flag.given.1 c.before.if1.false c.skip-arguments.ensures

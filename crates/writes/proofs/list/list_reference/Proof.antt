@@ -1,6 +1,6 @@
 -- `writes::list::list_reference` meets its contract: nothing once refused, else the record.
 use Rattle.state.specs.Progress.{progress_of}
-use Rattle.writes.proofs.Laws.{listed_next, listed-over}
+use Rattle.writes.proofs.Laws.{listed_next, listed_over}
 use borrow.Author.Rules.{rules}
 use Rattle.writes.proofs.list.list_reference.Statement.{statement}
 use Rattle.writes.proofs.list.list_reference.Tie as tie
@@ -9,7 +9,7 @@ element_copy_out_if1 : tie.Need-element-copy-out-if1
 element_copy_out_if1 c = search rules
 
 returns : tie.Need-returns
-returns c = listed-over _ c.before.before.before.before.before.args.list.now (progress_of c.before.before.before.before.before.args.st.now) c.if1.true
+returns c = listed_over _ c.before.before.before.before.before.args.list.now (progress_of c.before.before.before.before.before.args.st.now) c.if1.true
 
 element-copy-out-put-reference : tie.Need-element-copy-out-put-reference
 element-copy-out-put-reference c = search rules

@@ -1,5 +1,5 @@
 -- `writes::list::list_too_many` meets its contract: the error is listed in the state that it leaves.
-use Rattle.records.specs.Errors.{tooManyPlaceables}
+use Rattle.records.specs.Errors.{too_many_placeables}
 use Rattle.state.specs.Progress.{Progress}
 use Rattle.texts.specs.Relations.Report.{plain_of}
 use Rattle.writes.specs.Written.{listed}
@@ -19,7 +19,7 @@ same_length c = search rules
 
 returns : tie.Need-returns
 unfolding plain_of
-returns c = c.before.before.list-plain.ensures ∙ ap (λ (s : Progress). listed tooManyPlaceables c.before.before.before.before.before.before.before.before.args.list.now s) c.before.before.before.before.before.begin-last.ensures
+returns c = c.before.before.list-plain.ensures ∙ ap (λ (s : Progress). listed too_many_placeables c.before.before.before.before.before.before.before.before.args.list.now s) c.before.before.before.before.before.begin-last.ensures
 
 pub list-too-many-spec : {M : Type 1} → statement M
 list-too-many-spec = tie.close (tie.spec begin-last-requires list_plain_requires same_length returns)

@@ -2,7 +2,7 @@
 use Rattle.records.specs.Optional.{option_of}
 use Rattle.state.specs.Progress.{progress_of}
 use Rattle.texts.specs.Relations.Report.{referred_of}
-use Rattle.writes.proofs.Laws.{missing-outside, missing-within}
+use Rattle.writes.proofs.Laws.{missing_outside, missing_within}
 use borrow.Author.Rules.{rules}
 use borrow.Author.Tests.{eq-eqb, ne_eqb}
 use Rattle.writes.proofs.list.list_variable.Statement.{statement}
@@ -12,7 +12,7 @@ element_copy_out_if1 : tie.Need-element-copy-out-if1
 element_copy_out_if1 c = search rules
 
 returns : tie.Need-returns
-returns c = missing-within _ _ _ (eq-eqb _ _ c.if1.true)
+returns c = missing_within _ _ _ (eq-eqb _ _ c.if1.true)
 
 slice-aggregate-list-reference : tie.Need-slice-aggregate-list-reference
 slice-aggregate-list-reference c = search rules
@@ -25,7 +25,7 @@ same_length c = search rules
 
 returns_2 : tie.Need-returns-2
 unfolding referred_of option_of
-returns_2 c = missing-outside c.before.before.before.before.before.before.before.before.before.before.args.name.now c.before.before.before.before.before.before.before.before.before.before.args.list.now (progress_of c.before.before.before.before.before.before.before.before.before.before.args.st.now) (ne_eqb _ _ c.before.before.before.before.before.before.if1.false) c.before.before.list-reference.ensures
+returns_2 c = missing_outside c.before.before.before.before.before.before.before.before.before.before.args.name.now c.before.before.before.before.before.before.before.before.before.before.args.list.now (progress_of c.before.before.before.before.before.before.before.before.before.before.args.st.now) (ne_eqb _ _ c.before.before.before.before.before.before.if1.false) c.before.before.list-reference.ensures
 
 pub list-variable-spec : {M : Type 1} → statement M
 list-variable-spec = tie.close (tie.spec element_copy_out_if1 returns slice-aggregate-list-reference list-reference-requires same_length returns_2)

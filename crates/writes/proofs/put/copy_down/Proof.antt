@@ -1,7 +1,7 @@
 -- `writes::put::copy_down` meets its contract: no byte that is still to be read was written over.
 use Prim.Native.Nat.{◌-◌, ◌≤◌}
 use Rattle.records.specs.Bytes.{part}
-use Rattle.writes.proofs.Copies.{copy-end, copy_start, copy-turn}
+use Rattle.writes.proofs.Copies.{copy_end, copy_start, copy_turn}
 use lib.ListN.{length, length-set}
 use lib.Seq.{paste}
 use mathlib.Core.Path.{◌≡◌, refl}
@@ -49,13 +49,13 @@ loop_less c =
     omega (arith, c.before.before.before.requires.0, c.before.before.before.requires.1, all, c.before.before.loop.invariant.1, c.before.loop-test.true)
 
 loop_again : tie.Need-loop-preserved invariant-loop decreases-loop
-loop_again c = (omega (arith, c.before.loop-test.true), simp length-set c.before.before.loop.invariant.1, copy-turn _ _ _ _ c.before.before.before.requires.0 c.before.before.before.requires.1 c.before.before.before.requires.2 c.before.before.loop.i c.before.loop-test.true c.before.before.loop.invariant.2)
+loop_again c = (omega (arith, c.before.loop-test.true), simp length-set c.before.before.loop.invariant.1, copy_turn _ _ _ _ c.before.before.before.requires.0 c.before.before.before.requires.1 c.before.before.before.requires.2 c.before.before.loop.i c.before.loop-test.true c.before.before.loop.invariant.2)
 
 same_length : tie.Need-same-length invariant-loop decreases-loop
 same_length c = c.before.loop.invariant.1
 
 returns : tie.Need-returns invariant-loop decreases-loop
-returns c = copy-end _ _ _ _ c.before.before.requires.0 c.before.before.requires.1 c.before.before.requires.2 c.before.loop.i c.before.loop.invariant.0 c.loop-test.false c.before.loop.invariant.2
+returns c = copy_end _ _ _ _ c.before.before.requires.0 c.before.before.requires.1 c.before.before.requires.2 c.before.loop.i c.before.loop.invariant.0 c.loop-test.false c.before.loop.invariant.2
 
 pub copy-down-spec : {M : Type 1} → statement M
 copy-down-spec = tie.close (tie.spec invariant-loop decreases-loop loop_holds add-x slice-read-x add-work slice-write-work add-i loop_less loop_again same_length returns)

@@ -1,5 +1,5 @@
 -- `writes::put::copy_part` meets its contract: up from the last byte, down from the first.
-use Rattle.buffers.proofs.Place.{moved_back}
+use Rattle.buffers.proofs.Place.{moved_back_law}
 use borrow.Author.Rules.{rules}
 use mathlib.Core.Path.{◌∙◌}
 use native.Mathlib.Omega.{arith}
@@ -13,7 +13,7 @@ same_length : tie.Need-same-length
 same_length c = search rules
 
 returns : tie.Need-returns
-returns c = c.before.before.move-back.ensures ∙ moved_back _ _ _ _ c.before.before.before.before.if1.true c.before.before.before.before.before.before.requires.0
+returns c = c.before.before.move-back.ensures ∙ moved_back_law _ _ _ _ c.before.before.before.before.if1.true c.before.before.before.before.before.before.requires.0
 
 copy-down-requires : tie.Need-copy-down-requires
 copy-down-requires c κs = (omega (arith, c.before.if1.false), c.before.before.before.requires.0, c.before.before.before.requires.1)

@@ -1,7 +1,7 @@
 -- `writes::put::grow` meets its contract: the front moves on, and the highest use is the greater of the one before and the use now.
 use Rattle.state.specs.Progress.{progress_of}
-use Rattle.workspace.proofs.Laws.{highest-is}
-use Rattle.writes.proofs.Laws.{room-is, work_at}
+use Rattle.workspace.proofs.Laws.{highest_is}
+use Rattle.writes.proofs.Laws.{room_is, work_at}
 use borrow.Author.Rules.{rules}
 use mathlib.Core.Path.{◌∙◌}
 use native.Mathlib.Omega.{arith}
@@ -13,7 +13,7 @@ element-copy-out-front c = search rules
 
 add-front : tie.Need-overflow-add-front
 add-front c =
-    let h = room-is _ _ _ c.before.requires in
+    let h = room_is _ _ _ c.before.requires in
     omega (arith, h.0, h.1)
 
 element-copy-out-highest : tie.Need-element-copy-out-highest
@@ -30,8 +30,8 @@ set-front-requires c κs = search rules
 
 returns : tie.Need-returns
 returns c =
-    let h = room-is _ _ _ c.before.before.before.before.before.before.requires in
-    c.set_front.ensures ∙ work_at (progress_of c.before.before.before.before.before.before.args.st.now) c.before.before.before.before.before.before.args.len _ (c.before.before.highest.ensures ∙ highest-is _ _ _ _ h.0 h.1)
+    let h = room_is _ _ _ c.before.before.before.before.before.before.requires in
+    c.set_front.ensures ∙ work_at (progress_of c.before.before.before.before.before.before.args.st.now) c.before.before.before.before.before.before.args.len _ (c.before.before.highest.ensures ∙ highest_is _ _ _ _ h.0 h.1)
 
 pub grow_spec : {M : Type 1} → statement M
 grow_spec = tie.close (tie.spec element-copy-out-front add-front element-copy-out-highest element-copy-out-highest-2 highest-requires set-front-requires returns)

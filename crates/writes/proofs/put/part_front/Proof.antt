@@ -3,7 +3,7 @@ use Prim.Native.Nat.{ℕ}
 use Rattle.buffers.specs.Relations.Append.{over}
 use Rattle.state.specs.Progress.{progress_of}
 use Rattle.writes.proofs.Copies.{Span, span}
-use Rattle.writes.proofs.Laws.{room-is, work_in, work-out}
+use Rattle.writes.proofs.Laws.{room_is, work_in, work_out}
 use borrow.Author.Rules.{rules}
 use lib.ListN.{get_or, length}
 use mathlib.Core.Path.{◌∙◌, ap, subst, sym}
@@ -23,7 +23,7 @@ element-copy-out-copy-part c = search rules
 copy-part-requires : tie.Need-copy-part-requires
 copy-part-requires c κs =
     let same = sym c.before.before.before.has_room.ensures in
-    let h = room-is (progress_of c.before.before.before.before.before.before.before.before.args.st.now) _ _ (same ∙ c.before.before.if1.true) in
+    let h = room_is (progress_of c.before.before.before.before.before.before.before.before.args.st.now) _ _ (same ∙ c.before.before.if1.true) in
     let size = ap length c.before.before.before.before.before.text_of.ensures in
     let part-is = subst (λ (k : ℕ). Span c.before.before.before.before.before.before.before.before.args.work.now c.before.before.before.before.before.before.before.before.args.a c.before.before.before.before.before.before.before.before.args.e k) (sym size) (span c.before.before.before.before.before.before.before.before.args.work.now c.before.before.before.before.before.before.before.before.args.a c.before.before.before.before.before.before.before.before.args.e) in
     (omega (arith, h.0, h.1), part-is.within)
@@ -53,7 +53,7 @@ returns_2 : tie.Need-returns-2
 returns_2 c =
     let same = sym c.before.before.before.has_room.ensures in
     let size = ap length c.before.before.before.before.before.text_of.ensures in
-    work-out _ c.before.before.before.before.before.before.before.before.args.work.now (progress_of c.before.before.before.before.before.before.before.before.args.st.now) size (same ∙ c.before.before.if1.false) c.refuse.ensures
+    work_out _ c.before.before.before.before.before.before.before.before.args.work.now (progress_of c.before.before.before.before.before.before.before.before.args.st.now) size (same ∙ c.before.before.if1.false) c.refuse.ensures
 
 pub part-front-spec : {M : Type 1} → statement M
 part-front-spec = tie.close (tie.spec text-of-requires has-room-requires element-copy-out-copy-part copy-part-requires grow-requires same_length returns refuse-requires same_length_2 returns_2)

@@ -1,7 +1,7 @@
 -- `writes::put::put_front` meets its contract: the bytes where there is room for them, else refused.
-use Rattle.records.proofs.Writing.{fits-over}
+use Rattle.records.proofs.Writing.{fits_over}
 use Rattle.state.specs.Progress.{progress_of}
-use Rattle.writes.proofs.Laws.{room-is, work_in, work-out}
+use Rattle.writes.proofs.Laws.{room_is, work_in, work_out}
 use borrow.Author.Rules.{rules}
 use mathlib.Core.Path.{◌∙◌, refl, sym}
 use native.Mathlib.Omega.{arith}
@@ -28,8 +28,8 @@ same_length c = search rules
 returns : tie.Need-returns
 returns c =
     let same = sym c.before.before.before.before.before.before.before.before.has_room.ensures in
-    let h = room-is (progress_of c.before.before.before.before.before.before.before.before.before.before.before.before.args.st.now) _ _ (same ∙ c.before.before.before.before.before.before.before.if1.true) in
-    work_in _ c.before.before.before.before.before.before.before.before.before.before.before.before.args.work.now (progress_of c.before.before.before.before.before.before.before.before.before.before.before.before.args.st.now) refl (same ∙ c.before.before.before.before.before.before.before.if1.true) (c.before.before.before.before.write_bytes.ensures ∙ fits-over _ _ _ (omega (arith, h.0, h.1))) (rw c.before.before.before.before.write_bytes.auto.0 at c.grow.ensures)
+    let h = room_is (progress_of c.before.before.before.before.before.before.before.before.before.before.before.before.args.st.now) _ _ (same ∙ c.before.before.before.before.before.before.before.if1.true) in
+    work_in _ c.before.before.before.before.before.before.before.before.before.before.before.before.args.work.now (progress_of c.before.before.before.before.before.before.before.before.before.before.before.before.args.st.now) refl (same ∙ c.before.before.before.before.before.before.before.if1.true) (c.before.before.before.before.write_bytes.ensures ∙ fits_over _ _ _ (omega (arith, h.0, h.1))) (rw c.before.before.before.before.write_bytes.auto.0 at c.grow.ensures)
 
 refuse-requires : tie.Need-refuse-requires
 refuse-requires c κs = search rules
@@ -37,7 +37,7 @@ refuse-requires c κs = search rules
 returns_2 : tie.Need-returns-2
 returns_2 c =
     let same = sym c.before.before.before.has_room.ensures in
-    work-out _ c.before.before.before.before.before.before.before.args.work.now (progress_of c.before.before.before.before.before.before.before.args.st.now) refl (same ∙ c.before.before.if1.false) c.refuse.ensures
+    work_out _ c.before.before.before.before.before.before.before.args.work.now (progress_of c.before.before.before.before.before.before.before.args.st.now) refl (same ∙ c.before.before.if1.false) c.refuse.ensures
 
 pub put-front-spec : {M : Type 1} → statement M
 put-front-spec = tie.close (tie.spec has-room-requires element-copy-out-write-bytes write-bytes-requires grow-requires same_length returns refuse-requires returns_2)

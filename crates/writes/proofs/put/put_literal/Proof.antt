@@ -1,6 +1,6 @@
 -- `writes::put::put_literal` meets its contract: nothing once refused, else to where the text goes.
 use Rattle.state.specs.Progress.{progress_of}
-use Rattle.writes.proofs.Laws.{written-aside, written_over, written-text}
+use Rattle.writes.proofs.Laws.{written_aside_law, written_over, written_text}
 use borrow.Author.Rules.{rules}
 use borrow.Author.Tests.{eq-eqb, ne_eqb}
 use Rattle.writes.proofs.put.put_literal.Statement.{statement}
@@ -22,7 +22,7 @@ same_length : tie.Need-same-length
 same_length c = search rules
 
 returns_2 : tie.Need-returns-2
-returns_2 c = written-aside _ c.before.before.before.before.before.before.before.before.before.before.before.before.args.text.now c.before.before.before.before.before.before.before.before.before.before.before.before.args.work.now (progress_of c.before.before.before.before.before.before.before.before.before.before.before.before.args.st.now) c.before.before.before.before.before.before.before.if1.false (eq-eqb _ _ c.before.before.before.before.before.if2.true) c.before.before.literal-front.ensures
+returns_2 c = written_aside_law _ c.before.before.before.before.before.before.before.before.before.before.before.before.args.text.now c.before.before.before.before.before.before.before.before.before.before.before.before.args.work.now (progress_of c.before.before.before.before.before.before.before.before.before.before.before.before.args.st.now) c.before.before.before.before.before.before.before.if1.false (eq-eqb _ _ c.before.before.before.before.before.if2.true) c.before.before.literal-front.ensures
 
 element-copy-out-unescape-into : tie.Need-element-copy-out-unescape-into
 element-copy-out-unescape-into c = search rules
@@ -37,7 +37,7 @@ same_length_2 : tie.Need-same-length-2
 same_length_2 c = search rules
 
 returns_3 : tie.Need-returns-3
-returns_3 c = written-text _ c.before.before.before.before.before.before.before.before.before.before.before.before.before.before.args.text.now c.before.before.before.before.before.before.before.before.before.before.before.before.before.before.args.work.now (progress_of c.before.before.before.before.before.before.before.before.before.before.before.before.before.before.args.st.now) c.before.before.before.before.before.before.before.before.before.if1.false (ne_eqb _ _ c.before.before.before.before.before.before.before.if2.false) c.before.before.before.before.unescape-into.ensures c.text-after.ensures
+returns_3 c = written_text _ c.before.before.before.before.before.before.before.before.before.before.before.before.before.before.args.text.now c.before.before.before.before.before.before.before.before.before.before.before.before.before.before.args.work.now (progress_of c.before.before.before.before.before.before.before.before.before.before.before.before.before.before.args.st.now) c.before.before.before.before.before.before.before.before.before.if1.false (ne_eqb _ _ c.before.before.before.before.before.before.before.if2.false) c.before.before.before.before.unescape-into.ensures c.text-after.ensures
 
 pub put-literal-spec : {M : Type 1} → statement M
 put-literal-spec = tie.close (tie.spec element_copy_out_if1 returns element_copy_out_if2 literal-front-requires same_length returns_2 element-copy-out-unescape-into unescape-into-requires text-after-requires same_length_2 returns_3)

@@ -1,5 +1,5 @@
 -- `writes::put::put_pdi` meets its contract: by the condition.
-use Rattle.writes.proofs.Laws.{where-off, where-on}
+use Rattle.writes.proofs.Laws.{where_off, where_on}
 use borrow.Author.Rules.{rules}
 use Rattle.writes.proofs.put.put_pdi.Statement.{statement}
 use Rattle.writes.proofs.put.put_pdi.Tie as tie
@@ -17,10 +17,10 @@ same_length_2 : tie.Need-same-length-2
 same_length_2 c = search rules
 
 returns : tie.Need-returns
-returns c = where-on _ _ _ _ c.before.before.before.before.before.before.before.before.before.if1.true c.before.before.before.before.put.ensures
+returns c = where_on _ _ _ _ c.before.before.before.before.before.before.before.before.before.if1.true c.before.before.before.before.put.ensures
 
 returns_2 : tie.Need-returns-2
-returns_2 c = where-off _ _ _ _ c.if1.false
+returns_2 c = where_off _ _ _ _ c.if1.false
 
 pub put-pdi-spec : {M : Type 1} → statement M
 put-pdi-spec = tie.close (tie.spec slice-aggregate-put put_requires same_length same_length_2 returns returns_2)

@@ -1,6 +1,6 @@
 -- `resolver::scope::leaf::write_called` meets its contract: what the call led to, and then what is written of its result.
-use Rattle.records.proofs.Views.{str-bad}
-use Rattle.resolver.proofs.Inlines.{inline-called, inline-uncalled}
+use Rattle.records.proofs.Views.{str_bad}
+use Rattle.resolver.proofs.Inlines.{inline_called, inline_uncalled}
 use borrow.Author.Rules.{rules}
 use Rattle.resolver.proofs.scope.leaf.write_called.Statement.{statement}
 use Rattle.resolver.proofs.scope.leaf.write_called.Tie as tie
@@ -15,7 +15,7 @@ enum_told : tie.Need-enum-told
 enum_told c = search rules
 
 returns : tie.Need-returns
-returns c = λ t q left at tag w₀ hb is g. inline-uncalled _ _ _ _ _ hb is (str-bad _ _ c.before.before.read-str.ensures c.enum_told.given.1) g
+returns c = λ t q left at tag w₀ hb is g. inline_uncalled _ _ _ _ _ hb is (str_bad _ _ c.before.before.read-str.ensures c.enum_told.given.1) g
 
 write-result-requires : tie.Need-write-result-requires
 write-result-requires c κs = search rules
@@ -30,7 +30,7 @@ same_length_3 : tie.Need-same-length-3
 same_length_3 c = search rules
 
 returns_2 : tie.Need-returns-2
-returns_2 c = λ t q left at tag w₀ hb is g. inline-called _ _ _ _ _ hb c.before.before.before.before.before.before.before.before.before.before.before.before.before.before.read-str.ensures c.before.before.before.before.before.before.before.before.before.before.before.before.a.given.1 is g (c.before.before.before.before.before.before.write-result.ensures _ _)
+returns_2 c = λ t q left at tag w₀ hb is g. inline_called _ _ _ _ _ hb c.before.before.before.before.before.before.before.before.before.before.before.before.before.before.read-str.ensures c.before.before.before.before.before.before.before.before.before.before.before.before.a.given.1 is g (c.before.before.before.before.before.before.write-result.ensures _ _)
 
 pub write-called-spec : {M : Type 1} → statement M
 write-called-spec = tie.close (tie.spec read_str_requires enum_known_a enum_told returns write-result-requires same_length same_length_2 same_length_3 returns_2)

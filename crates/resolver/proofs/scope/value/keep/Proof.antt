@@ -2,7 +2,7 @@
 use Prim.Native.Nat.{ℕ}
 use Rattle.state.specs.Progress.{Progress, progress_of}
 use Rattle.state.specs.Setters.{held_s}
-use Rattle.workspace.proofs.Laws.{highest-is}
+use Rattle.workspace.proofs.Laws.{highest_is}
 use borrow.Author.Rules.{rules}
 use mathlib.Core.Path.{◌∙◌, ◌≡◌, ap}
 use native.Mathlib.Omega.{arith}
@@ -34,7 +34,7 @@ set-held-requires c κs = search rules
 returns : tie.Need-returns
 returns c =
     let room = c.before.before.before.before.before.before.requires in
-    c.set-held.ensures ∙ high-as (progress_of c.before.before.before.before.before.before.args.st.now) _ (c.before.before.highest.ensures ∙ highest-is _ _ _ _ (omega (arith, room.0)) (omega (arith, room.1)))
+    c.set-held.ensures ∙ high-as (progress_of c.before.before.before.before.before.before.args.st.now) _ (c.before.before.highest.ensures ∙ highest_is _ _ _ _ (omega (arith, room.0)) (omega (arith, room.1)))
 
 pub keep_spec : {M : Type 1} → statement M
 keep_spec = tie.close (tie.spec element-copy-out-back sub_back element-copy-out-highest element-copy-out-highest-2 highest-requires set-held-requires returns)

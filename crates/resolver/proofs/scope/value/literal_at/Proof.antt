@@ -1,5 +1,5 @@
 -- `resolver::scope::value::literal_at` meets its contract: a number, a part of the store, or a text that ends at the base.
-use Rattle.resolver.proofs.Single.Named.{literal-digits-at, literal_marked, literal_number_is, literal-out, literal-plain, literal-short}
+use Rattle.resolver.proofs.Single.Named.{literal_digits_at, literal_marked, literal_number_is, literal_out, literal_plain, literal_short}
 use Rattle.resolver.proofs.Single.Values.{flip_false, flip_true}
 use borrow.Author.Rules.{rules}
 use mathlib.Core.Path.{◌∙◌, sym}
@@ -11,13 +11,13 @@ literal-number-requires : tie.Need-literal-number-requires
 literal-number-requires c κs = search rules
 
 returns : tie.Need-returns
-returns c = literal-digits-at _ _ _ _ _ c.before.if1.true (literal_number_is _ _ _ c.literal-number.ensures)
+returns c = literal_digits_at _ _ _ _ _ c.before.if1.true (literal_number_is _ _ _ c.literal-number.ensures)
 
 returns_2 : tie.Need-returns-2
-returns_2 c = literal-out _ _ _ _ _ (λ p q. let h = c.if2.true in omega arith)
+returns_2 c = literal_out _ _ _ _ _ (λ p q. let h = c.if2.true in omega arith)
 
 returns_3 : tie.Need-returns-3
-returns_3 c = literal-out _ _ _ _ _ (λ p q. let h = c.if3.true in omega arith)
+returns_3 c = literal_out _ _ _ _ _ (λ p q. let h = c.if3.true in omega arith)
 
 part-has-backslash-start : tie.Need-slice-bounds-has-backslash-start
 part-has-backslash-start c = search rules
@@ -29,7 +29,7 @@ has-backslash-requires : tie.Need-has-backslash-requires
 has-backslash-requires c κs = search rules
 
 returns_4 : tie.Need-returns-4
-returns_4 c = literal-plain _ _ _ _ _ c.before.before.before.before.before.if1.false (sym c.before.has-backslash.ensures ∙ flip_true c.before.has-backslash.result c.if4.true)
+returns_4 c = literal_plain _ _ _ _ _ c.before.before.before.before.before.if1.false (sym c.before.has-backslash.ensures ∙ flip_true c.before.has-backslash.result c.if4.true)
 
 part-unescaped-len-start : tie.Need-slice-bounds-unescaped-len-start
 part-unescaped-len-start c = search rules
@@ -41,7 +41,7 @@ unescaped-len-requires : tie.Need-unescaped-len-requires
 unescaped-len-requires c κs = search rules
 
 returns_5 : tie.Need-returns-5
-returns_5 c = literal-short _ _ _ _ _ c.before.before.before.before.before.before.before.before.if1.false (sym c.before.before.before.before.has-backslash.ensures ∙ flip_false c.before.before.before.before.has-backslash.result c.before.before.before.if4.false) c.before.unescaped-len.ensures c.if5.true
+returns_5 c = literal_short _ _ _ _ _ c.before.before.before.before.before.before.before.before.if1.false (sym c.before.before.before.before.has-backslash.ensures ∙ flip_false c.before.before.before.before.has-backslash.result c.before.before.before.if4.false) c.before.unescaped-len.ensures c.if5.true
 
 returns_6 : tie.Need-returns-6
 returns_6 c = literal_marked _ _ _ _ _ c.before.before.before.before.before.before.before.before.if1.false (sym c.before.before.before.before.has-backslash.ensures ∙ flip_false c.before.before.before.before.has-backslash.result c.before.before.before.if4.false) c.before.unescaped-len.ensures

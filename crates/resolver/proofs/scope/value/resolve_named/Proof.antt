@@ -1,6 +1,6 @@
 -- `resolver::scope::value::resolve_named` meets its contract: each turn resolves the first of the named arguments that are left.
 use Prim.Native.Nat.{ℕ}
-use Rattle.resolver.proofs.Single.Values.{named_digits_as, named_end, named_string_as, named-unread}
+use Rattle.resolver.proofs.Single.Values.{named_digits_as, named_end, named_string_as, named_unread}
 use Rattle.resolver.specs.Relations.Leaves.{NamedAt}
 use Rattle.state.specs.Progress.{Progress, progress_of}
 use borrow.Author.Rules.{rules}
@@ -34,7 +34,7 @@ same_length : tie.Need-same-length invariant-loop decreases-loop
 same_length c = c.before.before.before.before.loop.invariant.0
 
 returns : tie.Need-returns invariant-loop decreases-loop
-returns c = c.before.before.before.before.loop.invariant.1 _ _ (named-unread _ _ _ _ _ c.before.before.before.loop-test.true c.before.before.read_named.ensures c.enum_told.given.1)
+returns c = c.before.before.before.before.loop.invariant.1 _ _ (named_unread _ _ _ _ _ c.before.before.before.loop-test.true c.before.before.read_named.ensures c.enum_told.given.1)
 
 literal-string-requires : tie.Need-literal-string-requires invariant-loop decreases-loop
 literal-string-requires c κs = search rules

@@ -1,7 +1,7 @@
 -- `resolver::scope::variable::write_result` meets its contract: the value's text, the name of a function that gave Error, or a reference to one that is missing.
 use Rattle.records.specs.Optional.{option_of}
 use Rattle.resolver.proofs.Single.Acting.{bare_acts, braced_acts, value_acts}
-use Rattle.resolver.proofs.Single.Written.{result_held, result_none, result_value, result-wrong}
+use Rattle.resolver.proofs.Single.Written.{result_held, result_none, result_value, result_wrong}
 use Rattle.texts.specs.Relations.Report.{referred_of}
 use Rattle.values.proofs.Wrong.{wrong_not, wrong_so}
 use borrow.Author.Rules.{rules}
@@ -37,7 +37,7 @@ same_length_2 : tie.Need-same-length-2
 same_length_2 c = search rules
 
 returns : tie.Need-returns
-returns c = λ t g. result_held c.before.before.before.before.before.before.before.before.before.before.before.before.held.ensures (result-wrong _ _ g _ _ c.before.before.before.before.before.before.before.before.before.before.before.before.before.before.before.text_of.ensures (sym c.before.before.before.before.before.before.before.before.before.before.before.before.before.before.is_found.ensures ∙ c.before.before.before.before.before.before.before.before.before.before.before.before.before.if1.true) (wrong_so c.before.before.before.before.before.before.before.before.before.before.before.a_wrong.ensures c.before.before.before.before.before.before.before.before.before.before.if2.true) (braced_acts _ _ _ c.before.before.before.before.put-braced.ensures _ _ t))
+returns c = λ t g. result_held c.before.before.before.before.before.before.before.before.before.before.before.before.held.ensures (result_wrong _ _ g _ _ c.before.before.before.before.before.before.before.before.before.before.before.before.before.before.before.text_of.ensures (sym c.before.before.before.before.before.before.before.before.before.before.before.before.before.before.is_found.ensures ∙ c.before.before.before.before.before.before.before.before.before.before.before.before.before.if1.true) (wrong_so c.before.before.before.before.before.before.before.before.before.before.before.a_wrong.ensures c.before.before.before.before.before.before.before.before.before.before.if2.true) (braced_acts _ _ _ c.before.before.before.before.put-braced.ensures _ _ t))
 
 put-value-requires : tie.Need-put-value-requires
 put-value-requires c κs = search rules
