@@ -95,7 +95,7 @@ fn skip_variants(s: &[u8], from: usize, count: usize) -> Next
 }
 
 // Past an expression that nests at most `left` deep.
-#[cycle(skip_arguments_skip_expression_skip_inlines_skip_term_arguments)]
+#[cycle(skip)]
 pub fn skip_expression(s: &[u8], at: usize, left: usize) -> Next
     ensures { result ≡ next_of (expression_outline left s.now at) }
 {
@@ -136,7 +136,7 @@ pub fn skip_expression(s: &[u8], at: usize, left: usize) -> Next
 }
 
 // Past the arguments of a term reference, if it has any.
-#[cycle(skip_arguments_skip_expression_skip_inlines_skip_term_arguments)]
+#[cycle(skip)]
 fn skip_term_arguments(s: &[u8], at: usize, left: usize) -> Next
     ensures { result ≡ next_of (optional_outline (arguments_outline (expression_outline left)) s.now at) }
 {
@@ -150,7 +150,7 @@ fn skip_term_arguments(s: &[u8], at: usize, left: usize) -> Next
 }
 
 // Past the arguments of a call.
-#[cycle(skip_arguments_skip_expression_skip_inlines_skip_term_arguments)]
+#[cycle(skip)]
 fn skip_arguments(s: &[u8], at: usize, left: usize) -> Next
     ensures { result ≡ next_of (arguments_outline (expression_outline left) s.now at) }
 {
@@ -167,7 +167,7 @@ fn skip_arguments(s: &[u8], at: usize, left: usize) -> Next
 }
 
 // Past `count` inline expressions.
-#[cycle(skip_arguments_skip_expression_skip_inlines_skip_term_arguments)]
+#[cycle(skip)]
 fn skip_inlines(s: &[u8], from: usize, count: usize, left: usize) -> Next
     ensures { result ≡ next_of (many_outline count (expression_outline left) s.now from) }
 {
