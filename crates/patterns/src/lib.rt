@@ -16,7 +16,7 @@ use records::{
 // The check is one pass. A byte of a text, an Id or a number literal is visited once by its rule, a byte of a string literal twice, and every
 // other byte once as a tag, a Flag, a count or a length. Only the names of the named arguments of a call are visited again: they are compared
 // pairwise (check_named_arguments).
-#[cycle(check_arguments_check_body_check_element_check_elements_check_expression_check_inline_check_inlines_check_pattern_check_select_check_term_check_variant_check_variants)]
+#[cycle(check)]
 pub fn check_pattern(s: &[u8], at: usize, depth: usize) -> Next
     ensures { result ≡ next_of (pattern_at (expression depth) s.now at) }
 {
@@ -40,7 +40,7 @@ pub fn check_pattern(s: &[u8], at: usize, depth: usize) -> Next
 }
 
 // `count` elements of a pattern.
-#[cycle(check_arguments_check_body_check_element_check_elements_check_expression_check_inline_check_inlines_check_pattern_check_select_check_term_check_variant_check_variants)]
+#[cycle(check)]
 fn check_elements(s: &[u8], from: usize, count: usize, depth: usize) -> Next
     ensures { result ≡ next_of (elements_at (expression depth) count s.now from) }
 {
@@ -56,7 +56,7 @@ fn check_elements(s: &[u8], from: usize, count: usize, depth: usize) -> Next
     Next::At(at)
 }
 
-#[cycle(check_arguments_check_body_check_element_check_elements_check_expression_check_inline_check_inlines_check_pattern_check_select_check_term_check_variant_check_variants)]
+#[cycle(check)]
 fn check_element(s: &[u8], at: usize, depth: usize) -> Next
     ensures { result ≡ next_of (element_at (expression depth) s.now at) }
 {
@@ -72,7 +72,7 @@ fn check_element(s: &[u8], at: usize, depth: usize) -> Next
     }
 }
 
-#[cycle(check_arguments_check_body_check_element_check_elements_check_expression_check_inline_check_inlines_check_pattern_check_select_check_term_check_variant_check_variants)]
+#[cycle(check)]
 pub(crate) fn check_expression(s: &[u8], at: usize, depth: usize) -> Next
     ensures { result ≡ next_of (expression depth s.now at) }
 {
@@ -89,7 +89,7 @@ pub(crate) fn check_expression(s: &[u8], at: usize, depth: usize) -> Next
     }
 }
 
-#[cycle(check_arguments_check_body_check_element_check_elements_check_expression_check_inline_check_inlines_check_pattern_check_select_check_term_check_variant_check_variants)]
+#[cycle(check)]
 pub(crate) fn check_inline(s: &[u8], at: usize, depth: usize) -> Next
     ensures { result ≡ next_of (inline depth s.now at) }
 {
@@ -103,7 +103,7 @@ pub(crate) fn check_inline(s: &[u8], at: usize, depth: usize) -> Next
 }
 
 // What follows the tag of an inline expression. `depth` is what is left below it.
-#[cycle(check_arguments_check_body_check_element_check_elements_check_expression_check_inline_check_inlines_check_pattern_check_select_check_term_check_variant_check_variants)]
+#[cycle(check)]
 fn check_body(s: &[u8], at: usize, tag: usize, depth: usize) -> Next
     ensures { result ≡ next_of (inline_body (expression depth) (inline depth) tag s.now at) }
 {
@@ -138,7 +138,7 @@ fn check_body(s: &[u8], at: usize, tag: usize, depth: usize) -> Next
 }
 
 // What follows the tag of a term reference.
-#[cycle(check_arguments_check_body_check_element_check_elements_check_expression_check_inline_check_inlines_check_pattern_check_select_check_term_check_variant_check_variants)]
+#[cycle(check)]
 fn check_term(s: &[u8], at: usize, depth: usize) -> Next
     ensures { result ≡ next_of (term_reference_at (inline depth) s.now at) }
 {
@@ -161,7 +161,7 @@ fn check_term(s: &[u8], at: usize, depth: usize) -> Next
 }
 
 // The arguments of a call.
-#[cycle(check_arguments_check_body_check_element_check_elements_check_expression_check_inline_check_inlines_check_pattern_check_select_check_term_check_variant_check_variants)]
+#[cycle(check)]
 fn check_arguments(s: &[u8], at: usize, depth: usize) -> Next
     ensures { result ≡ next_of (arguments_at (inline depth) s.now at) }
 {
@@ -178,7 +178,7 @@ fn check_arguments(s: &[u8], at: usize, depth: usize) -> Next
 }
 
 // `count` inline expressions.
-#[cycle(check_arguments_check_body_check_element_check_elements_check_expression_check_inline_check_inlines_check_pattern_check_select_check_term_check_variant_check_variants)]
+#[cycle(check)]
 fn check_inlines(s: &[u8], from: usize, count: usize, depth: usize) -> Next
     ensures { result ≡ next_of (inlines_at (inline depth) count s.now from) }
 {
@@ -195,7 +195,7 @@ fn check_inlines(s: &[u8], from: usize, count: usize, depth: usize) -> Next
 }
 
 // What follows the tag of a select expression.
-#[cycle(check_arguments_check_body_check_element_check_elements_check_expression_check_inline_check_inlines_check_pattern_check_select_check_term_check_variant_check_variants)]
+#[cycle(check)]
 fn check_select(s: &[u8], at: usize, depth: usize) -> Next
     ensures { result ≡ next_of (select_at (expression depth) (inline depth) s.now at) }
 {
@@ -213,7 +213,7 @@ fn check_select(s: &[u8], at: usize, depth: usize) -> Next
 }
 
 // `count` variants.
-#[cycle(check_arguments_check_body_check_element_check_elements_check_expression_check_inline_check_inlines_check_pattern_check_select_check_term_check_variant_check_variants)]
+#[cycle(check)]
 fn check_variants(s: &[u8], from: usize, count: usize, depth: usize) -> Next
     ensures { result ≡ next_of (many no_variant or count (variant_at (expression depth)) s.now from) }
 {
@@ -229,7 +229,7 @@ fn check_variants(s: &[u8], from: usize, count: usize, depth: usize) -> Next
     Next::At(at)
 }
 
-#[cycle(check_arguments_check_body_check_element_check_elements_check_expression_check_inline_check_inlines_check_pattern_check_select_check_term_check_variant_check_variants)]
+#[cycle(check)]
 fn check_variant(s: &[u8], at: usize, depth: usize) -> Next
     ensures { result ≡ next_of (variant_at (expression depth) s.now at) }
 {
