@@ -7,7 +7,7 @@ use native.Mathlib.Omega.{arith}
 use lib.ListN.{length, set, take, drop, length-append, length-set, length-drop}
 use lib.Seq.{length-take-le, take-append-le, drop-append-le, drop_at, take-append-add, drop-append-add, drop-drop, take-add, take-take}
 use lib.Dec.{ltb, leb}
-use borrow.Author.Tests.{le-leb, lt-leb, leb-true, leb-false, ltb-true, not-true, not-false}
+use borrow.Author.Tests.{le-leb, lt-leb, leb-true, leb-false, ltb-true}
 use Rattle.records.specs.Bytes.{part, to_be}
 use Rattle.records.specs.Encode.{enc_str, enc_whole, enc_function}
 use Rattle.records.specs.Images.{max_store, max_items}
@@ -31,21 +31,21 @@ fits_below limit used n h = go (leb n (limit - used)) refl
 
 -- room for an item
 module _ (size used count n : ℕ) where
-  pub room_no_slice : {r : Bool} → r ≡ leb (used + n) size → not r ≡ true → false ≡ has_room size used count n
+  pub room_no_slice : {r : Bool} → r ≡ leb (used + n) size → r ≡ false → false ≡ has_room size used count n
   unfolding has_room
-  room_no_slice {r} h k = rw (sym h ∙ not-true r k)
+  room_no_slice {r} h k = rw (sym h ∙ k)
 
-  module _ {r : Bool} (h : r ≡ leb (used + n) size) (k : not r ≡ false) where
+  module _ {r : Bool} (h : r ≡ leb (used + n) size) (k : r ≡ true) where
     in_slice : leb (used + n) size ≡ true
-    in_slice = sym h ∙ not-false r k
+    in_slice = sym h ∙ k
 
-    pub room_no_store : {t : Bool} → t ≡ leb (used + n) 1048576 → not t ≡ true → false ≡ has_room size used count n
+    pub room_no_store : {t : Bool} → t ≡ leb (used + n) 1048576 → t ≡ false → false ≡ has_room size used count n
     unfolding has_room max_store
-    room_no_store {t} e z = rw (in_slice, sym e ∙ not-true t z)
+    room_no_store {t} e z = rw (in_slice, sym e ∙ z)
 
-    pub room_items : {t x : Bool} → t ≡ leb (used + n) 1048576 → not t ≡ false → x ≡ ltb count 256 → x ≡ has_room size used count n
+    pub room_items : {t x : Bool} → t ≡ leb (used + n) 1048576 → t ≡ true → x ≡ ltb count 256 → x ≡ has_room size used count n
     unfolding has_room max_store max_items
-    room_items {t} e z q = rw (in_slice, sym e ∙ not-false t z) q
+    room_items {t} e z q = rw (in_slice, sym e ∙ z) q
 
   and_left : (a b : Bool) → a && b ≡ true → a ≡ true
   and_left true b h = refl
@@ -168,11 +168,11 @@ module _ (s : List ℕ) (used count : ℕ) (item : List ℕ) (lo : 9 ≤ used) (
 
 -- what the code's answer on room says
 module _ (size used count n : ℕ) {r : Bool} where
-  pub no_room : {k : ℕ} → count ≡ k → r ≡ has_room size used count n → not r ≡ true → has_room size used k n ≡ false
-  no_room e h t = ap (λ (j : ℕ). has_room size used j n) (sym e) ∙ sym h ∙ not-true r t
+  pub no_room : {k : ℕ} → count ≡ k → r ≡ has_room size used count n → r ≡ false → has_room size used k n ≡ false
+  no_room e h t = ap (λ (j : ℕ). has_room size used j n) (sym e) ∙ sym h ∙ t
 
-  pub has_room_is : {k : ℕ} → count ≡ k → r ≡ has_room size used count n → not r ≡ false → has_room size used k n ≡ true
-  has_room_is e h t = ap (λ (j : ℕ). has_room size used j n) (sym e) ∙ sym h ∙ not-false r t
+  pub has_room_is : {k : ℕ} → count ≡ k → r ≡ has_room size used count n → r ≡ true → has_room size used k n ≡ true
+  has_room_is e h t = ap (λ (j : ℕ). has_room size used j n) (sym e) ∙ sym h ∙ t
 
 -- an item that is filed, or not
 module _ (s : List ℕ) (used count : ℕ) (item : List ℕ) where
@@ -184,9 +184,9 @@ module _ (s : List ℕ) (used count : ℕ) (item : List ℕ) where
   and_false true = refl
   and_false false = refl
 
-  pub filed_not : {n : ℕ} {r : Bool} → length item ≡ n → r ≡ has_room (length s) used count n → not r ≡ true → s ≡ file_item s used count item
+  pub filed_not : {n : ℕ} {r : Bool} → length item ≡ n → r ≡ has_room (length s) used count n → r ≡ false → s ≡ file_item s used count item
   unfolding file_item written_if
-  filed_not {n} {r} e h k = rw (e, sym h ∙ not-true r k, and_false (leb 9 used))
+  filed_not {n} {r} e h k = rw (e, sym h ∙ k, and_false (leb 9 used))
 
   pub filed_is : {n : ℕ} → 9 ≤ used → length item ≡ n → has_room (length s) used count n ≡ true → file_item s used count item ≡ with_item s used count item
   unfolding file_item written_if

@@ -1,0 +1,18 @@
+-- The image ends where the slice ends.
+use Rattle.records.proofs.Laws.{fails, next_got, next_step, next_stop}
+use Rattle.records.specs.Images.{whole_of}
+use Rattle.requests.specs.Image.{sheet_of}
+use Rattle.records.proofs.Laws.{passes}
+use Rattle.requests.proofs.image.check_sheet.Goals as goal
+
+pub returns-in_default : goal.returns-in_default
+unfolding sheet_of whole_of
+returns-in_default c = next_stop _ _ c.check_sheet_at.ensures c.in_default.is
+
+pub returns-then-e-s : goal.returns-then-e-s
+unfolding sheet_of whole_of
+returns-then-e-s c = next_step _ _ c.check_sheet_at.ensures c.in-At.is (λ _. passes _ c.if-e-s.true (next_got _ _))
+
+pub returns-else-e-s : goal.returns-else-e-s
+unfolding sheet_of whole_of
+returns-else-e-s c = next_step _ _ c.check_sheet_at.ensures c.in-At.is (λ _. fails _ c.if-e-s.false)
