@@ -1,4 +1,2 @@
--- Walks that the proofs of several functions cite, and what a row says to those who call for one.
-pub mod Apart
-pub mod Making
+-- What callers cite of the answers.
 pub mod Laws
