@@ -1,0 +1,10 @@
+-- `variants::choose_default` meets its contract: the pattern of what is found is read at its place.
+use Rattle.variants.proofs.Firsts.{pattern_lost, pattern_none, pattern_there}
+use mathlib.Core.Path.{◌∙◌}
+use Rattle.variants.proofs.choose_default.Goals as goal
+
+pub returns-in_default : goal.returns-in_default
+returns-in_default c = pattern_lost (pattern_none _ _ _ c.find_default.ensures c.in_default.is)
+
+pub returns : goal.returns
+returns c = c.pattern_of.ensures ∙ pattern_there _ _ _ c.find_default.ensures c.in-At.is
