@@ -27,61 +27,61 @@ module _ (s w2 : List ℕ) (s2 : Progress) (id : List ℕ) (named m base : ℕ) 
   holds : (a p : ℕ) → id ≡ part s a (p - a) → (st : Store) (f : ℕ) → store_of s ≡ got st f → HolderAt s (find_in st.items (part s a (p - a))) h
   holds a p e st f k = subst (λ (i : List ℕ). HolderAt s (find_in st.items i) h) e (hold st f k)
 
-  pub answer-function : {s3 r : Progress} {c : CodeValue.Value} → h ≡ found.Function → NumberAt s w2 s2 named m base first s3 c → r ≡ back_s old s3 → AnswerAt s w2 s2 id named m base first old r true c
-  answer-function {s3} {r} {c} eh nb er = record {
+  pub answer_function : {s3 r : Progress} {c : CodeValue.Value} → h ≡ found.Function → NumberAt s w2 s2 named m base first s3 c → r ≡ back_s old s3 → AnswerAt s w2 s2 id named m base first old r true c
+  answer_function {s3} {r} {c} eh nb er = record {
     called = λ image left at a p sp ei w x l w1 t s1 end pos hm nm z1 z2 eb eo.
         called_function (env s image) left at sp w pos hm nm z1 z2 (holds a p ei) eh (subst (λ (b : ℕ). NumberAt s w2 s2 named m b first s3 c) eb nb) (er ∙ ap (λ (b : ℕ). back_s b s3) eo);
   }
 
-  pub answer-message : {r : Progress} {q : ℕ} → h ≡ found.Message q → r ≡ back_s old s2 → AnswerAt s w2 s2 id named m base first old r false val.Wrong
-  answer-message {r} eh er = record {
+  pub answer_message : {r : Progress} {q : ℕ} → h ≡ found.Message q → r ≡ back_s old s2 → AnswerAt s w2 s2 id named m base first old r false val.Wrong
+  answer_message {r} eh er = record {
     called = λ image left at a p sp ei w x l w1 t s1 end pos hm nm z1 z2 eb eo. called_message (env s image) left at sp w pos hm nm z1 z2 (holds a p ei) eh (er ∙ ap (λ (b : ℕ). back_s b s2) eo);
   }
 
-  pub answer-term : {r : Progress} {q : ℕ} → h ≡ found.Term q → r ≡ back_s old s2 → AnswerAt s w2 s2 id named m base first old r false val.Wrong
-  answer-term {r} eh er = record {
+  pub answer_term : {r : Progress} {q : ℕ} → h ≡ found.Term q → r ≡ back_s old s2 → AnswerAt s w2 s2 id named m base first old r false val.Wrong
+  answer_term {r} eh er = record {
     called = λ image left at a p sp ei w x l w1 t s1 end pos hm nm z1 z2 eb eo. called_term (env s image) left at sp w pos hm nm z1 z2 (holds a p ei) eh (er ∙ ap (λ (b : ℕ). back_s b s2) eo);
   }
 
-  pub answer-nothing : {r : Progress} → h ≡ found.Nothing → r ≡ missing_s old s2 → AnswerAt s w2 s2 id named m base first old r false val.Wrong
-  answer-nothing {r} eh er = record {
+  pub answer_nothing : {r : Progress} → h ≡ found.Nothing → r ≡ missing_s old s2 → AnswerAt s w2 s2 id named m base first old r false val.Wrong
+  answer_nothing {r} eh er = record {
     called = λ image left at a p sp ei w x l w1 t s1 end pos hm nm z1 z2 eb eo.
         called_lost (env s image) left at sp w pos hm nm z1 z2 (holds a p ei) eh (counts refl) (er ∙ ap (λ (b : ℕ). back_s b (counted_s s2)) eo);
   }
 
 -- NUMBER's result, where its first argument is told by another name
-pub number-first : {s w : List ℕ} {st : Progress} {at m base : ℕ} {x y : CodeValue.Value} {r : Progress} {c : CodeValue.Value} → x ≡ y → NumberAt s w st at m base x r c → NumberAt s w st at m base y r c
-number-first {s} {w} {st} {at} {m} {base} {x} {y} {r} {c} h g = subst (λ (q : CodeValue.Value). NumberAt s w st at m base q r c) h g
+pub number_first : {s w : List ℕ} {st : Progress} {at m base : ℕ} {x y : CodeValue.Value} {r : Progress} {c : CodeValue.Value} → x ≡ y → NumberAt s w st at m base x r c → NumberAt s w st at m base y r c
+number_first {s} {w} {st} {at} {m} {base} {x} {y} {r} {c} h g = subst (λ (q : CodeValue.Value). NumberAt s w st at m base q r c) h g
 
 -- the same answer, where the value and whether there was a function are told by other names
-pub answer-as : {s w2 : List ℕ} {s2 : Progress} {id : List ℕ} {named m base : ℕ} {first : CodeValue.Value} {old : ℕ} {r : Progress} {b d : Bool} {c v : CodeValue.Value} → b ≡ d → c ≡ v
+pub answer_as : {s w2 : List ℕ} {s2 : Progress} {id : List ℕ} {named m base : ℕ} {first : CodeValue.Value} {old : ℕ} {r : Progress} {b d : Bool} {c v : CodeValue.Value} → b ≡ d → c ≡ v
     → AnswerAt s w2 s2 id named m base first old r d v → AnswerAt s w2 s2 id named m base first old r b c
-answer-as {s} {w2} {s2} {id} {named} {m} {base} {first} {old} {r} {b} {d} {c} {v} eb ec g =
+answer_as {s} {w2} {s2} {id} {named} {m} {base} {first} {old} {r} {b} {d} {c} {v} eb ec g =
     subst (λ (o : Bool). AnswerAt s w2 s2 id named m base first old r o c) (sym eb) (subst (λ (q : CodeValue.Value). AnswerAt s w2 s2 id named m base first old r d q) (sym ec) g)
 
 -- a call whose positional arguments are known: how far it comes
 module _ (s : List ℕ) (at : ℕ) {w1 : List ℕ} {s1 : Progress} {first : CodeValue.Value} {end old : ℕ} where
   -- refused while they were resolved
-  pub applied-stopped : (b : Bool) (c : CodeValue.Value) → (s1.refused ≡ 0 → ⊥) → AppliedAt s at w1 s1 first end old w1 s1 b c
-  applied-stopped b c z = record { called = λ image left a p sp w x l t pos eo. called_stopped (env s image) left at sp w pos b c z }
+  pub applied_stopped : (b : Bool) (c : CodeValue.Value) → (s1.refused ≡ 0 → ⊥) → AppliedAt s at w1 s1 first end old w1 s1 b c
+  applied_stopped b c z = record { called = λ image left a p sp w x l t pos eo. called_stopped (env s image) left at sp w pos b c z }
 
   -- no Str is its Id: never
-  pub applied-none : (b : Bool) (c : CodeValue.Value) → span_at s at ≡ bad → AppliedAt s at w1 s1 first end old w1 s1 b c
-  applied-none b c h = record { called = λ image left a p sp w x l t pos eo. never h sp }
+  pub applied_none : (b : Bool) (c : CodeValue.Value) → span_at s at ≡ bad → AppliedAt s at w1 s1 first end old w1 s1 b c
+  applied_none b c h = record { called = λ image left a p sp w x l t pos eo. never h sp }
 
   -- no named ones stand there: never
-  pub applied-unnamed : (b : Bool) (c : CodeValue.Value) → number_at 2 s end ≡ bad → AppliedAt s at w1 s1 first end old w1 s1 b c
-  applied-unnamed b c h = record { called = λ image left a p sp w x l t pos eo. called_unnamed (env s image) left at sp w pos b c h }
+  pub applied_unnamed : (b : Bool) (c : CodeValue.Value) → number_at 2 s end ≡ bad → AppliedAt s at w1 s1 first end old w1 s1 b c
+  applied_unnamed b c h = record { called = λ image left a p sp w x l t pos eo. called_unnamed (env s image) left at sp w pos b c h }
 
   module _ {m named : ℕ} (hm : number_at 2 s end ≡ got m named) {w2 : List ℕ} {s2 : Progress} (nm : NamedAt s named m w1 s1 w2 s2) where
     -- refused while the named ones were resolved
-    pub applied-halted : (b : Bool) (c : CodeValue.Value) → (s2.refused ≡ 0 → ⊥) → AppliedAt s at w1 s1 first end old w2 s2 b c
-    applied-halted b c z = record { called = λ image left a p sp w x l t pos eo. called_halted (env s image) left at sp w pos hm nm b c z }
+    pub applied_halted : (b : Bool) (c : CodeValue.Value) → (s2.refused ≡ 0 → ⊥) → AppliedAt s at w1 s1 first end old w2 s2 b c
+    applied_halted b c z = record { called = λ image left a p sp w x l t pos eo. called_halted (env s image) left at sp w pos hm nm b c z }
 
     -- all are known: the answer
-    pub applied-answer : {a p : ℕ} {r : Progress} {b : Bool} {c : CodeValue.Value} → span_at s at ≡ got a p → s1.refused ≡ 0 → s2.refused ≡ 0
+    pub applied_answer : {a p : ℕ} {r : Progress} {b : Bool} {c : CodeValue.Value} → span_at s at ≡ got a p → s1.refused ≡ 0 → s2.refused ≡ 0
         → AnswerAt s w2 s2 (part s a (p - a)) named m s1.back first old r b c → AppliedAt s at w1 s1 first end old w2 r b c
-    applied-answer {a} {p} sp z1 z2 g = record {
+    applied_answer {a} {p} sp z1 z2 g = record {
       called = λ image left a' p' sp' w x l t pos eo. both sp sp' (λ ea ep.
           g.called image left at a p sp refl w x l w1 t s1 end (subst (λ (j : ℕ). PositionalAt (env s image) left j w (world s x l w1 t s1) first end) (sym ep) pos) hm nm z1 z2 refl eo);
     }

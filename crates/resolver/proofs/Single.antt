@@ -16,5 +16,4 @@ pub mod Calls
 pub mod Results
 pub mod Written
 pub mod Pieces
-pub mod Wrong
 pub mod Acting

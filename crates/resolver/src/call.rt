@@ -17,7 +17,7 @@ use values::{END, held, hold, hold_missing, hold_wrong, set_end};
 use walks::skip_expression;
 
 // The positional arguments at `at`, each resolved in turn: the first value is kept.
-#[cycle(each_function_select_write_as_text_message_resolve_write_element_track_write_each_found_refer)]
+#[cycle(write)]
 pub(crate) fn each<'a>(
     store: &'a [u8],
     args: &'a [u8],
@@ -58,7 +58,7 @@ pub(crate) fn each<'a>(
 }
 
 // A call, its Id at `at`: its arguments are freed once its result, or that it is missing, is known.
-#[cycle(each_function_select_write_as_text_message_resolve_write_element_track_write_each_found_refer)]
+#[cycle(write)]
 pub(crate) fn function<'a>(
     store: &'a [u8],
     args: &'a [u8],

@@ -12,7 +12,7 @@ use walks::skip_expression;
 use writes::list::list_plain;
 
 // `Expression::write`
-#[cycle(each_function_select_write_as_text_message_resolve_write_element_track_write_each_found_refer)]
+#[cycle(write)]
 pub(crate) fn write<'a>(
     store: &'a [u8],
     args: &'a [u8],
@@ -59,7 +59,7 @@ pub(crate) fn write<'a>(
 }
 
 // A select, past its tag: the selector's text is freed when its variant, or none, is chosen.
-#[cycle(each_function_select_write_as_text_message_resolve_write_element_track_write_each_found_refer)]
+#[cycle(write)]
 pub(crate) fn select<'a>(
     store: &'a [u8],
     args: &'a [u8],

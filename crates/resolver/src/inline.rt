@@ -16,7 +16,7 @@ use texts::Referred;
 use writes::list::list_no_value;
 
 // `InlineExpression::write`
-#[cycle(each_function_select_write_as_text_message_resolve_write_element_track_write_each_found_refer)]
+#[cycle(write)]
 pub(crate) fn write<'a>(
     store: &'a [u8],
     args: &'a [u8],
@@ -98,7 +98,7 @@ pub(crate) fn write<'a>(
 }
 
 // A message reference, its tag at `at`.
-#[cycle(each_function_select_write_as_text_message_resolve_write_element_track_write_each_found_refer)]
+#[cycle(write)]
 pub(crate) fn message<'a>(
     store: &'a [u8],
     args: &'a [u8],
@@ -133,7 +133,7 @@ pub(crate) fn message<'a>(
 }
 
 // `InlineExpression::resolve`: a variable is the most frequent.
-#[cycle(each_function_select_write_as_text_message_resolve_write_element_track_write_each_found_refer)]
+#[cycle(write)]
 pub(crate) fn resolve<'a>(
     store: &'a [u8],
     args: &'a [u8],
@@ -188,7 +188,7 @@ pub(crate) fn resolve<'a>(
 }
 
 // A message, a term or an inline placeable, its tag at `at` and the rest at p, as a text of its own: made at the workspace's front, then moved to its back.
-#[cycle(each_function_select_write_as_text_message_resolve_write_element_track_write_each_found_refer)]
+#[cycle(write)]
 pub(crate) fn as_text<'a>(
     store: &'a [u8],
     args: &'a [u8],

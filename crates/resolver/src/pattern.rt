@@ -16,7 +16,7 @@ use writes::list::{list_plain, list_too_many};
 use writes::put::{put, put_fsi, put_pdi};
 
 // `Pattern::write`
-#[cycle(each_function_select_write_as_text_message_resolve_write_element_track_write_each_found_refer)]
+#[cycle(write)]
 pub(crate) fn write<'a>(
     store: &'a [u8],
     args: &'a [u8],
@@ -54,7 +54,7 @@ pub(crate) fn write<'a>(
 }
 
 // One turn of the loop of `Pattern::write`, with `maybe_track`.
-#[cycle(each_function_select_write_as_text_message_resolve_write_element_track_write_each_found_refer)]
+#[cycle(write)]
 pub(crate) fn element<'a>(
     store: &'a [u8],
     args: &'a [u8],
@@ -105,7 +105,7 @@ pub(crate) fn element<'a>(
 }
 
 // `Scope::track`: the pattern at q, for the reference whose tag is at `at`.
-#[cycle(each_function_select_write_as_text_message_resolve_write_element_track_write_each_found_refer)]
+#[cycle(write)]
 pub(crate) fn track<'a>(
     store: &'a [u8],
     args: &'a [u8],

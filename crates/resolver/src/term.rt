@@ -15,7 +15,7 @@ use values::{END, set_end};
 use walks::skip_expression;
 
 // A term reference, its tag at `at`: its arguments stay until all its text is written, and are cleared after it.
-#[cycle(each_function_select_write_as_text_message_resolve_write_element_track_write_each_found_refer)]
+#[cycle(write)]
 pub(crate) fn refer<'a>(
     store: &'a [u8],
     args: &'a [u8],
@@ -63,7 +63,7 @@ pub(crate) fn refer<'a>(
 }
 
 // The positional arguments at `at`, each resolved in turn: a term does not use their values.
-#[cycle(each_function_select_write_as_text_message_resolve_write_element_track_write_each_found_refer)]
+#[cycle(write)]
 pub(crate) fn each<'a>(
     store: &'a [u8],
     args: &'a [u8],
@@ -98,7 +98,7 @@ pub(crate) fn each<'a>(
 }
 
 // The term that a reference names, looked up and written.
-#[cycle(each_function_select_write_as_text_message_resolve_write_element_track_write_each_found_refer)]
+#[cycle(write)]
 pub(crate) fn found<'a>(
     store: &'a [u8],
     args: &'a [u8],

@@ -19,7 +19,7 @@ use Rattle.sheets.specs.Sheet.{run_sheet, format_sheet}
 use Rattle.sheet_theorems.proofs.Messages.{sheet_malformed_store, sheet_malformed, sheet_header, sheet_runs}
 use Rattle.theorems.specs.Figures.{FigureIs}
 use Rattle.sheet_theorems.specs.HighestUse.{sheet_highest_use}
-use Rattle.sheet_theorems.proofs.Answers.{sheet-sums}
+use Rattle.sheet_theorems.proofs.Answers.{sheet_sums}
 use Rattle.sheet_theorems.proofs.Figures.{sheet_answers_highest}
 use Rattle.state.specs.Progress.{Progress}
 use Rattle.state.specs.Setters.{new_s}
@@ -61,7 +61,7 @@ module _ (s sheet x l w : Bytes) where
       let o : Ran = run_sheet c.store (limits x l w) c.requests start in
       let d : format_sheet s sheet (buffers x l w) ≡ ended o (buffers x l w) = sheet_runs s sheet (buffers x l w) c.store c.used c.stored c.requests c.end c.read (le-leb 5 (length l) big) in
       g ∙ closes x l w (new_s (length w)) x₁ l₁ w₁ sc n lx ll lw o r.ran ∙ sym (ap stopped d)
-      ∙ stopped_is (format_sheet s sheet (buffers x l w)) (λ t e b u v h. omega (arith, (sheet-sums s os sheet oi (buffers x l w) t e b u v h).unfound))
+      ∙ stopped_is (format_sheet s sheet (buffers x l w)) (λ t e b u v h. omega (arith, (sheet_sums s os sheet oi (buffers x l w) t e b u v h).unfound))
 
 -- 18
 pub refused_sheet : (s sheet x l w : Bytes) {v : Store} {used : ℕ} → store_of s ≡ got v used → sheet_of sheet ≡ bad → gave (ans.Refused 18) x l w ≡ format_sheet s sheet (buffers x l w)

@@ -6,8 +6,6 @@ use mathlib.Core.Logic.{⊎_elim, ◌⊎◌, inl, inr}
 use Prim.Native.Nat.{ℕ, ◌+◌, ◌-◌, ◌≤◌, ◌<◌, min}
 use native.Mathlib.Omega.{arith}
 use lib.ListN.{length, take, drop}
-use types.Run.{OneOf, miss}
-use denote.Enum.Declared.{tag_of}
 use borrow.Author.Tests.{leb-false}
 use Rattle.numbers.specs.Number.{Number, in_range, number_text, ranged_text}
 use Rattle.numbers.specs.Value.{Value, numeric, value_text}
@@ -27,7 +25,6 @@ use Rattle.resolution.specs.Effect.{report, emit}
 use Rattle.state.specs.Progress.{Progress}
 use Rattle.values.specs.declared.Value as CodeValue
 use Rattle.values.specs.declared.Value.TheVariants as val
-use Rattle.values.specs.contracts.Value.{the_type}
 use Rattle.arguments.specs.Relations.Given.{between}
 use Rattle.arguments.proofs.Laws.{between_in}
 use Rattle.resolver.specs.Relations.Meets.{world, Kept, Acts, Holds, in_store, in_args, in_work, a_number, is_nothing, a_wrong, text_inside, bytes_of}
@@ -100,14 +97,14 @@ module _ (i a : List ℕ) where
   unfolding text_inside
   text_in_args h = rw h
 
-  pub text_in_none : (c : CodeValue.Value) → OneOf (2 ∷ 3 ∷ 4 ∷ 5 ∷ []) (tag_of the_type c) → [] ≡ text_inside i a c
+  pub text_in_none : (c : CodeValue.Value) → ((b e : ℕ) → c ≡ val.Store b e → ⊥) → ((b e : ℕ) → c ≡ val.Args b e → ⊥) → [] ≡ text_inside i a c
   unfolding text_inside
-  text_in_none (val.Store b e) k = absurd (miss (2 ∷ 3 ∷ 4 ∷ 5 ∷ []) 0 tt k)
-  text_in_none (val.Args b e) k = absurd (miss (2 ∷ 3 ∷ 4 ∷ 5 ∷ []) 1 tt k)
-  text_in_none (val.Work b e) k = refl
-  text_in_none (val.Number n) k = refl
-  text_in_none val.Nothing k = refl
-  text_in_none val.Wrong k = refl
+  text_in_none (val.Store b e) h k = absurd (h b e refl)
+  text_in_none (val.Args b e) h k = absurd (k b e refl)
+  text_in_none (val.Work b e) h k = refl
+  text_in_none (val.Number n) h k = refl
+  text_in_none val.Nothing h k = refl
+  text_in_none val.Wrong h k = refl
 
 -- the bytes that are written for a value are its text
 module _ (i a w : List ℕ) where
@@ -119,14 +116,14 @@ module _ (i a w : List ℕ) where
   unfolding bytes_of
   bytes_number h = rw h
 
-  pub bytes_text : (c : CodeValue.Value) → OneOf (0 ∷ 1 ∷ 4 ∷ 5 ∷ []) (tag_of the_type c) → text_inside i a c ≡ bytes_of i a w c
+  pub bytes_text : (c : CodeValue.Value) → ((b e : ℕ) → c ≡ val.Work b e → ⊥) → ((n : CodeNumber.Number) → c ≡ val.Number n → ⊥) → text_inside i a c ≡ bytes_of i a w c
   unfolding bytes_of
-  bytes_text (val.Store b e) k = refl
-  bytes_text (val.Args b e) k = refl
-  bytes_text (val.Work b e) k = absurd (miss (0 ∷ 1 ∷ 4 ∷ 5 ∷ []) 2 tt k)
-  bytes_text (val.Number n) k = absurd (miss (0 ∷ 1 ∷ 4 ∷ 5 ∷ []) 3 tt k)
-  bytes_text val.Nothing k = refl
-  bytes_text val.Wrong k = refl
+  bytes_text (val.Store b e) h k = refl
+  bytes_text (val.Args b e) h k = refl
+  bytes_text (val.Work b e) h k = absurd (h b e refl)
+  bytes_text (val.Number n) h k = absurd (k n refl)
+  bytes_text val.Nothing h k = refl
+  bytes_text val.Wrong h k = refl
 
   pub bytes_held : (low : ℕ) {c : CodeValue.Value} {v : Value} → Holds i a w low c v → bytes_of i a w c ≡ value_text v
   unfolding bytes_of text_inside value_text

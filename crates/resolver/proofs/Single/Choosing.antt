@@ -3,8 +3,6 @@ use mathlib.Core.Path.{◌≡◌, refl, ap, sym, subst, ◌∙◌}
 use mathlib.Core.List.{List, [], ◌∷◌}
 use mathlib.Core.Option.{Option}
 use Prim.Native.Nat.{ℕ}
-use types.Run.{OneOf, miss}
-use denote.Enum.Declared.{tag_of}
 use Rattle.decimals.specs.Relations.Shown.{shown, told}
 use Rattle.decimals.specs.declared.types.Number as CodeNumber
 use Rattle.numbers.specs.Value.{Value, textual, numeric}
@@ -22,7 +20,6 @@ use Rattle.variants.proofs.Keys.{nothing_chosen, wrong_chosen}
 use Rattle.variants.proofs.Choosing.{chosen_picks, shown_chosen}
 use Rattle.values.specs.declared.Value as CodeValue
 use Rattle.values.specs.declared.Value.TheVariants as val
-use Rattle.values.specs.contracts.Value.{the_type}
 use Rattle.resolver.specs.Relations.Meets.{Holds, in_store, in_args, in_work, a_number, is_nothing, a_wrong, text_inside, held_value}
 
 module _ (i a w : List ℕ) (at : ℕ) (c : CodeValue.Value) (r : Next) where
@@ -43,16 +40,20 @@ module _ (i a w : List ℕ) (at : ℕ) (c : CodeValue.Value) (r : Next) where
   unfolding held_value
   by_work ec et h locale = held_as locale (ap (held_value i a w) ec ∙ ap textual (sym et)) (h locale)
 
-  text_held : (x : CodeValue.Value) → OneOf (0 ∷ 1 ∷ []) (tag_of the_type x) → held_value i a w x ≡ textual (text_inside i a x)
+  -- a value that is no part of the workspace, no number, no nothing and no error
+  abbrev pub OnlyText : CodeValue.Value → Type 0
+  OnlyText x = ((b e : ℕ) → x ≡ val.Work b e → ⊥) × ((n : CodeNumber.Number) → x ≡ val.Number n → ⊥) × (x ≡ val.Nothing → ⊥) × (x ≡ val.Wrong → ⊥)
+
+  text_held : (x : CodeValue.Value) → OnlyText x → held_value i a w x ≡ textual (text_inside i a x)
   unfolding held_value text_inside
   text_held (val.Store b e) k = refl
   text_held (val.Args b e) k = refl
-  text_held (val.Work b e) k = absurd (miss (0 ∷ 1 ∷ []) 2 tt k)
-  text_held (val.Number n) k = absurd (miss (0 ∷ 1 ∷ []) 3 tt k)
-  text_held val.Nothing k = absurd (miss (0 ∷ 1 ∷ []) 4 tt k)
-  text_held val.Wrong k = absurd (miss (0 ∷ 1 ∷ []) 5 tt k)
+  text_held (val.Work b e) k = absurd (k.0 b e refl)
+  text_held (val.Number n) k = absurd (k.1 n refl)
+  text_held val.Nothing k = absurd (k.2 refl)
+  text_held val.Wrong k = absurd (k.3 refl)
 
-  pub by_text : {t : List ℕ} → OneOf (0 ∷ 1 ∷ []) (tag_of the_type c) → t ≡ text_inside i a c → ByText t → (locale : ℕ) → ByHeld locale
+  pub by_text : {t : List ℕ} → OnlyText c → t ≡ text_inside i a c → ByText t → (locale : ℕ) → ByHeld locale
   by_text k et h locale = held_as locale (text_held c k ∙ ap textual (sym et)) (h locale)
 
   pub by_number : {n : CodeNumber.Number} {l locale : ℕ} → c ≡ val.Number n → r ≡ pattern_place (chosen_at l (numeric (told n)) i at) → l ≡ locale → ByHeld locale
