@@ -5,9 +5,9 @@ use Rattle.exports.proofs.weszlagyo_add_function.Goals as goal
 pub returns-in-Done : goal.returns-in-Done
 returns-in-Done c =
     let t = done_told 0 c.add_function.ensures c.in-Done.is in
-    record { value = t.0; slice_after = t.1.0 }
+    record { value = t.0; slice_after = t.1 }
 
 pub returns-in-Refused : goal.returns-in-Refused
 returns-in-Refused c =
     let t = refused_told 0 c.add_function.ensures c.in-Refused.is in
-    record { value = t.0; slice_after = t.1.0 }
+    record { value = t.0; slice_after = t.1 }
