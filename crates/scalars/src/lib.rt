@@ -1,8 +1,29 @@
-// The Unicode scalars that escapes write.
+// The values of hexadecimal digits, and the Unicode scalars that escapes write.
 #![tactic(auto)]
 
 ghost use Rattle.std.specs.Prelude.{◌≡◌, ℕ, ◌<◌, length};
-ghost use Rattle.scalars.specs.Scalars.{scalar_or, enc_scalar};
+ghost use Rattle.scalars.specs.Scalars.{hex_value, scalar_or, enc_scalar};
+
+// The value of a hexadecimal digit; 0 of any other byte.
+pub fn hex_value(b: u8) -> u32
+    ensures { result ≡ hex_value b }
+{
+    if b < 48 {
+        0
+    } else if b <= 57 {
+        (b - 48) as u32
+    } else if b < 65 {
+        0
+    } else if b <= 70 {
+        (b - 55) as u32
+    } else if b < 97 {
+        0
+    } else if b <= 102 {
+        (b - 87) as u32
+    } else {
+        0
+    }
+}
 
 // The value itself if it is a Unicode scalar, else U+FFFD.
 pub fn scalar_or(v: u32) -> u32
