@@ -3,13 +3,13 @@
 //! formattings and sheets.
 #![forbid(unsafe_code)]
 
-mod generated;
-
+use harness::case::{Bundle, Item};
+use harness::encode;
 use harness::fractions::{changed, formattings, lent, lent_sheets, sheets, Part};
+use harness::ftl;
 use harness::model::effects::Lengths;
 use harness::model::number::{Decimal, Number, Seen};
 use harness::model::operations;
-use harness::model::resolve::Resolution;
 use harness::model::sheet::{format_sheet, join, Refused};
 use harness::model::workspace::{self, is_exact};
 use harness::{expected, expected_sheet, fractions, fractions_sheet, large_stack, vectors};
@@ -198,39 +198,80 @@ fn every_change_of_a_store() {
     assert!(finished > 500 && refused > 5_000, "{finished} {refused}");
 }
 
-fn see(seen: &mut Seen, message: &Resolution) -> bool {
-    seen.add(message.numbers);
-    message.numbers.texts_losing_dot > 0
-}
-
 /// The generated formattings have what they are for, and both sides agree on them.
 #[test]
 fn generated_formattings() {
-    let said = generated::formattings(0..6_000, fractions, see);
-    assert!(said.finished > 5_000 && said.with > 3_000, "{said:?}");
-    assert!(said.originals > 4_500 && said.cut > 50, "{said:?}");
-    assert!(said.with_workspace > 1_500, "{said:?}");
-    let seen = &said.seen;
-    assert!(seen.texts_losing_dot * 5 > seen.texts * 2, "{said:?}");
-    assert!(seen.texts > seen.texts_losing_dot + 3_000, "{said:?}");
-    assert!(seen.selectors_losing_dot > 500, "{said:?}");
-    assert!(seen.selectors > seen.selectors_losing_dot + 200, "{said:?}");
-    for answer in [11, 12, 17] {
-        assert!(said.refused[answer] > 20, "{said:?}");
-    }
+    large_stack(|| {
+        let mut seen = Seen::default();
+        let (mut finished, mut losing, mut original, mut cut, mut work) = (0, 0, 0, 0, 0);
+        let mut refused = [0; 20];
+        for seed in 0..6_000 {
+            let case = fractions(seed);
+            let e = expected(&case).unwrap_or_else(|d| panic!("seed {seed}: {d}"));
+            match &e.answer {
+                Err(answer) => refused[usize::from(*answer)] += 1,
+                Ok(done) => {
+                    let numbers = e.prepared.as_ref().expect("it has effects").numbers;
+                    seen.add(numbers);
+                    finished += 1;
+                    losing += usize::from(numbers.texts_losing_dot > 0);
+                    original += usize::from(e.from_rust);
+                    cut += usize::from(done.begun == 101);
+                    work += usize::from(done.highest > 0);
+                }
+            }
+        }
+        let said = format!(
+            "{finished} finished, {losing} losing a dot, {original} of the Rust, {cut} cut short, {work} with workspace, {seen:?}, {refused:?}"
+        );
+        assert!(finished > 5_000 && losing > 3_000, "{said}");
+        assert!(original > 4_500 && cut > 50 && work > 1_500, "{said}");
+        assert!(seen.texts_losing_dot * 5 > seen.texts * 2, "{said}");
+        assert!(seen.texts > seen.texts_losing_dot + 3_000, "{said}");
+        assert!(seen.selectors_losing_dot > 500, "{said}");
+        assert!(seen.selectors > seen.selectors_losing_dot + 200, "{said}");
+        for answer in [11, 12, 17] {
+            assert!(refused[answer] > 20, "{said}");
+        }
+    });
 }
 
 #[test]
 fn generated_sheets() {
-    let said = generated::sheets(0..2_000, fractions_sheet, see);
-    assert!(said.finished > 1_200 && said.with > 1_000, "{said:?}");
-    assert!(said.rows > 10_000, "{said:?}");
-    assert!(said.seen.texts_losing_dot > 5_000, "{said:?}");
+    large_stack(|| {
+        let mut seen = Seen::default();
+        let (mut finished, mut losing, mut rows) = (0, 0, 0);
+        for seed in 0..2_000 {
+            let sheet = fractions_sheet(seed);
+            let e = expected_sheet(&sheet).unwrap_or_else(|d| panic!("seed {seed}: {d}"));
+            rows += sheet.rows.len();
+            if e.answer.is_err() {
+                continue;
+            }
+            let mut all = Seen::default();
+            for message in e.prepared.iter().flatten().flatten() {
+                all.add(message.numbers);
+            }
+            finished += 1;
+            losing += usize::from(all.texts_losing_dot > 0);
+            seen.add(all);
+        }
+        assert!(finished > 1_200 && losing > 1_000, "{finished} {losing}");
+        assert!(
+            rows > 10_000 && seen.texts_losing_dot > 5_000,
+            "{rows} {seen:?}"
+        );
+    });
 }
 
+/// The same seed gives the same, another one something else.
 #[test]
 fn by_their_seeds() {
-    generated::by_their_seeds(fractions, fractions_sheet);
+    let shown = |seed| format!("{:?} {:?}", fractions(seed), fractions_sheet(seed));
+    for seed in 0..50 {
+        assert_eq!(shown(seed), shown(seed));
+        assert_ne!(shown(seed), shown(seed + 1));
+    }
 }
 
 /// What the model counts of numbers, on some messages.
@@ -263,11 +304,21 @@ fn numbers_that_are_seen() {
         ),
         ("a = { 5 -> *[o] { 6 } }", [1, 0, 1, 0]),
     ] {
-        let numbers = Seen {
+        let store = encode::store(&Bundle {
+            locale: 0,
+            isolating: true,
+            items: vec![
+                Item::Function("NUMBER".into()),
+                Item::Plain(ftl::resource(source)),
+            ],
+        });
+        let none = encode::arguments(&[]);
+        let prepared = operations::prepare(&store, b"a", None, &none);
+        let numbers = prepared.map(|resolution| Seen {
             choices: Default::default(),
-            ..generated::message(source).numbers
-        };
-        assert_eq!(numbers, seen(wanted), "{source}");
+            ..resolution.numbers
+        });
+        assert_eq!(numbers.ok(), Some(seen(wanted)), "{source}");
     }
 }
 

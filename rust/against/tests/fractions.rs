@@ -1,19 +1,22 @@
 //! The crate's formattings and sheets by their fraction digits.
 #![forbid(unsafe_code)]
 
-mod counted;
-
 use against::fractions::{self, Fractions};
-use against::Tally;
-use counted::{counted, generated};
+use against::{Counts, Tally};
+use harness::large_stack;
 use harness::model::number::Seen;
 
 #[test]
 fn generated_numbers() {
-    let counts = generated(
-        60_000..60_400,
-        &[fractions::compare_formatting, fractions::compare_sheet],
-    );
+    let counts = large_stack(|| {
+        let mut counts = Counts::default();
+        for seed in 60_000..60_400 {
+            fractions::compare_formatting(seed, &mut counts)?;
+            fractions::compare_sheet(seed, &mut counts)?;
+        }
+        Ok::<_, String>(counts)
+    });
+    let counts = counts.expect("nothing differs");
     let said = counts.fractions;
     assert_eq!(said.cases, 800);
     assert!(said.texts > 500 && said.texts_losing_dot > 400, "{said}");
@@ -30,8 +33,13 @@ fn generated_numbers() {
 
 #[test]
 fn worked_out_by_hand() {
-    let mut counts = counted(fractions::by_hand);
-    counts.add(&counted(fractions::sheets_by_hand));
+    let counts = large_stack(|| {
+        let mut counts = Counts::default();
+        fractions::by_hand(&mut counts)?;
+        fractions::sheets_by_hand(&mut counts)?;
+        Ok::<_, String>(counts)
+    });
+    let counts = counts.expect("nothing differs");
     for answer in [0, 4, 7, 11, 12, 13, 15, 16, 17, 19] {
         assert!(counts.answers[answer] > 0, "{answer}");
     }
@@ -40,7 +48,7 @@ fn worked_out_by_hand() {
 
 /// The sums of what was counted.
 #[test]
-fn sums() {
+fn counted() {
     let seen = Seen {
         texts: 5,
         texts_losing_dot: 2,

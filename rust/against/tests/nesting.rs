@@ -1,19 +1,22 @@
 //! The count of isolation marks over the crate's texts, and that it can fail.
 #![forbid(unsafe_code)]
 
-mod counted;
-
 use against::nesting::{self, Nesting, Noticed};
-use counted::{counted, generated};
+use against::Counts;
+use harness::large_stack;
 
 #[test]
 fn generated_texts_are_paired() {
-    let mut counts = generated(
-        70_000..70_400,
-        &[nesting::compare_formatting, nesting::compare_sheet],
-    );
-    counts.add(&counted(nesting::by_hand));
-    let said = counts.nesting;
+    let counts = large_stack(|| {
+        let mut counts = Counts::default();
+        for seed in 70_000..70_400 {
+            nesting::compare_formatting(seed, &mut counts)?;
+            nesting::compare_sheet(seed, &mut counts)?;
+        }
+        nesting::by_hand(&mut counts)?;
+        Ok::<_, String>(counts)
+    });
+    let said = counts.expect("nothing differs").nesting;
     assert_eq!(said.unpaired, 0);
     assert!(said.texts > 1_000 && said.from_damaged > 300, "{said}");
     assert!(said.with_marks > 700 && said.deepest > 20, "{said}");
@@ -23,7 +26,14 @@ fn generated_texts_are_paired() {
 
 #[test]
 fn marks_in_the_input_are_noticed() {
-    let said = generated(80_000..80_200, &[nesting::compare_marked]).nesting;
+    let counts = large_stack(|| {
+        let mut counts = Counts::default();
+        for seed in 80_000..80_200 {
+            nesting::compare_marked(seed, &mut counts)?;
+        }
+        Ok::<_, String>(counts)
+    });
+    let said = counts.expect("nothing differs").nesting;
     assert!(said.noticed());
     for kind in said.noticed {
         assert!(kind.cases == 400 && kind.unpaired > 40, "{said}");
@@ -32,7 +42,7 @@ fn marks_in_the_input_are_noticed() {
 }
 
 /// What a wrong text gives.
-fn of_text(text: &str) -> (Result<(), String>, Nesting) {
+fn counted(text: &str) -> (Result<(), String>, Nesting) {
     let text = text.replace('⟨', "\u{2068}").replace('⟩', "\u{2069}");
     let mut nesting = Nesting::default();
     let answer = nesting.count(text.as_bytes(), &[Some(1)]);
@@ -41,14 +51,14 @@ fn of_text(text: &str) -> (Result<(), String>, Nesting) {
 
 #[test]
 fn wrong_texts_are_noticed() {
-    let (answer, said) = of_text("x ⟨y ⟨2⟩⟩");
+    let (answer, said) = counted("x ⟨y ⟨2⟩⟩");
     assert_eq!((answer, said.unpaired, said.texts), (Ok(()), 0, 1));
     assert_eq!((said.marks, said.deepest), (4, 2));
     assert_eq!((said.cut, said.inside), (1, 1));
     // A closing mark is dropped, put twice, or they are exchanged.
     for wrong in ["x ⟨y ⟨2⟩", "x ⟨y 2⟩⟩", "x ⟨y ⟨2⟩⟩⟩", "⟩⟨", "x ⟩2⟨", "⟨⟩⟩⟨"]
     {
-        let (answer, said) = of_text(wrong);
+        let (answer, said) = counted(wrong);
         assert!(
             answer.is_err_and(|said| said.starts_with("unpaired")),
             "{wrong}"

@@ -1,18 +1,21 @@
 //! The crate's formattings and sheets by the order of their arguments.
 #![forbid(unsafe_code)]
 
-mod counted;
-
 use against::order::{self, Order};
-use counted::{counted, generated};
-use harness::{Listing, Place};
+use against::Counts;
+use harness::{large_stack, Listing, Place};
 
 #[test]
 fn generated_arguments() {
-    let counts = generated(
-        90_000..90_600,
-        &[order::compare_formatting, order::compare_sheet],
-    );
+    let counts = large_stack(|| {
+        let mut counts = Counts::default();
+        for seed in 90_000..90_600 {
+            order::compare_formatting(seed, &mut counts)?;
+            order::compare_sheet(seed, &mut counts)?;
+        }
+        Ok::<_, String>(counts)
+    });
+    let counts = counts.expect("nothing differs");
     let said = counts.order;
     assert!(said.listings.iter().all(|n| *n > 150), "{said}");
     assert!(said.places.iter().all(|n| *n > 120), "{said}");
@@ -25,7 +28,12 @@ fn generated_arguments() {
 
 #[test]
 fn worked_out_by_hand() {
-    let counts = counted(order::by_hand);
+    let counts = large_stack(|| {
+        let mut counts = Counts::default();
+        order::by_hand(&mut counts)?;
+        Ok::<_, String>(counts)
+    });
+    let counts = counts.expect("nothing differs");
     for answer in [0, 4, 7, 8, 11, 12, 13, 15, 17, 19] {
         assert!(counts.answers[answer] > 5, "{answer}");
     }
@@ -33,7 +41,7 @@ fn worked_out_by_hand() {
 
 /// The sums of what was counted.
 #[test]
-fn sums() {
+fn counted() {
     let mut one = Order::default();
     one.image(Listing::Accepted, 256);
     one.image(Listing::Repeated, 257);

@@ -1,20 +1,23 @@
 //! The crate's formattings and sheets by their choices by numbers.
 #![forbid(unsafe_code)]
 
-mod counted;
-
 use against::plurals::{self, Plurals};
-use against::Tally;
-use counted::{counted, generated};
+use against::{Counts, Tally};
+use harness::large_stack;
 use harness::model::number::Seen;
 use harness::model::plural_table::Choices;
 
 #[test]
 fn generated_choices() {
-    let counts = generated(
-        60_000..60_400,
-        &[plurals::compare_formatting, plurals::compare_sheet],
-    );
+    let counts = large_stack(|| {
+        let mut counts = Counts::default();
+        for seed in 60_000..60_400 {
+            plurals::compare_formatting(seed, &mut counts)?;
+            plurals::compare_sheet(seed, &mut counts)?;
+        }
+        Ok::<_, String>(counts)
+    });
+    let counts = counts.expect("nothing differs");
     let said = counts.plurals;
     assert_eq!(said.cases, 800);
     assert!(said.texts > 700 && said.texts_choosing > 600, "{said}");
@@ -30,7 +33,12 @@ fn generated_choices() {
 
 #[test]
 fn worked_out_by_hand() {
-    let said = counted(plurals::by_hand).plurals;
+    let counts = large_stack(|| {
+        let mut counts = Counts::default();
+        plurals::by_hand(&mut counts)?;
+        Ok::<_, String>(counts)
+    });
+    let said = counts.expect("nothing differs").plurals;
     assert_eq!(
         (said.cases, said.texts, said.originals),
         (1_160, 1_160, 1_160)
@@ -41,7 +49,7 @@ fn worked_out_by_hand() {
 
 /// The sums of what was counted.
 #[test]
-fn sums() {
+fn counted() {
     let choices = Choices {
         asked: 10,
         taken: 7,

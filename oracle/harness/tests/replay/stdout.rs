@@ -100,21 +100,10 @@ fn formattings_and_sheets() {
 fn numbers_images_and_additions() {
     let mut counts: BTreeMap<u8, usize> = BTreeMap::new();
     let (mut damaged, mut damaged_sheets) = (0, 0);
-    let mut full_of_escapes = 0;
-    for file in [
-        "numbers",
-        "images",
-        "escapes",
-        "additions",
-        "figure_additions",
-    ] {
+    for file in ["numbers", "images", "additions", "figure_additions"] {
         for case in cases(&format!("replay/data/{file}.vec")) {
             let mut f = Fields(&case);
             let operation = f.u8();
-            if (file, operation) == ("escapes", 23) {
-                full_of_escapes += 1;
-                continue;
-            }
             *counts.entry(operation).or_default() += 1;
             if operation == 25 {
                 let (kind, base) = (f.u8(), f.blob());
@@ -140,7 +129,6 @@ fn numbers_images_and_additions() {
         line(21, "resource images"),
         line(22, "arguments images"),
         line(23, "string literals"),
-        format!("{full_of_escapes} string literals full of escapes, 0 differ"),
         line(24, "arguments looked for"),
         format!("{damaged} damaged images, 0 differ"),
         line(51, "sheet images"),
