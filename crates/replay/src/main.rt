@@ -65,7 +65,7 @@ fn compared(counts: Counts, s: &[u8]) -> Counts {
     counted(counted(counts, at, 1), at + 64, differs(agrees(op, s)))
 }
 
-// A case is read into a buffer that holds the longest, 65,536 bytes.
+// Reads a case into a buffer of 65,536 bytes, and compares it.
 fn next<R: Read>(file: &mut R, counts: Counts) -> io::Result<Counts> {
     let mut buffer = [0u8; 65536];
     let n = next_case(file, &mut buffer)?;

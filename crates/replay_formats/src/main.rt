@@ -65,7 +65,7 @@ fn replayed(c: Counts, s: &[u8]) -> Counts {
     }
 }
 
-// A case is read into a buffer that holds the longest, 65,536 bytes.
+// Reads a case into a buffer of 65,536 bytes, and replays it.
 fn next<R: Read>(file: &mut R, c: Counts) -> io::Result<Counts> {
     let mut buffer = [0u8; 65536];
     let n = next_case(file, &mut buffer)?;

@@ -13,7 +13,7 @@ fn print(rt: &impl Print, s: &[u8]) -> io::Result<()> {
     io::writer(rt).write_all(s)
 }
 
-// Room for a store, an image, a list or a text.
+// Room for a store, a text, a list or a workspace.
 fn buffer() -> [u8; 4096] {
     [0; 4096]
 }
