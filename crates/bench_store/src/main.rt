@@ -3,8 +3,8 @@
 #![tactic(auto)]
 
 use buffers::{Wrote, put_bytes};
-use libc::STDOUT_FILENO;
 use records::Next;
+use std::io;
 
 // Puts bytes at a position, and answers the one past them.
 fn append(d: &mut [u8], at: usize, src: &[u8]) -> usize {
@@ -73,12 +73,9 @@ fn room() -> [u8; 1048576] {
     [0u8; 1048576]
 }
 
-fn main() {
+fn main(rt: HostRuntime) -> io::Result<()> {
     let mut store = room();
     let n = made(&mut store);
     let ok = checked(&store, 1000);
-    io::print_decimal(STDOUT_FILENO, n as u64);
-    io::write_all(STDOUT_FILENO, b" bytes, well-formed ");
-    io::print_decimal(STDOUT_FILENO, ok);
-    io::write_all(STDOUT_FILENO, b" times of 1000\n");
+    println!(rt; "{n} bytes, well-formed {ok} times of 1000")
 }

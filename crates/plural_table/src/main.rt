@@ -6,9 +6,10 @@ ghost use Rattle.decimals.specs.Decimal.{kind_number};
 ghost use Rattle.plural.specs.Table.{table, in_digits, printed};
 
 use decimals::types::Kind;
-use libc::STDOUT_FILENO;
 use plural::plural::by_conditions;
 use plural::types::category_number;
+use std::io;
+use std::io::Write;
 
 // The kind of a line's rule set: cardinal, then ordinal.
 fn kind_of(rule: u8) -> Kind
@@ -53,7 +54,7 @@ fn make_table() -> [u8; 1608]
     out
 }
 
-fn main() {
+fn main(rt: HostRuntime) -> io::Result<()> {
     let out = make_table();
-    io::write_all(STDOUT_FILENO, &out);
+    io::writer(&rt).write_all(&out)
 }

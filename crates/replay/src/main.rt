@@ -10,7 +10,10 @@ mod number_fields;
 
 ghost use Rattle.std.specs.Prelude.{◌<◌};
 
-use libc::STDOUT_FILENO;
+use std::fs::File;
+use std::io;
+use std::io::{Read, Write};
+use std::rt::Files;
 use vectors::{
     Counts, byte, case_count, count_at, counted, differs, next_case, no_counts, part, past,
     past_string, string,
@@ -62,56 +65,61 @@ fn compared(counts: Counts, s: &[u8]) -> Counts {
     counted(counted(counts, at, 1), at + 64, differs(agrees(op, s)))
 }
 
-fn next(fd: i32, counts: Counts) -> Counts {
-    let mut buffer = io::large_buffer();
-    let n = next_case(fd, &mut buffer);
-    compared(counts, part(&buffer, 0, n))
+// Reads a case into a buffer of 65,536 bytes, and compares it.
+fn next<R: Read>(file: &mut R, counts: Counts) -> io::Result<Counts> {
+    let mut buffer = [0u8; 65536];
+    let n = next_case(file, &mut buffer)?;
+    Ok(compared(counts, part(&buffer, 0, n)))
 }
 
-fn all_cases(fd: i32, counts: Counts, count: u64) -> Counts {
+fn all_cases<R: Read>(file: &mut R, counts: Counts, count: u64) -> io::Result<Counts> {
     let mut r = counts;
     let mut left = count;
     while 0 < left {
-        r = next(fd, r);
+        r = next(file, r)?;
         left -= 1;
     }
-    r
+    Ok(r)
 }
 
-fn replayed(counts: Counts, name: &[u8]) -> Counts {
-    let fd = os::open_read(name);
-    if fd < 0 {
-        os::fail(name);
-        return counts;
-    }
-    let r = all_cases(fd, counts, case_count(fd));
-    libc::close(fd);
-    r
+// A file that cannot be opened is named, and counts nothing.
+fn replayed<R: Files + Eprint>(rt: &R, counts: Counts, name: &str) -> io::Result<Counts> {
+    let mut file = match File::open(rt, name) {
+        Ok(file) => file,
+        Err(error) => {
+            eprintln!(rt; "{name}: {error}")?;
+            return Ok(counts);
+        }
+    };
+    let count = case_count(&mut file)?;
+    all_cases(&mut file, counts, count)
 }
 
 // The count at a place, and words.
-fn line(counts: Counts, place: usize, words: &[u8]) {
-    io::print_decimal(STDOUT_FILENO, count_at(counts, place));
-    io::write_all(STDOUT_FILENO, words);
+fn line(rt: &impl Print, counts: Counts, place: usize, words: &[u8]) -> io::Result<()> {
+    let n = count_at(counts, place);
+    print!(rt; "{n}")?;
+    io::writer(rt).write_all(words)
 }
 
 // A line of what is printed: the count at a place, with its words, and that of the differences.
-fn row(counts: Counts, place: u8, words: &[u8]) {
+fn row(rt: &impl Print, counts: Counts, place: u8, words: &[u8]) -> io::Result<()> {
     let at = place as usize;
-    line(counts, at, words);
-    line(counts, at + 64, b" differ\n");
+    line(rt, counts, at, words)?;
+    line(rt, counts, at + 64, b" differ\n")
 }
 
 // The rows that are printed: u8 place, Str words.
-fn show(counts: Counts, rows: &[u8], count: u8) {
+fn show(rt: &impl Print, counts: Counts, rows: &[u8], count: u8) -> io::Result<()> {
     let mut at = 0usize;
     let mut left = count;
     while 0 < left {
         let words = past(rows, at, 1);
-        row(counts, byte(rows, at), string(rows, words));
+        row(rt, counts, byte(rows, at), string(rows, words))?;
         at = past_string(rows, words);
         left -= 1;
     }
+    Ok(())
 }
 
 // Where a count of `replayed_apart` goes: that of the operation, and that of its differences, to the place of a row of its own; any other stays where it is.
@@ -126,27 +134,36 @@ fn own_place(at: usize, op: u8, place: u8) -> usize
 }
 
 // A file that has a row of its own for the cases of one operation.
-fn replayed_apart(counts: Counts, name: &[u8], op: u8, place: u8) -> Counts {
-    let own = replayed(no_counts(), name);
+fn replayed_apart<R: Files + Eprint>(
+    rt: &R,
+    counts: Counts,
+    name: &str,
+    op: u8,
+    place: u8,
+) -> io::Result<Counts> {
+    let own = replayed(rt, no_counts(), name)?;
     let mut r = counts;
     let mut at = 0usize;
     while at < 128 {
         r = counted(r, own_place(at, op, place), count_at(own, at));
         at += 1;
     }
-    r
+    Ok(r)
 }
 
-fn main() {
-    let numbers = replayed(no_counts(), b"numbers.vec");
-    let a = replayed_apart(numbers, b"categories.vec", 3, 34);
-    let b = replayed_apart(replayed(a, b"images.vec"), b"escapes.vec", 23, 35);
-    let f = replayed(replayed(b, b"additions.vec"), b"figure_additions.vec");
+fn main(rt: HostRuntime) -> io::Result<()> {
+    let numbers = replayed(&rt, no_counts(), "numbers.vec")?;
+    let a = replayed_apart(&rt, numbers, "categories.vec", 3, 34)?;
+    let images = replayed(&rt, a, "images.vec")?;
+    let b = replayed_apart(&rt, images, "escapes.vec", 23, 35)?;
+    let additions = replayed(&rt, b, "additions.vec")?;
+    let f = replayed(&rt, additions, "figure_additions.vec")?;
     let c = counted(f, 33, limit::limit());
     show(
+        &rt,
         c,
         b"\x01\x00\x0B literals, \x02\x00\x0F number texts, \x03\x00\x0D categories, \x04\x00\x12 calls of NUMBER, \x05\x00\x0D equalities, \x06\x00\x11 category words, \x22\x00\x1A categories by the table, \x14\x00\x09 stores, \x15\x00\x12 resource images, \x16\x00\x13 arguments images, \x17\x00\x12 string literals, \x23\x00\x22 string literals full of escapes, \x18\x00\x17 arguments looked for, \x19\x00\x11 damaged images, \x33\x00\x0F sheet images, \x34\x00\x17 damaged sheet images, \x1E\x00\x0E new bundles, \x1F\x00\x15 resource additions, \x20\x00\x15 function additions, \x00\x00\x0A unknown, ",
         20,
-    );
-    line(c, 33, b" differ at the limit of a store\n");
+    )?;
+    line(&rt, c, 33, b" differ at the limit of a store\n")
 }

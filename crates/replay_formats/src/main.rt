@@ -9,7 +9,10 @@ mod limit;
 mod sheet_limit;
 
 use fields::answer_at;
-use libc::STDOUT_FILENO;
+use std::fs::File;
+use std::io;
+use std::io::{Read, Write};
+use std::rt::Files;
 use vectors::{
     Counts, byte, case_count, count_at, counted, differs, next_case, no_counts, part, past_string,
     string, tail,
@@ -62,83 +65,90 @@ fn replayed(c: Counts, s: &[u8]) -> Counts {
     }
 }
 
-fn next(fd: i32, c: Counts) -> Counts {
-    let mut buffer = io::large_buffer();
-    let n = next_case(fd, &mut buffer);
-    replayed(c, part(&buffer, 0, n))
+// Reads a case into a buffer of 65,536 bytes, and replays it.
+fn next<R: Read>(file: &mut R, c: Counts) -> io::Result<Counts> {
+    let mut buffer = [0u8; 65536];
+    let n = next_case(file, &mut buffer)?;
+    Ok(replayed(c, part(&buffer, 0, n)))
 }
 
-fn all_cases(fd: i32, count: u64) -> Counts {
+fn all_cases<R: Read>(file: &mut R, count: u64) -> io::Result<Counts> {
     let mut r = no_counts();
     let mut left = count;
     while 0 < left {
-        r = next(fd, r);
+        r = next(file, r)?;
         left -= 1;
     }
-    r
+    Ok(r)
 }
 
 // The count at a place, and words.
-fn line(c: Counts, place: usize, words: &[u8]) {
-    io::print_decimal(STDOUT_FILENO, count_at(c, place));
-    io::write_all(STDOUT_FILENO, words);
+fn line(rt: &impl Print, c: Counts, place: usize, words: &[u8]) -> io::Result<()> {
+    let n = count_at(c, place);
+    print!(rt; "{n}")?;
+    io::writer(rt).write_all(words)
 }
 
 // The counts at the places from 1 to 10, each with its words, a Str.
-fn show(c: Counts, words: &[u8]) {
+fn show(rt: &impl Print, c: Counts, words: &[u8]) -> io::Result<()> {
     let mut at = 0usize;
     let mut i = 1usize;
     while i < 11 {
-        line(c, i, string(words, at));
+        line(rt, c, i, string(words, at))?;
         at = past_string(words, at);
         i += 1;
     }
+    Ok(())
 }
 
-// The last line stands only where a case differs.
-fn replay(name: &[u8], words: &[u8]) {
-    let fd = os::open_read(name);
-    if fd < 0 {
-        os::fail(name);
-        return;
-    }
-    io::write_all(STDOUT_FILENO, name);
-    io::write_all(STDOUT_FILENO, b":\n");
-    let c = all_cases(fd, case_count(fd));
-    libc::close(fd);
-    line(c, 0, words);
+// A file that cannot be opened is named, and counts nothing. The last line stands only where a case differs.
+fn replay<R: Files + Print + Eprint>(rt: &R, name: &str, words: &[u8]) -> io::Result<()> {
+    let mut file = match File::open(rt, name) {
+        Ok(file) => file,
+        Err(error) => return eprintln!(rt; "{name}: {error}"),
+    };
+    println!(rt; "{name}:")?;
+    let count = case_count(&mut file)?;
+    let c = all_cases(&mut file, count)?;
+    line(rt, c, 0, words)?;
     show(
+        rt,
         c,
         b"\x00\x14 with ample buffers\n\x00\x1C with buffers that just fit\n\x00\x1C with a text one byte short\n\x00\x1C with a list one byte short\n\x00\x21 with a workspace one byte short\n\x00\x37 with text and list as lent, a workspace of the figure\n\x00\x1E and with one byte less of it\n\x00\x09 refused\n\x00\x09 unknown\n\x00\x08 differ\n",
-    );
+    )?;
     if 0 < c.n[10] {
-        line(c, 11, b" is the first case that differs\n");
+        line(rt, c, 11, b" is the first case that differs\n")?;
     }
+    Ok(())
 }
 
-fn main() {
-    replay(b"formats.vec", b" formattings\n");
-    replay(b"sentences.vec", b" formattings\n");
-    replay(b"sheets.vec", b" sheets\n");
+fn main(rt: HostRuntime) -> io::Result<()> {
+    replay(&rt, "formats.vec", b" formattings\n")?;
+    replay(&rt, "sentences.vec", b" formattings\n")?;
+    replay(&rt, "sheets.vec", b" sheets\n")?;
     replay(
-        b"figures.vec",
+        &rt,
+        "figures.vec",
         b" formattings and sheets by their figures\n",
-    );
+    )?;
     replay(
-        b"nesting.vec",
+        &rt,
+        "nesting.vec",
         b" formattings and sheets by their isolation marks\n",
-    );
+    )?;
     replay(
-        b"arguments.vec",
+        &rt,
+        "arguments.vec",
         b" formattings and sheets by the order of their arguments\n",
-    );
+    )?;
     replay(
-        b"fractions.vec",
+        &rt,
+        "fractions.vec",
         b" formattings and sheets by their fraction digits\n",
-    );
+    )?;
     let c = counted(no_counts(), 0, limit::limit());
-    line(c, 0, b" differ at the longest arguments image\n");
+    line(&rt, c, 0, b" differ at the longest arguments image\n")?;
     let d = sheet_limit::limits(no_counts());
-    line(d, 0, b" sheets too long for a vector, ");
-    line(d, 10, b" differ\n");
+    line(&rt, d, 0, b" sheets too long for a vector, ")?;
+    line(&rt, d, 10, b" differ\n")
 }

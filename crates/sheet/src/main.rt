@@ -5,45 +5,49 @@
 mod embedded;
 
 use bundle::Answer;
-use libc::STDOUT_FILENO;
 use resolver::format::Answer as Formatted;
+use std::io;
+use std::io::Write;
 
-fn print(s: &[u8]) {
-    io::write_all(STDOUT_FILENO, s);
+fn print(rt: &impl Print, s: &[u8]) -> io::Result<()> {
+    io::writer(rt).write_all(s)
+}
+
+// Room for a store, a text, a list or a workspace.
+fn buffer() -> [u8; 4096] {
+    [0; 4096]
 }
 
 // Says that an operation was refused.
-fn refused(number: u8) {
-    print(b"refusal ");
-    io::print_decimal(STDOUT_FILENO, number as u64);
-    print(b"\n");
+fn refused(rt: &impl Print, number: u8) -> io::Result<()> {
+    println!(rt; "refusal {number}")
 }
 
 // Prints a text, which ends at a position, and ends its line.
-fn print_text(text: &[u8], end: usize) {
+fn print_text(rt: &impl Print, text: &[u8], end: usize) -> io::Result<()> {
     if text.len() < end {
-        return;
+        return Ok(());
     }
     let zero = 0usize;
-    print(&text[zero..end]);
-    print(b"\n");
+    print(rt, &text[zero..end])?;
+    print(rt, b"\n")
 }
 
 // Formats the sheet of the sighting in one call, and prints it.
-fn print_sheet(store: &[u8]) {
-    let mut text = io::buffer();
-    let mut list = io::buffer();
-    let mut work = io::buffer();
+fn print_sheet(rt: &impl Print, store: &[u8]) -> io::Result<()> {
+    let mut text = buffer();
+    let mut list = buffer();
+    let mut work = buffer();
     match sheet_format::format_sheet(store, &embedded::SHEET, &mut text, &mut list, &mut work) {
-        Formatted::Finished(f) => print_text(&text, f.text),
-        Formatted::Refused(n) => refused(n),
-        Formatted::Cleared(n) => refused(n),
+        Formatted::Finished(f) => print_text(rt, &text, f.text),
+        Formatted::Refused(n) => refused(rt, n),
+        Formatted::Cleared(n) => refused(rt, n),
     }
 }
 
 // NUMBER, and the sentences of a language, in a new bundle.
 fn fill(store: &mut [u8], image: &[u8]) -> Answer {
-    let mut list = io::buffer();
+    let mut list = buffer();
     match bundle::add_function(store, b"NUMBER", 1) {
         Answer::Refused(n) => Answer::Refused(n),
         Answer::Done(_) => bundle::add_resource(store, image, &mut list),
@@ -59,20 +63,20 @@ fn make(store: &mut [u8], locale: u8, image: &[u8]) -> Answer {
 }
 
 // Prints the sheet of a language.
-fn print_language(locale: u8, image: &[u8]) {
-    let mut store = io::buffer();
+fn print_language(rt: &impl Print, locale: u8, image: &[u8]) -> io::Result<()> {
+    let mut store = buffer();
     match make(&mut store, locale, image) {
-        Answer::Done(_) => print_sheet(&store),
-        Answer::Refused(n) => refused(n),
+        Answer::Done(_) => print_sheet(rt, &store),
+        Answer::Refused(n) => refused(rt, n),
     }
 }
 
-fn main() {
-    print_language(0, &embedded::EN);
-    print(b"\n");
-    print_language(1, &embedded::DA);
-    print(b"\n");
-    print_language(2, &embedded::RU);
-    print(b"\n");
-    print_language(3, &embedded::CY);
+fn main(rt: HostRuntime) -> io::Result<()> {
+    print_language(&rt, 0, &embedded::EN)?;
+    print(&rt, b"\n")?;
+    print_language(&rt, 1, &embedded::DA)?;
+    print(&rt, b"\n")?;
+    print_language(&rt, 2, &embedded::RU)?;
+    print(&rt, b"\n")?;
+    print_language(&rt, 3, &embedded::CY)
 }

@@ -1,6 +1,6 @@
 -- One count that is raised or read, or none.
 -- Assumes nothing.
-use Rattle.std.proofs.Common.{◌≡◌, ℕ, ◌+◌, ◌%◌, ◌^◌, ◌<◌, ◌≤◌, ltb, List, get_or, set, refl, ap, le-ltb, lt-ltb}
+use Rattle.std.proofs.Common.{◌≡◌, ℕ, ◌+◌, ◌%◌, ◌^◌, ◌<◌, ◌≤◌, get_or, set, refl, ap, le-ltb, lt-ltb}
 use Rattle.vectors.specs.Lendings.{counted_at, counted_if, count_at, count_if}
 use Rattle.vectors.specs.declared.files.Counts.{Counts}
 

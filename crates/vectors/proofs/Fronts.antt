@@ -1,6 +1,6 @@
 -- Bytes put at the front of others.
 -- Assumes nothing.
-use Rattle.std.proofs.Common.{◌≡◌, ℕ, ◌+◌, ◌<◌, ◌≤◌, List, ◌++◌, length, drop, refl, ◌∙◌, arith, take_all, le-leb}
+use Rattle.std.proofs.Common.{◌≡◌, ℕ, ◌+◌, ◌<◌, ◌≤◌, List, length, refl, ◌∙◌, arith, take_all, le-leb}
 use lib.Seq.{paste}
 use borrow.Author.Tests.{lt-leb}
 use Rattle.vectors.specs.Lendings.{front_if, fronted}

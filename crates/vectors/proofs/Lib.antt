@@ -3,3 +3,4 @@ pub mod Clamp
 pub mod Same
 pub mod Fronts
 pub mod Counting
+pub mod Rests

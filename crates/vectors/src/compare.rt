@@ -50,16 +50,16 @@ fn put_front(d: &mut [u8], front: &[u8])
 
 // Bytes to lend, AA in each. Lending them as a slice needs their length, here and below.
 pub fn lent() -> [u8; 8192]
-    ensures value { 8192 ≡ length result }
-    ensures value_2 { result ≡ lent_bytes }
+    ensures size { 8192 ≡ length result }
+    ensures bytes { result ≡ lent_bytes }
 {
     [0xAA; 8192]
 }
 
 // The same, with some bytes at the front, if there is room.
 pub fn copied(front: &[u8]) -> [u8; 8192]
-    ensures value { 8192 ≡ length result }
-    ensures value_2 { result ≡ fronted lent_bytes front.now }
+    ensures size { 8192 ≡ length result }
+    ensures bytes { result ≡ fronted lent_bytes front.now }
 {
     let mut r = lent();
     put_front(&mut r, front);
@@ -67,16 +67,16 @@ pub fn copied(front: &[u8]) -> [u8; 8192]
 }
 
 fn all_letters() -> [u8; 65537]
-    ensures value { 65537 ≡ length result }
-    ensures value_2 { result ≡ letters }
+    ensures size { 65537 ≡ length result }
+    ensures bytes { result ≡ letters }
 {
     [120; 65537]
 }
 
 // A text that is too long for a vector: a byte more than the longest image, the letter x in each, with some bytes at the front.
 pub fn headed(head: &[u8]) -> [u8; 65537]
-    ensures value { 65537 ≡ length result }
-    ensures value_2 { result ≡ fronted letters head.now }
+    ensures size { 65537 ≡ length result }
+    ensures bytes { result ≡ fronted letters head.now }
 {
     let mut r = all_letters();
     put_front(&mut r, head);

@@ -1,5 +1,5 @@
 -- `plural_table::make_table` meets its contract: as far as it has come, each byte is that of the printed table.
-use Prim.Native.Nat.{◌-◌, ◌<◌, ℕ}
+use Prim.Native.Nat.{◌<◌, ℕ}
 use Rattle.plural.proofs.Table.{table_right}
 use Rattle.plural_table.proofs.Filled.{filled_all, filled_more}
 use lib.ListN.{length-replicate}
