@@ -28,6 +28,12 @@ pub fn whole_in_clauses(a: &mut [u8]) -> u8
     0
 }
 
+pub fn whole_by_pairs<'a>(a: &'a mut [u8], b: &mut u8) -> u8
+    ensures { Fine result a.exit.now × (b.new ≡ b.old) }
+{
+    0
+}
+
 pub fn whole_in_parts(a: &mut Pair) -> Pair
     ensures { (result.first ≡ 0) × (a.new.first ≡ 0) }
 {
@@ -174,6 +180,7 @@ fn main() {
     whole(0);
     planted::whole(0);
     planted::whole_in_clauses(0);
+    planted::whole_by_pairs(0);
     planted::whole_in_parts(0);
     planted::silent();
     asking(1);
