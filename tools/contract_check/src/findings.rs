@@ -88,8 +88,8 @@ fn wanting(f: &Function, scope: &Scope, specs: &Specs) -> Vec<String> {
         found.push("its `ensures` does not tell the result".to_string());
     }
     // what a lent parameter holds in the end: `p.new`, or as the second of a pair
-    let told = |p: &str| [".new", ".exit.now"].map(|end| tells(&clauses, &format!("{p}{end}")));
-    let untold = |p: &&String| !told(p).contains(&true);
+    let ends = |p: &str| [".new", ".exit.now"].map(|end| tells(&clauses, &format!("{p}{end}")));
+    let untold = |p: &&String| !ends(p).contains(&true);
     for parameter in f.lent.iter().filter(untold) {
         found.push(format!(
             "its `ensures` does not tell what `{parameter}` holds in the end"
