@@ -1,6 +1,6 @@
 /* Weszlagyo: a Fluent resolver whose every operation is proved.
  *
- * `rt staticlib exports` proves these functions and writes
+ * `tools/archive` proves these functions and writes
  * target/staticlib/libexports.a; link that. It needs nothing but memcpy and
  * memset of the C library, allocates nothing, keeps no pointer, and has no
  * state: calls on different slices may run at the same time.

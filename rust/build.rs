@@ -1,6 +1,6 @@
-//! Links the proved operations: `libexports.a`, which `rt staticlib exports`
-//! writes to `target/staticlib` at the top of the repository. Another folder
-//! can be named by `WESZLAGYO_LIB`.
+//! Links the proved operations: `libexports.a`, which `tools/archive` writes to
+//! `target/staticlib` at the top of the repository. Another folder can be named
+//! by `WESZLAGYO_LIB`.
 
 use std::env;
 use std::path::PathBuf;
@@ -16,7 +16,7 @@ fn main() {
     println!("cargo:rerun-if-changed={}", archive.display());
     if !archive.is_file() {
         println!(
-            "cargo:error={} is missing: run `rt staticlib exports` at the top of the repository",
+            "cargo:error={} is missing: run `tools/archive` at the top of the repository",
             archive.display()
         );
         return;

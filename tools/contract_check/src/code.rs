@@ -174,11 +174,11 @@ impl Function {
             let range = inside(text, open);
             let clause = between
                 .split_whitespace()
-                .find(|w| ["requires", "ensures", "decreases", "variant"].contains(w));
+                .map(|w| w.trim_end_matches('*'))
+                .find(|w| ["requires", "ensures"].contains(w));
             match clause {
                 Some("requires") => self.requires += 1,
-                Some("ensures") => self.ensures.push(text[range.clone()].to_string()),
-                Some(_) => {}
+                Some(_) => self.ensures.push(text[range.clone()].to_string()),
                 None => return Some(()),
             }
             from = range.end + 1;

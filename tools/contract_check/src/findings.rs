@@ -2,7 +2,7 @@
 
 use crate::code::{read_crate, Code, File, Function};
 use crate::specs::{Scope, Specs};
-use crate::text::{even, groups, split, unwrapped, words};
+use crate::text::{even, groups, names, split, unwrapped, words};
 use std::collections::{BTreeMap, BTreeSet};
 use std::path::Path;
 
@@ -21,38 +21,22 @@ pub struct Report {
 /// The names of the crates, by crates.txt.
 fn crates(root: &Path) -> Vec<String> {
     let text = std::fs::read_to_string(root.join("crates.txt")).unwrap_or_default();
+    // a static library has that word behind its name
     let lines = text.lines().filter_map(|l| {
-        l.split('#')
-            .next()?
-            .split_once(':')
-            .map(|(n, _)| n.trim().to_string())
+        let (name, _) = l.split('#').next()?.split_once(':')?;
+        name.split_whitespace().next().map(str::to_string)
     });
-    lines.filter(|n| !n.is_empty()).collect()
+    lines.collect()
 }
 
 /// The ghost names of a file of code.
 fn scope_of(file: &File) -> Scope {
     let mut scope = Scope::default();
     file.text
-        .lines()
-        .filter(|l| l.starts_with("ghost use "))
-        .for_each(|l| scope.take(l));
+        .split(';')
+        .filter_map(|item| item.rfind("ghost use ").map(|i| &item[i..]))
+        .for_each(|item| scope.take(&even(item)));
     scope
-}
-
-/// An `ensures` as the name of the result and what is said.
-fn clause(text: &str) -> (String, String) {
-    let text = even(text);
-    let body = text
-        .split_once('⌜')
-        .map_or("", |(_, b)| b)
-        .rsplit_once('⌝')
-        .map_or("", |(b, _)| b);
-    let name = text
-        .split_once('λ')
-        .and_then(|(_, t)| t.split_once('.'))
-        .map_or("", |(n, _)| n.trim());
-    (name.to_string(), body.trim().to_string())
 }
 
 /// The parts of what is said that tell more than a bound.
@@ -67,23 +51,11 @@ fn told(body: &str) -> Vec<&str> {
         .collect()
 }
 
-/// Is the result told, and not its length alone?
-fn tells_result(clauses: &[(String, String)]) -> bool {
-    clauses.iter().any(|(name, body)| {
-        told(body)
-            .iter()
-            .any(|p| words(&p.replace(&format!("length {name}"), "")).contains(&name.as_str()))
-    })
-}
-
-/// Is told what a lent parameter holds in the end, and not its length alone?
-fn tells_exit(clauses: &[(String, String)], parameter: &str) -> bool {
-    let exit = format!("now ({parameter} .exit)");
-    clauses.iter().any(|(_, body)| {
-        told(body)
-            .iter()
-            .any(|p| p.replace(&format!("length ({exit})"), "").contains(&exit))
-    })
+/// Is a value told, and not its length alone?
+fn tells(clauses: &[String], path: &str) -> bool {
+    clauses
+        .iter()
+        .any(|body| told(body).iter().any(|part| names(part, path)))
 }
 
 /// Has a text an arrow behind anything but a choice of numbers, bytes or flags? `(n : ℕ) → …` asks nothing: it says the rest of every n.
@@ -101,7 +73,7 @@ fn has_premise(body: &str) -> bool {
 
 fn wanting(f: &Function, scope: &Scope, specs: &Specs) -> Vec<String> {
     let mut found = Vec::new();
-    let clauses: Vec<(String, String)> = f.ensures.iter().map(|e| clause(e)).collect();
+    let clauses: Vec<String> = f.ensures.iter().map(|e| even(e)).collect();
     if f.requires > 0 {
         found.push("it has a `requires`".to_string());
     }
@@ -109,19 +81,22 @@ fn wanting(f: &Function, scope: &Scope, specs: &Specs) -> Vec<String> {
         found.push("it has no `ensures`".to_string());
         return found;
     }
-    if clauses.iter().any(|(_, body)| has_premise(body)) {
+    if clauses.iter().any(|body| has_premise(body)) {
         found.push("its `ensures` is an implication".to_string());
     }
-    if f.result && !tells_result(&clauses) {
+    if f.result && !tells(&clauses, "result") {
         found.push("its `ensures` does not tell the result".to_string());
     }
-    for parameter in f.lent.iter().filter(|p| !tells_exit(&clauses, p)) {
+    // what a lent parameter holds in the end: `p.new`, or as the second of a pair
+    let ends = |p: &str| [".new", ".exit.now"].map(|end| tells(&clauses, &format!("{p}{end}")));
+    let untold = |p: &&String| !ends(p).contains(&true);
+    for parameter in f.lent.iter().filter(untold) {
         found.push(format!(
             "its `ensures` does not tell what `{parameter}` holds in the end"
         ));
     }
     let mut seen = BTreeSet::new();
-    let named: BTreeSet<&str> = clauses.iter().flat_map(|(_, body)| words(body)).collect();
+    let named: BTreeSet<&str> = clauses.iter().flat_map(|body| words(body)).collect();
     for word in named {
         let hidden = specs
             .resolve(scope, word)

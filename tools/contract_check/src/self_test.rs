@@ -1,4 +1,4 @@
-//! The check's own test: in a temporary copy of the crates, two more crates with planted faults. Each must be found, and nothing else in them.
+//! The check's own test: in a temporary copy of the crates, three more crates with planted faults. Each must be found, and nothing else in them.
 
 use crate::findings::check;
 use crate::judged;
@@ -11,11 +11,31 @@ pub mod open;
 mod shut;
 
 pub use shut::handed_on;
-ghost use Rattle·planted·specs.specs.Planted.{Hidden, Deep, Cased, Fine, double};
-ghost use Rattle·planted·specs.specs.Planted as planted;
+ghost use Rattle.planted.specs.Planted.{Hidden, Deep, Cased, Fine,
+    Hidden as Veiled, double};
+ghost use Rattle.planted.specs.Planted as planted;
 
 pub fn whole(a: &mut [u8]) -> u8
-    ensures { λ r. ⌜ Fine r (now (a .exit)) ⌝ }
+    ensures { Fine result a.new }
+{
+    0
+}
+
+pub fn whole_in_clauses(a: &mut [u8]) -> u8
+    ensures value { result ≡ double 0 }
+    ensures a_after { a.new ≡ a.old }
+{
+    0
+}
+
+pub fn whole_by_pairs<'a>(a: &'a mut [u8], b: &mut u8) -> u8
+    ensures { Fine result a.exit.now × (b.new ≡ b.old) }
+{
+    0
+}
+
+pub fn whole_in_parts(a: &mut Pair) -> Pair
+    ensures { (result.first ≡ 0) × (a.new.first ≡ 0) }
 {
     0
 }
@@ -25,68 +45,89 @@ pub fn silent() -> u8 {
 }
 
 pub fn asking(n: u8) -> u8
-    requires { ⌜ n < 5 ⌝ }
-    ensures { λ r. ⌜ r ≡ double n ⌝ }
+    requires { n < 5 }
+    ensures { result ≡ double n }
+{
+    n
+}
+
+pub fn asking_by_name(n: u8) -> u8
+    ensures value { result ≡ double n }
+    requires* low { n < 5 }
 {
     n
 }
 
 pub fn implying(n: u8) -> u8
-    ensures { λ r. ⌜ n ≡ 0 → r ≡ 0 ⌝ }
+    ensures { n ≡ 0 → result ≡ 0 }
+{
+    n
+}
+
+pub fn implying_by_name(n: u8) -> u8
+    ensures value { result ≡ double n }
+    ensures zero { n ≡ 0 → result ≡ 0 }
 {
     n
 }
 
 pub fn for_each(n: u8) -> u8
-    ensures { λ r. ⌜ ((k : ℕ) (l : List ℕ) → r ≡ double n) ⌝ }
+    ensures { (k : ℕ) (l : List ℕ) → result ≡ double n }
 {
     n
 }
 
 pub fn for_some(n: u8) -> u8
-    ensures { λ r. ⌜ ((k : ℕ) (h : n ≡ k) → r ≡ double n) ⌝ }
+    ensures { (k : ℕ) (h : n ≡ k) → result ≡ double n }
 {
     n
 }
 
 pub fn resultless(a: &mut [u8]) -> u8
-    ensures { λ _. ⌜ now (a .exit) ≡ now (a .entry) ⌝ }
+    ensures { a.new ≡ a.old }
 {
     0
 }
 
 pub fn bounded(n: u8) -> u8
-    ensures { λ r. ⌜ (r < 5) × (2 ≡ length r) ⌝ }
+    ensures { (result < 5) × (2 ≡ length result) × (3 ≡ length (result.items)) }
 {
     n
 }
 
 pub fn exitless<'a>(a: &'a mut [u8], b: &mut u8) -> u8
-    ensures { λ r. ⌜ r ≡ double (now (b .exit)) ⌝ }
+    ensures value { result ≡ double b.new }
+    ensures a_length { length a.new ≡ length a.old }
 {
     0
 }
 
 pub fn hiding(n: u8) -> u8
-    ensures { λ r. ⌜ Hidden n r ⌝ }
+    ensures { Hidden n result }
+{
+    n
+}
+
+pub fn hiding_by_name(n: u8) -> u8
+    ensures value { Veiled n result }
 {
     n
 }
 
 pub fn hiding_deep(n: u8) -> u8
-    ensures { λ r. ⌜ planted.Deep n r ⌝ }
+    ensures { planted.Deep n result }
 {
     n
 }
 
 pub fn hiding_in_a_case(n: u8) -> u8
-    ensures { λ r. ⌜ Cased n r ⌝ }
+    ensures { Cased n result }
 {
     n
 }
 
 pub fn uncalled(n: u8) -> u8
-    ensures { λ r. ⌜ r ≡ double n ⌝ }
+    ensures { result ≡ double n }
 {
     n // uncalled(n)
 }
@@ -105,7 +146,7 @@ const OPEN: &str = "pub fn silent() -> [u8; 2] {\n    [0; 2]\n}\n";
 const SHUT: &str = "pub fn handed_on() -> u8 {\n    0\n}\n\npub fn kept() -> u8 {\n    0\n}\n";
 
 const SPECS: &str = "-- Relations with and without a hidden implication.
-use Rattle·records.specs.Got.{got}
+use Rattle.records.specs.Got.{got}
 
 unfoldable pub double : ℕ → ℕ
 double n = n + n
@@ -138,15 +179,21 @@ use planted::bounded as held;
 fn main() {
     whole(0);
     planted::whole(0);
+    planted::whole_in_clauses(0);
+    planted::whole_by_pairs(0);
+    planted::whole_in_parts(0);
     planted::silent();
     asking(1);
+    planted::asking_by_name(1);
     planted::implying(1);
+    planted::implying_by_name(1);
     planted::for_each(1);
     planted::for_some(1);
     planted::resultless(1);
     held(1);
     planted::exitless(1);
     planted::hiding(1);
+    planted::hiding_by_name(1);
     planted::hiding_deep(1);
     planted::hiding_in_a_case(1);
     open::silent();
@@ -155,10 +202,30 @@ fn main() {
 }
 ";
 
-const EXPECTED: [(&str, &str); 13] = [
+const EXPORTS: &str = "ghost use Rattle.planted.specs.Planted.{double};
+
+#[unsafe(no_mangle)]
+pub extern \"C\" fn planted_whole(n: u8) -> u8
+    ensures { result ≡ double n }
+{
+    planted::whole_in_clauses(n)
+}
+
+#[unsafe(no_mangle)]
+pub extern \"C\" fn planted_silent(n: u8) -> u8 {
+    n
+}
+";
+
+const EXPECTED: [(&str, &str); 17] = [
     ("planted::silent", "it has no `ensures`"),
     ("planted::asking", "it has a `requires`"),
+    ("planted::asking_by_name", "it has a `requires`"),
     ("planted::implying", "its `ensures` is an implication"),
+    (
+        "planted::implying_by_name",
+        "its `ensures` is an implication",
+    ),
     ("planted::for_some", "its `ensures` is an implication"),
     (
         "planted::resultless",
@@ -174,6 +241,10 @@ const EXPECTED: [(&str, &str); 13] = [
         "`Hidden` in its `ensures` hides an implication",
     ),
     (
+        "planted::hiding_by_name",
+        "`Veiled` in its `ensures` hides an implication, in `Hidden`",
+    ),
+    (
         "planted::hiding_deep",
         "`planted.Deep` in its `ensures` hides an implication, in `Hidden`",
     ),
@@ -183,6 +254,7 @@ const EXPECTED: [(&str, &str); 13] = [
     ),
     ("planted::uncalled", "no other crate calls it"),
     ("planted::open::silent", "it has no `ensures`"),
+    ("planted_c::planted_silent", "it has no `ensures`"),
     ("planted::shut::handed_on", "it has no `ensures`"),
 ];
 
@@ -205,7 +277,7 @@ fn write(root: &Path, name: &str, text: &str) -> std::io::Result<()> {
     fs::write(path, text)
 }
 
-/// A copy of what the check reads, and the two crates more.
+/// A copy of what the check reads, and the three crates more.
 fn plant(root: &Path, to: &Path) -> std::io::Result<()> {
     for entry in fs::read_dir(root.join("crates"))?.flatten() {
         for part in ["src", "specs"] {
@@ -215,13 +287,14 @@ fn plant(root: &Path, to: &Path) -> std::io::Result<()> {
             }
         }
     }
-    let list =
-        fs::read_to_string(root.join("crates.txt"))? + "planted: records\nplanted_user: planted\n";
+    let list = fs::read_to_string(root.join("crates.txt"))?
+        + "planted: records\nplanted_c staticlib: planted\nplanted_user: planted\n";
     write(to, "crates.txt", &list)?;
     write(to, "crates/planted/src/lib.rt", LIBRARY)?;
     write(to, "crates/planted/src/open.rt", OPEN)?;
     write(to, "crates/planted/src/shut.rt", SHUT)?;
     write(to, "crates/planted/specs/Planted.antt", SPECS)?;
+    write(to, "crates/planted_c/src/lib.rt", EXPORTS)?;
     write(to, "crates/planted_user/src/main.rt", USER)
 }
 
@@ -230,7 +303,7 @@ fn compared(to: &Path) -> usize {
     let found: BTreeSet<(&str, &str)> = report
         .findings
         .iter()
-        .filter(|f| f.path.starts_with("planted::"))
+        .filter(|f| f.path.starts_with("planted"))
         .map(|f| (f.path.as_str(), f.what.as_str()))
         .collect();
     let expected: BTreeSet<(&str, &str)> = EXPECTED.into_iter().collect();

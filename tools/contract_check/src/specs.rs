@@ -31,10 +31,10 @@ pub struct Module {
     scope: Scope,
 }
 
-/// Names from other modules, each with its module's path; and the modules that have a name.
+/// Names from other modules, each with its module's path and the name that it has there; and the modules that have a name.
 #[derive(Default)]
 pub struct Scope {
-    names: BTreeMap<String, String>,
+    names: BTreeMap<String, (String, String)>,
     modules: BTreeMap<String, String>,
 }
 
@@ -100,7 +100,11 @@ impl Scope {
         };
         if let Some((module, names)) = path.split_once(".{") {
             for name in split(names.trim_end_matches('}'), ',') {
-                self.names.insert(name.to_string(), module.to_string());
+                let (there, here) = name.split_once(" as ").unwrap_or((name, name));
+                self.names.insert(
+                    here.trim().to_string(),
+                    (module.to_string(), there.trim().to_string()),
+                );
             }
         } else {
             let (module, name) = path
@@ -167,10 +171,9 @@ impl Specs {
         }
     }
 
-    /// The file of a module `Rattle·CRATE.specs.A.B`; inside its crate it is `Rattle·CRATE·specs.specs.A.B`.
+    /// The file of a module `Rattle.CRATE.specs.A.B`.
     fn file(&self, module: &str) -> Option<PathBuf> {
-        let (name, rest) = module.strip_prefix("Rattle·")?.split_once('.')?;
-        let name = name.split('·').next()?;
+        let (name, rest) = module.strip_prefix("Rattle.")?.split_once('.')?;
         Some(
             self.root
                 .join("crates")
@@ -202,7 +205,7 @@ impl Specs {
     pub fn resolve(&self, scope: &Scope, word: &str) -> Option<(String, String)> {
         let (module, name) = match word.rsplit_once('.') {
             Some((alias, name)) => (scope.modules.get(alias)?, name),
-            None => (scope.names.get(word)?, word),
+            None => scope.names.get(word).map(|(m, n)| (m, n.as_str()))?,
         };
         self.find(module, name)
     }
@@ -212,8 +215,8 @@ impl Specs {
         if module.relations.contains_key(name) {
             return Some((path.to_string(), name.to_string()));
         }
-        let next = module.scope.names.get(name).filter(|p| *p != path)?;
-        self.find(next, name)
+        let (next, there) = module.scope.names.get(name).filter(|(m, _)| m != path)?;
+        self.find(next, there)
     }
 
     fn within(&self, path: &str, word: &str) -> Option<(String, String)> {

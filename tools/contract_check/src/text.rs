@@ -64,6 +64,29 @@ pub fn words(text: &str) -> Vec<&str> {
         .collect()
 }
 
+/// A character of a name in a clause.
+fn in_name(c: char) -> bool {
+    c.is_alphanumeric() || c == '_' || c == '\''
+}
+
+/// Where a path such as `x.new` stands in a text, by itself or with projections behind it.
+fn stands<'a>(text: &'a str, path: &'a str) -> impl Iterator<Item = usize> + 'a {
+    text.match_indices(path).map(|(i, _)| i).filter(move |&i| {
+        !text[..i].ends_with(|c| in_name(c) || c == '.')
+            && !text[i + path.len()..].starts_with(in_name)
+    })
+}
+
+/// Does a text name the value of a path, and not its length alone?
+pub fn names(text: &str, path: &str) -> bool {
+    let found = stands(text, path).any(|i| {
+        let before = text[..i].trim_end_matches(|c: char| c == '(' || c.is_whitespace());
+        let length = before.strip_suffix("length");
+        !length.is_some_and(|b| !b.ends_with(|c| in_name(c) || c == '.'))
+    });
+    found
+}
+
 /// One space between any two words, and none at a bracket's inner side.
 pub fn even(text: &str) -> String {
     let joined = text.split_whitespace().collect::<Vec<_>>().join(" ");
