@@ -1,10 +1,9 @@
 -- Laws of the shortest decimal.
 use mathlib.Core.Path.{◌≡◌, refl, ap, sym, ◌∙◌}
 use mathlib.Core.Bool.{Bool, true, false, ◌&&◌}
-use Prim.Native.Nat.{ℕ, zero, suc, ◌+◌, ◌-◌, ◌*◌, ◌/◌, ◌%◌, ◌^◌, ◌≤◌, ◌<◌}
-use native.Mathlib.Numerals.{add-one}
+use Prim.Native.Nat.{ℕ, zero, suc, ◌-◌, ◌*◌, ◌/◌, ◌%◌, ◌^◌, ◌≤◌, ◌<◌}
 use native.Mathlib.Omega.{arith}
-use native.Mathlib.Nat.{pow-succ', div-div-eq-div-mul, div-one, mul-one, mul_assoc, mul_left_comm, mul_comm, mul_right_comm, mul-mul-mul_comm, eq_of_mul-eq-mul_right, one-le-pow, one-le-mul}
+use native.Mathlib.Nat.{pow-succ', div-div-eq-div-mul, div-one, mul-one, mul_assoc, mul_left_comm, mul_comm, mul-mul-mul_comm, eq_of_mul-eq-mul_right, one-le-pow, one-le-mul}
 use lib.Dec.{eqb}
 use borrow.Author.Tests.{eqb-true, eqb-false, eq-eqb, ne_eqb}
 use Rattle.decimals.specs.Decimal.{shortest}

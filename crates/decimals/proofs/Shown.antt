@@ -1,13 +1,12 @@
 -- The code's options and those of the definitions, to and fro.
-use mathlib.Core.Path.{◌≡◌, refl, ap, sym, ◌∙◌}
+use mathlib.Core.Path.{◌≡◌, refl}
 use mathlib.Core.Bool.{Bool, true, false}
 use mathlib.Core.Option.{Option, none, some}
-use mathlib.Core.List.{List}
 use Prim.Native.Nat.{ℕ}
 use Rattle.decimals.specs.declared.types.Count.{Count}
 use Rattle.decimals.specs.declared.types.Count.TheVariants.{Unset, Set}
 use Rattle.decimals.specs.declared.types.Options as CodeOptions
-use Rattle.decimals.specs.Decimal.{Options, Number}
+use Rattle.decimals.specs.Decimal.{Number}
 use Rattle.decimals.specs.Text.{number_text}
 use Rattle.decimals.specs.Relations.Shown.{shown_count, told_count, shown_text, told_text, shown_options, told_options, shown, told}
 

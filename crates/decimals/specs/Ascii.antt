@@ -1,6 +1,6 @@
 -- Text as bytes.
 use Rattle.std.specs.Prelude.{List, [], ◌∷◌, ℕ}
-use Prim.Native.Char.{Char, code}
+use Prim.Native.Char.{code}
 use Prim.Native.String as string
 use Prim.Native.String.{String}
 

@@ -1,5 +1,5 @@
 -- What an id has in a list of items: document 01, "bundle.rs, entry.rs, message.rs, resource.rs"; the Rust's hash map of entries.
-use Rattle.std.specs.Prelude.{Bool, true, false, List, [], ◌∷◌, ℕ}
+use Rattle.std.specs.Prelude.{List, [], ◌∷◌, ℕ}
 use Rattle.std.proofs.Math.Option.{Option, some, none}
 use Rattle.decimals.specs.Bytes.{same_bytes}
 use Rattle.records.specs.Tree.{Pattern}

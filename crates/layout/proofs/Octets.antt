@@ -7,10 +7,10 @@ use native.Mathlib.Omega.{arith}
 use native.Mathlib.Nat.{mod-lt}
 use lib.ListN.{length}
 use lib.Dec.{ltb, eqb}
-use borrow.Author.Tests.{ltb-true, ltb-false, eqb-true, lt-ltb, le-ltb, le-leb, lt-leb, ne_eqb}
+use borrow.Author.Tests.{ltb-true, ltb-false, eqb-true, lt-ltb, le-leb, lt-leb, ne_eqb}
 use Rattle.records.specs.Bytes.{to_be}
 use Rattle.decimals.specs.Bytes.{run, choose, digit}
-use Rattle.rules.specs.Rules.{letter, id_step, is_id, utf8_first, utf8_low, utf8_high, utf8_rest, utf8_step, is_utf8, is_text, escape_step, is_string}
+use Rattle.rules.specs.Rules.{letter, id_step, is_id, utf8_low, utf8_high, utf8_step, is_utf8, is_text, escape_step, is_string}
 use Rattle.literals.specs.Literal.{number_step, is_number}
 use Rattle.decimals.proofs.Run.{run_stays}
 use Rattle.rules.proofs.WellFormed.{first_above, utf8_stays}

@@ -1,19 +1,18 @@
 -- Well-formed UTF-8, by table 3-7, is exactly the concatenation of encoded scalars.
-use mathlib.Core.Path.{◌≡◌, refl, ap, sym, subst, ◌∙◌}
-use mathlib.Core.Bool.{Bool, true, false}
+use mathlib.Core.Path.{◌≡◌, refl, ap, sym, ◌∙◌}
+use mathlib.Core.Bool.{true}
 use mathlib.Core.List.{List, [], ◌∷◌, ◌++◌}
 use mathlib.Core.Logic.{◌↔◌}
 use Prim.Native.Nat.{ℕ, zero, suc, ◌+◌, ◌-◌, ◌*◌, ◌/◌, ◌%◌, ◌≤◌, ◌<◌}
 use native.Mathlib.Omega.{arith}
 use lib.ListN.{length}
-use lib.Dec.{ltb, eqb}
-use borrow.Author.Tests.{ltb-true, ltb-false, eqb-true, eqb-false, lt-ltb, le-ltb, eq-eqb, ne_eqb}
-use Rattle.decimals.specs.Bytes.{run, choose}
-use Rattle.rules.specs.Rules.{utf8_first, utf8_low, utf8_high, utf8_rest, utf8_step, is_utf8}
+use borrow.Author.Tests.{eqb-true, lt-ltb, le-ltb, eq-eqb}
+use Rattle.decimals.specs.Bytes.{run}
+use Rattle.rules.specs.Rules.{utf8_first, utf8_step, is_utf8}
 use Rattle.records.specs.Encode.{enc_all}
 use Rattle.records.specs.Valid.{All}
 use Rattle.decimals.proofs.Run.{run_stays}
-use Rattle.rules.proofs.WellFormed.{first_1, first_2, first_3, first_4, first_above, first_between, ranged, in_range_law, Later, Table, table, run_first, utf8_stays}
+use Rattle.rules.proofs.WellFormed.{first_1, first_2, first_3, first_4, first_above, first_between, ranged, in_range_law, Later, table, run_first, utf8_stays}
 use Rattle.scalars.proofs.Utf8.{below, is, low, high, encode_1, encode_2, encode_3, encode_4, accept}
 use Rattle.scalars.specs.Scalars.{Scalar, enc_scalar}
 use Rattle.layout.specs.Utf8.{enc_scalars, Coded}

@@ -3,16 +3,16 @@ use mathlib.Core.Path.{◌≡◌, refl, ap, sym, ◌∙◌}
 use mathlib.Core.Bool.{Bool, true, false, ◌&&◌, ◌||◌}
 use mathlib.Core.Option.{Option, none, some}
 use mathlib.Core.List.{List, [], ◌∷◌}
-use Prim.Native.Nat.{ℕ, zero, suc, ◌+◌, ◌-◌, ◌*◌, ◌^◌, ◌≤◌, ◌<◌}
+use Prim.Native.Nat.{ℕ, suc, ◌+◌, ◌-◌, ◌*◌, ◌^◌, ◌≤◌, ◌<◌}
 use native.Mathlib.Numerals.{add-one}
 use native.Mathlib.Omega.{arith}
-use native.Mathlib.Nat.{pow-succ', pow-le-pow_right, mul-le-mul_right, mul-le-mul_left, mul_assoc, one-le-pow, mul-one}
+use native.Mathlib.Nat.{pow-succ', pow-le-pow_right, mul-le-mul_right, mul-le-mul_left, mul_assoc, one-le-pow}
 use lib.ListN.{length, drop, get_or, drop_of_length-le}
 use lib.Seq.{drop-cons}
-use lib.Dec.{eqb, ltb, leb}
+use lib.Dec.{eqb, ltb}
 use borrow.Author.Tests.{eqb-true, leb-true, ltb-true, ltb-false}
 use Rattle.decimals.specs.Bytes.{run, choose, digit}
-use Rattle.decimals.specs.Decimal.{Options, Number, or_zero, digits_limit}
+use Rattle.decimals.specs.Decimal.{or_zero, digits_limit}
 use Rattle.literals.specs.Literal.{number_step, digit_count, is_number, Read, one_more, read_sign, read_dot, read_digit, read_step, read_from, read_start, read_number, with_fraction, literal}
 use Rattle.decimals.proofs.Tests.{and_true, digit_bounds}
 use Rattle.decimals.proofs.Run.{run_stays}

@@ -1,6 +1,6 @@
 -- Laws of equality: reflexive, symmetric, transitive, -0 equals 0, and a literal key sees of a currency only whether it is set.
 use mathlib.Core.Path.{◌≡◌, refl, ap, sym, ◌∙◌}
-use mathlib.Core.Bool.{Bool, true, false, ◌&&◌, ◌||◌, not}
+use mathlib.Core.Bool.{Bool, true, false, ◌&&◌, ◌||◌}
 use mathlib.Core.Option.{Option, none, some}
 use mathlib.Core.List.{List, [], ◌∷◌}
 use Prim.Native.Nat.{ℕ, ◌*◌, ◌^◌, ◌<◌}
@@ -10,7 +10,7 @@ use lib.Dec.{eqb}
 use borrow.Author.Tests.{eqb-true, eqb-false, eq-eqb, ne_eqb}
 use Rattle.decimals.specs.Decimal.{Options, Number, kind_number, style_number, display_number}
 use Rattle.numbers.specs.Equal.{same_flag, same_count, same_text, same_words, same_counts, same_options, same_value, same_number}
-use Rattle.decimals.specs.Relations.Shown.{shown_count, told_count, shown_text, told_text, shown_options, told_options, shown, told}
+use Rattle.decimals.specs.Relations.Shown.{shown_text, told_text, shown, told}
 use Rattle.decimals.proofs.Same.{same_refl, same_eq, eq_same}
 use Rattle.decimals.proofs.Tests.{and_true}
 use Rattle.decimals.specs.Bytes.{same_bytes}

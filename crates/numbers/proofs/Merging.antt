@@ -12,8 +12,8 @@ use Rattle.decimals.specs.declared.types.Options as CodeOptions
 use Rattle.decimals.specs.Bytes.{same_bytes, choose}
 use Rattle.decimals.specs.Decimal.{Options, Number, fraction_limit}
 use Rattle.numbers.specs.Value.{Value, textual, numeric, nothing, wrong, to_count, too_long, merge_one, merge_text, merge_count, kind_of, style_of, display_of, false_word, type_name, style_name, currency_name, currency_display_name, use_grouping_name, with_kind, with_style, with_currency, with_currency_display, with_use_grouping, pick_options, with_minimum_integer_digits, with_minimum_fraction_digits, with_maximum_fraction_digits, with_minimum_significant_digits, with_maximum_significant_digits, minimum_integer_digits_name, minimum_fraction_digits_name, maximum_fraction_digits_name, minimum_significant_digits_name, maximum_significant_digits_name}
-use Rattle.decimals.specs.Relations.Shown.{shown_count, told_count, shown_text, told_text, shown_options, told_options, shown, told}
-use Rattle.numbers.specs.Relations.Shown.{count_named, set_count, set_words, pick_count}
+use Rattle.decimals.specs.Relations.Shown.{shown_count, shown_text, told_text, shown_options, told_options, shown, told}
+use Rattle.numbers.specs.Relations.Shown.{count_named, set_count, set_words}
 use Rattle.numbers.specs.Relations.Places.{place_from, text_names, count_names, merge_at}
 use Rattle.decimals.proofs.Same.{same_eq}
 use Rattle.decimals.proofs.Shown.{count_back, text_back, options_back}

@@ -1,6 +1,6 @@
 -- Values, and NUMBER with its merge of named options.
-use Rattle.std.specs.Prelude.{ℕ, ◌/◌, ◌^◌, List, [], ◌∷◌, Bool, true, false, ◌&&◌, not, ltb, eqb}
-use Rattle.std.proofs.Math.Option.{Option, none, some}
+use Rattle.std.specs.Prelude.{ℕ, ◌/◌, ◌^◌, List, [], ◌∷◌, Bool, true, false, ◌&&◌, not, ltb}
+use Rattle.std.proofs.Math.Option.{Option, some}
 use Rattle.decimals.specs.Ascii.{ascii}
 use Rattle.decimals.specs.Bytes.{same_bytes}
 use Rattle.decimals.specs.Decimal.{Options, Number, fraction_limit}

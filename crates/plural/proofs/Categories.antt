@@ -1,13 +1,13 @@
 -- Laws of plural operands and categories.
 use mathlib.Core.Path.{◌≡◌, refl, ap, sym, ◌∙◌}
 use mathlib.Core.Bool.{Bool, true, false, ◌&&◌, ◌||◌, not}
-use Prim.Native.Nat.{ℕ, zero, suc, ◌+◌, ◌-◌, ◌*◌, ◌/◌, ◌%◌, ◌^◌, max, ◌≤◌, ◌<◌}
+use Prim.Native.Nat.{ℕ, zero, suc, ◌+◌, ◌*◌, ◌/◌, ◌%◌, ◌^◌, max, ◌≤◌, ◌<◌}
 use native.Mathlib.Omega.{arith}
 use native.Mathlib.Nat.{pow-succ', mod-one, div-add-mod', mul_left_comm}
 use lib.Dec.{eqb, leb}
 use borrow.Author.Tests.{leb-true, eq-eqb, ne_eqb, eqb-true}
 use Rattle.plural.specs.declared.conditions.Seen as CodeSeen
-use Rattle.decimals.specs.Decimal.{Options, Number, shortest, or_zero}
+use Rattle.decimals.specs.Decimal.{Number, shortest, or_zero}
 use Rattle.plural.specs.Plural.{Operands, operands_of, operands, whole_operands, en_cardinal, da_cardinal, ru_whole, ru_cardinal, cy_whole, cy_cardinal, en_place, en_ordinal, cy_place, cy_ordinal, rule_of, category}
 use Rattle.decimals.specs.Bytes.{choose, within}
 use Rattle.decimals.specs.declared.types.Kind.{Kind}

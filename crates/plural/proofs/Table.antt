@@ -10,7 +10,7 @@ use lib.ListN.{length, get_or, length-map, get_or-map}
 use borrow.Author.Tests.{lt-leb, le-leb, ne_eqb, ltb-true, ltb-false}
 use Rattle.categories.specs.Held.{held, entry_of, held_digit}
 use Rattle.categories.proofs.Entries.{entry_low, entry_high, entry_bound, no_line}
-use Rattle.decimals.specs.Decimal.{Options, Number, kind_number}
+use Rattle.decimals.specs.Decimal.{Number, kind_number}
 use Rattle.decimals.specs.declared.types.Kind.{Kind}
 use Rattle.decimals.specs.declared.types.Kind.TheVariants.{Cardinal, Ordinal}
 use Rattle.plural.specs.Plural.{Operands, operands, whole_operands, en_cardinal, da_cardinal, ru_whole, ru_cardinal, cy_whole, cy_cardinal, en_place, en_ordinal, cy_place, cy_ordinal, rule_of, category}

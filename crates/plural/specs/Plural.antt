@@ -1,8 +1,8 @@
 -- Plural categories: 0 zero, 1 one, 2 two, 3 few, 4 many, 5 other.
-use Rattle.std.specs.Prelude.{ℕ, zero, suc, ◌/◌, ◌%◌, ◌^◌, max, List, Bool, true, false, ◌&&◌, ◌||◌, not, leb, eqb}
+use Rattle.std.specs.Prelude.{ℕ, zero, suc, ◌/◌, ◌%◌, ◌^◌, max, List, ◌&&◌, ◌||◌, not, leb, eqb}
 use Rattle.decimals.specs.Ascii.{ascii}
 use Rattle.decimals.specs.Bytes.{choose, within}
-use Rattle.decimals.specs.Decimal.{Options, Number, shortest, or_zero}
+use Rattle.decimals.specs.Decimal.{Number, shortest, or_zero}
 use Rattle.decimals.specs.declared.types.Kind.{Kind}
 use Rattle.decimals.specs.declared.types.Kind.TheVariants.{Cardinal, Ordinal}
 use Rattle.plural.specs.declared.types.Category.{Category}

@@ -1,10 +1,10 @@
 -- The table of plural categories by the written conditions, and the lines that are printed of it (document 02, Card 4).
 use Rattle.std.specs.Prelude.{ℕ, zero, suc, ◌+◌, ◌*◌, ◌%◌, ◌≤◌, ◌≡◌, List, [], ◌∷◌, ◌++◌, map, length}
 use Rattle.categories.specs.Held.{held, held_digit}
-use Rattle.decimals.specs.Decimal.{Options, Number, kind_number}
+use Rattle.decimals.specs.Decimal.{Number, kind_number}
 use Rattle.decimals.specs.declared.types.Kind.{Kind}
 use Rattle.decimals.specs.declared.types.Kind.TheVariants.{Cardinal, Ordinal}
-use Rattle.plural.specs.Plural.{Operands, operands, whole_operands, rule_of, category}
+use Rattle.plural.specs.Plural.{operands, whole_operands, rule_of, category}
 
 -- the categories of n whole numbers, from m on, by the written conditions of a rule set
 unfoldable pub categories_from : Kind → ℕ → ℕ → ℕ → List ℕ

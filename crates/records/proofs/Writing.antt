@@ -1,12 +1,12 @@
 -- Laws of writing numbers and bytes.
 use mathlib.Core.Path.{◌≡◌, refl, ap, sym, ◌∙◌}
-use mathlib.Core.List.{List, [], ◌∷◌, ◌++◌}
-use Prim.Native.Nat.{ℕ, zero, suc, ◌+◌, ◌-◌, ◌*◌, ◌/◌, ◌%◌, ◌^◌, ◌≤◌, ◌<◌}
+use mathlib.Core.List.{List}
+use Prim.Native.Nat.{ℕ, ◌+◌, ◌-◌, ◌*◌, ◌/◌, ◌%◌, ◌≤◌, ◌<◌}
 use native.Mathlib.Omega.{arith}
-use native.Mathlib.Numerals.{add-one, add-two}
+use native.Mathlib.Numerals.{add-two}
 use mathlib.Core.Bool.{Bool, true, false}
-use lib.ListN.{length, length-append, length-take, length-drop}
-use lib.Seq.{sets, paste, sets-eq, length-sets, take-length, length-take-le}
+use lib.ListN.{length}
+use lib.Seq.{sets, paste, sets-eq, length-sets, take-length}
 use lib.Dec.{leb}
 use borrow.Author.Tests.{le-leb, lt-leb, leb-true, leb-false}
 use Rattle.records.specs.Bytes.{be, to_be}

@@ -1,6 +1,6 @@
 -- What resolution does, in order: its effects, the state that it threads, and the actions that it is made of.
-use Rattle.std.specs.Prelude.{List, [], ◌∷◌, ◌++◌, Bool, true, false, ℕ, zero, suc, ◌+◌, length, ltb}
-use Rattle.std.proofs.Math.Option.{Option, none, some}
+use Rattle.std.specs.Prelude.{List, [], ◌∷◌, ◌++◌, Bool, true, false, ℕ, suc, ◌+◌, length, ltb}
+use Rattle.std.proofs.Math.Option.{Option}
 use Rattle.numbers.specs.Value.{Value}
 use Rattle.records.specs.Errors.{Error, too_many_placeables}
 

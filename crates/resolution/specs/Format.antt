@@ -1,5 +1,5 @@
 -- Formatting: document 01, "Format (message id, perhaps an attribute)" and "Success". From the lent slices to the answer and what they hold then.
-use Rattle.std.specs.Prelude.{List, [], ◌∷◌, ◌++◌, Bool, true, false, ◌&&◌, ℕ, ◌+◌, length, drop, replicate, leb}
+use Rattle.std.specs.Prelude.{List, [], ◌∷◌, Bool, true, false, ◌&&◌, ℕ, length, replicate, leb}
 use Rattle.std.proofs.Math.Option.{Option, none, some}
 use Rattle.numbers.specs.Number.{default_options}
 use Rattle.numbers.specs.Value.{Value, textual, numeric}
@@ -9,11 +9,11 @@ use Rattle.records.specs.Tree.{Pattern}
 use Rattle.records.specs.Images.{Entry, Store, Argument, store_of}
 use Rattle.order.specs.Accepted.{Judged, accepted, refused_for, judge}
 use Rattle.records.specs.Errors.{enc_errors, list_header}
-use Rattle.entries.specs.Lookup.{Holder, Find, find_in, part_of}
+use Rattle.entries.specs.Lookup.{Find, find_in, part_of}
 use Rattle.growth.specs.Items.{at_front}
 use Rattle.resolution.specs.Effect.{Bytes, State}
 use Rattle.resolution.specs.Resolve.{Setting, bytes_of, as_message, resolve}
-use Rattle.resolution.specs.Exec.{Machine, Limits, Ran, ran, refused, exec, start}
+use Rattle.resolution.specs.Exec.{Limits, Ran, ran, refused, exec, start}
 
 -- an argument as the Rust's FluentValue: "arguments have none" of the options
 unfoldable pub value_of : Argument → Value

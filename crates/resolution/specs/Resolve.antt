@@ -13,7 +13,7 @@ use Rattle.records.specs.Images.{Kind, Entry}
 use Rattle.records.specs.Errors.{Error, Referred, reference, no_value, missing_default, cyclic}
 use Rattle.entries.specs.Lookup.{Holder, Find, part_of}
 use Rattle.records.specs.Optional.{or_else}
-use Rattle.resolution.specs.Effect.{Bytes, Effect, report, unfound, merged, Locals, State, M, Done, ret, ◌>>=◌, ◌>>◌, emit, write, is_dirty, get_locals, set_locals, only_if, entered, capture, release}
+use Rattle.resolution.specs.Effect.{Bytes, report, unfound, merged, Locals, M, Done, ret, ◌>>=◌, ◌>>◌, emit, write, is_dirty, get_locals, set_locals, only_if, entered, capture, release}
 use Rattle.records.specs.Names.{first_named}
 
 -- what does not change while a message is formatted: locale, isolating Flag, arguments

@@ -1,9 +1,9 @@
 -- Actions one after the other, as equations; and what a writer leaves at the workspace's back: nothing.
-use mathlib.Core.Path.{◌≡◌, refl, ap, sym, subst, ◌∙◌, fun_ext}
+use mathlib.Core.Path.{◌≡◌, refl, ap, sym, ◌∙◌, fun_ext}
 use mathlib.Core.List.{List, [], ◌∷◌, ◌++◌, append_assoc}
-use mathlib.Core.Bool.{Bool, true, false, not, ◌&&◌}
+use mathlib.Core.Bool.{Bool, true, false, not}
 use mathlib.Core.Option.{Option, none, some}
-use Prim.Native.Nat.{ℕ, zero, suc, ◌+◌, ◌-◌, ◌≤◌, ◌<◌}
+use Prim.Native.Nat.{ℕ, zero, suc, ◌+◌}
 use native.Mathlib.Omega.{arith}
 use lib.Dec.{ltb}
 use Rattle.numbers.specs.Value.{Value, textual, numeric, nothing, wrong}
@@ -15,7 +15,6 @@ use Rattle.resolution.specs.Effect.{Bytes, Trace, unfound, Locals, State, Out, M
 use Rattle.resolution.specs.Resolve.{Setting, Trail, mark, cut_short, named_values, write_ref_error, look_for, look_up, as_term, as_message, track_if, track, on_part, message_found, term_found, write_message, Given, pushed, write_result, found_or, variable_in, get_variable, write_variable, write_pattern, write_elements, write_element, write_expression, write_nth, write_variant, write_inline, resolve_inline, get_arguments, resolve}
 use Rattle.records.specs.Names.{first_named}
 use Rattle.resolver.specs.Relations.Members.{positional_values}
-use Rattle.resolver.proofs.Single.Laws.{append_nil}
 
 abbrev out : {A : Type 0} → Trace → Bytes → ℕ → State → A → Out A
 out t x k s a = record { trace = t; text = x; kept = k; state = s; value = a }

@@ -1,10 +1,10 @@
 -- What an inline expression is, by the tag that the code read: one eliminator for each.
-use mathlib.Core.Path.{◌≡◌, refl, ap, sym, subst, ◌∙◌}
+use mathlib.Core.Path.{◌≡◌, sym, subst}
 use mathlib.Core.List.{List}
 use mathlib.Core.Option.{Option}
-use Prim.Native.Nat.{ℕ, ◌+◌, ◌-◌, ◌≤◌, ◌<◌}
+use Prim.Native.Nat.{ℕ, ◌-◌, ◌<◌}
 use native.Mathlib.Omega.{arith}
-use Rattle.records.specs.Got.{Got, got, bad}
+use Rattle.records.specs.Got.{got, bad}
 use Rattle.records.specs.Bytes.{byte_at, str_at}
 use Rattle.records.specs.Tree.{Expression, Inline, Inlines, Named, Arguments, variable, function, message, term, nested}
 use Rattle.records.specs.Decode.{id_at, optional_at, string_at, literal_number_at, arguments_at, term_arguments_at, expression, inline}

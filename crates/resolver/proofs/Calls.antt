@@ -1,16 +1,14 @@
 -- The arguments of a call, positional and named; and the call itself.
 use mathlib.Core.Path.{◌≡◌, refl, ap, sym, subst, ◌∙◌}
-use mathlib.Core.List.{List, [], ◌∷◌, ◌++◌}
+use mathlib.Core.List.{List, [], ◌∷◌}
 use mathlib.Core.Bool.{Bool, true, false}
 use mathlib.Core.Option.{Option, none, some}
-use Prim.Native.Nat.{ℕ, zero, suc, ◌+◌, ◌-◌, ◌≤◌, ◌<◌}
+use Prim.Native.Nat.{ℕ, zero, suc, ◌-◌, ◌≤◌, ◌<◌}
 use native.Mathlib.Omega.{arith}
-use Rattle.numbers.specs.Number.{Number}
-use Rattle.numbers.specs.Value.{Value, textual, numeric, nothing, wrong, number_function}
-use Rattle.decimals.specs.declared.types.Number as CodeNumber
+use Rattle.numbers.specs.Value.{Value, number_function}
 use Rattle.records.specs.declared.Next.{Next}
 use Rattle.records.specs.declared.Next.TheVariants as next
-use Rattle.records.specs.Got.{Got, got, bad}
+use Rattle.records.specs.Got.{got, bad}
 use Rattle.records.specs.Bytes.{part, number_at, span_at}
 use Rattle.records.specs.Tree.{Named, Inline, Inlines, no_inline, and}
 use Rattle.records.specs.Decode.{many, id_at, named_at, inlines_at, arguments_at, inline}
@@ -20,9 +18,9 @@ use Rattle.entries.specs.Lookup.{Holder, find_in}
 use Rattle.entries.specs.Relations.Meets.{HolderAt}
 use Rattle.entries.specs.declared.Found.{Found}
 use Rattle.entries.specs.declared.Found.TheVariants as found
-use Rattle.resolution.specs.Effect.{Bytes, unfound, State, Out, M, Done, ret, ◌>>=◌, ◌>>◌, emit, release}
+use Rattle.resolution.specs.Effect.{Bytes, unfound, State, M, ret, ◌>>=◌, ◌>>◌, emit, release}
 use Rattle.resolution.specs.Exec.{Machine, Limits}
-use Rattle.resolution.specs.Resolve.{Trail, named_values, Given, merges_of, call, call_function, look_up, resolve_inline, get_arguments}
+use Rattle.resolution.specs.Resolve.{Trail, named_values, Given, call, call_function, resolve_inline, get_arguments}
 use Rattle.state.specs.Progress.{Progress}
 use Rattle.values.specs.declared.Value as CodeValue
 use Rattle.values.specs.declared.Value.TheVariants as val
@@ -30,7 +28,7 @@ use Rattle.resolver.specs.Relations.Meets.{World, world, Live, Ended, ended, sto
 use Rattle.resolver.specs.Relations.Leaves.{FirstIs, first_none, first_number, first_other, ResultIs, has_result, is_no_function, NamedAt, NumberAt}
 use Rattle.resolver.specs.Relations.Members.{Here, ValueAt, positional_values, PositionalAt, CalledAt}
 use Rattle.state.specs.Setters.{back_s}
-use Rattle.resolver.proofs.Single.Laws.{Stays, stays, here_stays, kept_same, kept_then, runs_ret, runs_then, ended_then}
+use Rattle.resolver.proofs.Single.Laws.{stays, here_stays, kept_same, kept_then, runs_ret, runs_then, ended_then}
 use Rattle.resolver.proofs.Single.Steps.{runs_as}
 use Rattle.resolver.proofs.Single.Release.{release_back, release_over, runs_stopped}
 use Rattle.resolver.proofs.Binds.{look_found, look_lost, given, arguments_then}

@@ -2,30 +2,28 @@
 use mathlib.Core.Path.{◌≡◌, refl, ap, sym, subst, ◌∙◌}
 use mathlib.Core.List.{List, [], ◌∷◌, ◌++◌}
 use mathlib.Core.Bool.{Bool, true, false, ◌&&◌, not, true≢false}
-use mathlib.Core.Option.{Option, none, some}
 use Prim.Native.Nat.{ℕ, zero, suc, ◌+◌, ◌-◌, ◌≤◌, ◌<◌}
 use native.Mathlib.Omega.{arith}
-use lib.ListN.{length}
 use lib.Dec.{ltb}
 use borrow.Author.Tests.{lt-ltb, le-ltb}
 use Rattle.records.specs.declared.Next.{Next}
 use Rattle.records.specs.declared.Next.TheVariants as next
-use Rattle.records.specs.Got.{Got, got, bad, Parser}
-use Rattle.records.specs.Bytes.{part, byte_at, number_at, str_at}
-use Rattle.records.specs.Tree.{Pattern, pattern, Elements, no_more, more, Element, Expression}
-use Rattle.records.specs.Decode.{many, text_read_at, element_at, elements_at, pattern_at, expression}
+use Rattle.records.specs.Got.{got, bad, Parser}
+use Rattle.records.specs.Bytes.{byte_at, number_at, str_at}
+use Rattle.records.specs.Tree.{Pattern, Elements, no_more, more, Element, Expression}
+use Rattle.records.specs.Decode.{element_at, elements_at, expression}
 use Rattle.records.specs.Images.{Store, store_of}
 use Rattle.records.specs.Errors.{too_many_placeables}
 use Rattle.records.proofs.Views.{both, never, many_cons, many_nil, element_elim, pattern_elim, text_str}
-use Rattle.resolution.specs.Effect.{Bytes, Effect, report, begin, expand, State, Out, M, Done, ret, ◌>>=◌, ◌>>◌, emit, write, is_dirty, max_placeables, enter_if, enter, only_if, entered}
-use Rattle.resolution.specs.Exec.{Machine, Limits, Ran, ran, refused, exec, and_then, step}
-use Rattle.resolution.specs.Resolve.{Trail, braced, bare, fsi, pdi, mark, cut_short, error_of, several_of, write_pattern, write_elements, write_element, write_expression}
+use Rattle.resolution.specs.Effect.{Bytes, Effect, report, begin, expand, State, Out, M, Done, ◌>>=◌, ◌>>◌, emit, write, max_placeables, enter_if, enter, only_if, entered}
+use Rattle.resolution.specs.Exec.{Machine, Limits, ran, exec, and_then, step}
+use Rattle.resolution.specs.Resolve.{braced, bare, fsi, pdi, mark, cut_short, error_of, several_of, write_pattern, write_elements, write_element, write_expression}
 use Rattle.state.specs.Progress.{Progress}
-use Rattle.resolver.specs.Relations.Meets.{World, world, Live, LocalsStay, locals_same, locals_cleared, Moved, Ended, ended, stopped, Runs, Kept, Acts, trail_of, Env, Setup, setting_of, find_of, cross_of}
+use Rattle.resolver.specs.Relations.Meets.{World, world, Live, LocalsStay, locals_same, locals_cleared, Moved, Ended, ended, stopped, Runs, Kept, Acts, trail_of, Env, setting_of, find_of, cross_of}
 use Rattle.resolver.specs.Relations.Leaves.{TooMany, CutAt}
 use Rattle.resolver.specs.Relations.Members.{Here, PatternAt, ElementsAt, ElementAt, ExpressionAt}
 use Rattle.state.specs.Setters.{begun_s}
-use Rattle.resolver.proofs.Single.Laws.{Stays, stays, here_stays, kept_same, kept_then, exec_append, runs_ret, runs_then, runs_dirty, ended_then, ended_none, moved_none, stay_same}
+use Rattle.resolver.proofs.Single.Laws.{Stays, here_stays, kept_same, kept_then, runs_ret, runs_then, runs_dirty, ended_then, ended_none, moved_none}
 use Rattle.resolver.proofs.Single.Locals.{locals_alike}
 use Rattle.resolver.proofs.Single.Steps.{runs_as, runs_over}
 

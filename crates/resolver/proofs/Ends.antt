@@ -1,12 +1,10 @@
 -- The ways in which a formatting returns.
 use mathlib.Core.Path.{◌≡◌, refl, ap, sym, subst, ◌∙◌}
-use mathlib.Core.List.{List, [], ◌∷◌, ◌++◌}
-use mathlib.Core.Bool.{Bool, true, false}
-use mathlib.Core.Option.{Option, none, some}
-use Prim.Native.Nat.{ℕ, ◌+◌, ◌-◌, ◌≤◌, ◌<◌, min}
+use mathlib.Core.List.{List}
+use mathlib.Core.Option.{Option}
+use Prim.Native.Nat.{ℕ, ◌≤◌, ◌<◌, min}
 use native.Mathlib.Omega.{arith}
-use lib.ListN.{length, take, drop, replicate}
-use lib.Dec.{leb}
+use lib.ListN.{length}
 use borrow.Author.Tests.{le-leb, lt-leb}
 use Rattle.records.specs.Got.{got}
 use Rattle.records.specs.Tree.{Pattern}
@@ -16,11 +14,10 @@ use Rattle.order.specs.Accepted.{accepted, judge}
 use Rattle.arguments.specs.Relations.Checked.{refusal_of}
 use Rattle.arguments.specs.Relations.Places.{Noted}
 use Rattle.arguments.proofs.Judging.{judged_refused}
-use Rattle.records.specs.Errors.{enc_errors, list_header}
-use Rattle.growth.specs.Items.{at_front}
+use Rattle.records.specs.Errors.{list_header}
 use Rattle.resolution.specs.Effect.{Bytes}
-use Rattle.resolution.specs.Exec.{Machine, Ran, ran, refused, start}
-use Rattle.resolution.specs.Format.{Answer, finished, refused_before, refused_running, Buffers, Formatted, zeros, refuse, or_refuse, ended, format_with, format_arguments, format, limits_of, run_pattern, values_of}
+use Rattle.resolution.specs.Exec.{Ran, start}
+use Rattle.resolution.specs.Format.{Answer, finished, refused_before, refused_running, Buffers, Formatted, refuse, or_refuse, ended, format_with, format_arguments, format, limits_of, run_pattern}
 use Rattle.layout.specs.Exact.{Octets}
 use Rattle.theorems.specs.HighestUse.{highest_use}
 use Rattle.theorems.specs.Figures.{FigureIs}

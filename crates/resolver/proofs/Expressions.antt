@@ -1,11 +1,10 @@
 -- An expression: a select, or an inline one.
-use mathlib.Core.Path.{◌≡◌, refl, ap, sym, subst, ◌∙◌}
-use mathlib.Core.List.{List}
-use Prim.Native.Nat.{ℕ, zero, suc, ◌+◌, ◌-◌, ◌≤◌, ◌<◌}
+use mathlib.Core.Path.{◌≡◌, ap, sym, subst, ◌∙◌}
+use Prim.Native.Nat.{ℕ, ◌-◌}
 use native.Mathlib.Omega.{arith}
-use Rattle.records.specs.Got.{Got, got, bad}
+use Rattle.records.specs.Got.{got, bad}
 use Rattle.records.specs.Bytes.{byte_at}
-use Rattle.records.specs.Tree.{Expression, Inline}
+use Rattle.records.specs.Tree.{Expression}
 use Rattle.records.specs.Decode.{select_at, expression, inline}
 use Rattle.records.proofs.Views.{both, never, expression_elim}
 use Rattle.resolution.specs.Resolve.{write_expression}

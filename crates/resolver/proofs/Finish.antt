@@ -1,7 +1,7 @@
 -- What the buffers hold in the end.
 use mathlib.Core.Path.{◌≡◌, refl, ap, sym, subst, ◌∙◌}
 use mathlib.Core.Bool.{false}
-use mathlib.Core.List.{List, [], ◌∷◌, ◌++◌}
+use mathlib.Core.List.{List, ◌++◌}
 use Prim.Native.Nat.{ℕ, ◌+◌, ◌-◌, ◌≤◌, ◌<◌, ◌%◌, min}
 use native.Mathlib.Omega.{arith}
 use native.Mathlib.Nat.{mod-eq_of_lt}
@@ -18,15 +18,14 @@ use Rattle.buffers.proofs.Place.{drop_over}
 use Rattle.texts.proofs.Recording.{headed_done, headed_errors}
 use Rattle.growth.specs.Items.{at_front}
 use Rattle.resolution.specs.Effect.{Bytes}
-use Rattle.resolution.specs.Exec.{Machine, Ran, ran, refused}
-use Rattle.resolution.specs.Format.{Answer, finished, refused_running, Buffers, Formatted, zeros, ended}
+use Rattle.resolution.specs.Exec.{Ran}
+use Rattle.resolution.specs.Format.{Answer, finished, refused_running, Formatted, zeros, ended}
 use Rattle.state.specs.Progress.{Progress}
 use Rattle.state.specs.Setters.{max_unfound}
 use Rattle.resolver.proofs.Single.Puts.{errors_length}
-use Rattle.resolver.specs.declared.format.Answer as CodeAnswer
 use Rattle.resolver.specs.declared.format.Answer.TheVariants as ans
 use Rattle.resolver.specs.Formats.{answer_of, gave}
-use Rattle.resolver.specs.Relations.Runs.{stopped, stopped_of, Rests, Grown, RanAs, ran_as, refused_as, closed_if, closed}
+use Rattle.resolver.specs.Relations.Runs.{stopped, stopped_of, RanAs, ran_as, refused_as, closed_if, closed}
 use Rattle.resolver.proofs.Whole.{buffers}
 
 header_size : (n : ℕ) → length (header n) ≡ 5

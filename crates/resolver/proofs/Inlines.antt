@@ -1,35 +1,33 @@
 -- An inline expression, written: one step for each tag.
 use mathlib.Core.Path.{◌≡◌, refl, ap, sym, subst, ◌∙◌}
-use mathlib.Core.List.{List, [], ◌∷◌, ◌++◌}
-use mathlib.Core.Bool.{Bool, true, false}
-use mathlib.Core.Option.{Option, none, some}
-use Prim.Native.Nat.{ℕ, zero, suc, ◌+◌, ◌-◌, ◌≤◌, ◌<◌}
+use mathlib.Core.List.{List}
+use mathlib.Core.Bool.{Bool, true}
+use Prim.Native.Nat.{ℕ, suc, ◌-◌, ◌≤◌}
 use native.Mathlib.Omega.{arith}
-use lib.ListN.{length, take, drop, length-drop}
+use lib.ListN.{length, drop, length-drop}
 use lib.Seq.{length-take-le}
-use Rattle.numbers.specs.Number.{Number, is_number, literal, in_range}
+use Rattle.numbers.specs.Number.{is_number, literal}
 use Rattle.numbers.specs.Value.{Value, numeric, value_text}
 use Rattle.decimals.specs.Relations.Shown.{shown}
 use Rattle.unescape.specs.Unescape.{unescape}
 use Rattle.records.specs.declared.Num.{Num}
 use Rattle.records.specs.declared.Num.TheVariants as num
-use Rattle.records.specs.Got.{Got, got, bad}
+use Rattle.records.specs.Got.{got, bad}
 use Rattle.records.specs.Relations.Answer.{num_of}
 use Rattle.records.specs.Bytes.{part, byte_at, span_at, str_at}
-use Rattle.records.specs.Tree.{Expression, Inline, Inlines, Named, variable, function, message, term, nested}
-use Rattle.records.specs.Decode.{id_at, literal_number_at, arguments_at, expression, inline}
+use Rattle.records.specs.Tree.{Inline, variable, term}
+use Rattle.records.specs.Decode.{id_at, literal_number_at, inline}
 use Rattle.records.proofs.Laws.{str_in}
 use Rattle.records.proofs.Views.{both, never, str_is, ruled_elim, id_str, string_str, number_str, inline_elim}
-use Rattle.resolution.specs.Effect.{Bytes, State, M, Done, ret, ◌>>=◌, write, release}
-use Rattle.resolution.specs.Exec.{Limits, Machine}
-use Rattle.resolution.specs.Resolve.{Trail, get_variable, write_variable, call_function, write_result, write_inline, get_arguments}
+use Rattle.resolution.specs.Effect.{Bytes, ◌>>=◌, write, release}
+use Rattle.resolution.specs.Resolve.{Trail, call_function, write_result, write_inline, get_arguments}
 use Rattle.values.specs.declared.Value as CodeValue
 use Rattle.values.specs.declared.Value.TheVariants as val
-use Rattle.resolver.specs.Relations.Meets.{World, Live, Runs, Kept, Acts, Holds, a_number, Env, Setup, setting_of, find_of, cross_of}
+use Rattle.resolver.specs.Relations.Meets.{World, Runs, Kept, Acts, Holds, a_number, Env, Setup, setting_of, find_of, cross_of}
 use Rattle.resolver.specs.Relations.Leaves.{ResultAt, VariableAt}
-use Rattle.resolver.specs.Relations.Members.{Here, ExpressionAt, InlineAt, MessageAt, TermAt, CalledAt}
+use Rattle.resolver.specs.Relations.Members.{ExpressionAt, InlineAt, MessageAt, TermAt, CalledAt}
 use Rattle.resolver.proofs.Single.Laws.{kept_same, kept_then, ended_then}
-use Rattle.resolver.proofs.Single.Steps.{runs_as, runs_over}
+use Rattle.resolver.proofs.Single.Steps.{runs_over}
 use Rattle.variants.proofs.Literals.{id_short}
 use Rattle.literals.proofs.Ranged.{literal_ranged}
 use Rattle.resolver.proofs.Bodies.{string_body, number_body, message_body, term_body, variable_body, nested_body, str_body, function_body, no_body}

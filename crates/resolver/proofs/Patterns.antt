@@ -1,6 +1,6 @@
 -- The ways in which the pattern that is asked for is found, or refused.
 use mathlib.Core.Path.{◌≡◌, refl, ap, sym, subst, ◌∙◌}
-use mathlib.Core.Bool.{true, false, ◌&&◌}
+use mathlib.Core.Bool.{true, false}
 use mathlib.Core.Option.{Option, none, some}
 use Prim.Native.Nat.{ℕ}
 use native.Mathlib.Omega.{arith}
@@ -20,7 +20,7 @@ use Rattle.entries.proofs.Located.{holder_at}
 use Rattle.entries.proofs.Parts.{part_at_place}
 use Rattle.resolution.specs.Effect.{Bytes}
 use Rattle.resolution.specs.Resolve.{as_message, message_only}
-use Rattle.resolution.specs.Format.{Buffers, refuse, or_refuse, is_id_or_none, format_part, format_entry, format_store, format}
+use Rattle.resolution.specs.Format.{Buffers, or_refuse, is_id_or_none, format_part, format_entry, format_store, format}
 use Rattle.resolver.specs.declared.format.Part as CodePart
 use Rattle.resolver.specs.declared.format.Part.TheVariants as PartAnswer
 use Rattle.resolver.specs.Relations.Runs.{part_answer, message_at, message_in, MessageFound, no_message, no_such_part, pattern_found, PatternFound, refuses, finds}

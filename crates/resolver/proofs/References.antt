@@ -1,37 +1,37 @@
 -- References to messages and terms: what holds the Id, the part that is named, and what stands for what is missing.
-use mathlib.Core.Path.{◌≡◌, refl, ap, sym, subst, ◌∙◌}
-use mathlib.Core.List.{List, [], ◌∷◌, ◌++◌}
-use mathlib.Core.Bool.{Bool, true, false}
+use mathlib.Core.Path.{◌≡◌, refl, ap, subst, ◌∙◌}
+use mathlib.Core.List.{List, ◌∷◌}
+use mathlib.Core.Bool.{true, false}
 use mathlib.Core.Option.{Option, none, some}
-use Prim.Native.Nat.{ℕ, zero, suc, ◌+◌, ◌-◌, ◌≤◌, ◌<◌, min}
+use Prim.Native.Nat.{ℕ, ◌+◌, ◌-◌, ◌≤◌}
 use native.Mathlib.Omega.{arith}
-use lib.ListN.{length, take, drop, length-take}
+use lib.ListN.{length, drop, length-take}
 use Rattle.records.specs.declared.Next.{Next}
 use Rattle.records.specs.declared.Next.TheVariants as next
-use Rattle.records.specs.Got.{Got, got, bad}
-use Rattle.records.specs.Bytes.{part, byte_at, number_at, span_at}
+use Rattle.records.specs.Got.{got}
+use Rattle.records.specs.Bytes.{part, number_at, span_at}
 use Rattle.records.specs.Tree.{Pattern, Inline, Arguments}
-use Rattle.records.specs.Decode.{id_at, optional_at, term_reference_at, term_arguments_at, entry_pattern_at, expression, inline}
+use Rattle.records.specs.Decode.{id_at, optional_at, term_arguments_at, entry_pattern_at, expression, inline}
 use Rattle.records.specs.Images.{Kind, Entry, Store, store_of, entry_at}
 use Rattle.records.specs.Errors.{Error, Referred, reference, no_value}
 use Rattle.records.proofs.Laws.{after_elim, number_inv, byte_inv}
-use Rattle.records.proofs.Views.{both, never, id_elim, term_elim, Body, a_string, a_number, is_function, is_message, is_term, is_variable, is_nested, inline_elim}
+use Rattle.records.proofs.Views.{id_elim, term_elim, Body, a_string, a_number, is_function, is_message, is_term, is_variable, is_nested, inline_elim}
 use Rattle.records.specs.Optional.{option_of}
 use Rattle.texts.specs.Relations.Report.{referred_of}
 use Rattle.texts.specs.declared.errors.Referred.TheVariants as referred
-use Rattle.entries.specs.Lookup.{Holder, Find, find_in, part_of}
+use Rattle.entries.specs.Lookup.{Holder, find_in, part_of}
 use Rattle.entries.specs.Relations.Meets.{HolderAt, is_message_at, term_at, is_function_at, nothing_at, PartAt, part_at, no_part}
 use Rattle.entries.specs.declared.Found.{Found}
 use Rattle.entries.specs.declared.Found.TheVariants as found
-use Rattle.resolution.specs.Effect.{Bytes, report, unfound, M, Done, emit, write, ◌>>=◌, ◌>>◌}
-use Rattle.resolution.specs.Resolve.{Trail, dotted, error_text, braced, write_ref_error, look_up, message_only, term_only, as_message, as_term, track, on_part, missing_piece, message_found, term_found, write_message}
+use Rattle.resolution.specs.Effect.{Bytes, report, unfound, M, Done, emit}
+use Rattle.resolution.specs.Resolve.{Trail, dotted, error_text, write_ref_error, message_only, term_only, as_message, as_term, on_part, missing_piece, message_found, term_found, write_message}
 use Rattle.state.specs.Progress.{Progress}
 use Rattle.state.specs.declared.Reference.{Reference}
 use Rattle.state.specs.declared.Referring.{Referring}
 use Rattle.state.specs.declared.Reference.TheVariants as ref
-use Rattle.resolver.specs.Relations.Meets.{World, world, Runs, Kept, Acts, Env, Setup, setting_of, find_of, cross_of}
+use Rattle.resolver.specs.Relations.Meets.{World, world, Runs, Kept, Acts, Env, Setup, find_of, cross_of}
 use Rattle.resolver.specs.Relations.Leaves.{ErrorAt, RefErrorAt, ReferenceIs, reads, unread}
-use Rattle.resolver.specs.Relations.Members.{Here, TrackAt, MessageAt, FoundTermAt}
+use Rattle.resolver.specs.Relations.Members.{TrackAt, MessageAt, FoundTermAt}
 use Rattle.resolver.proofs.Single.Laws.{kept_same, kept_then, runs_then}
 use Rattle.resolver.proofs.Single.Steps.{runs_as, runs_over}
 use Rattle.resolver.proofs.Binds.{look_found, look_lost}

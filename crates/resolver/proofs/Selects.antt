@@ -1,21 +1,20 @@
 -- A select: its selector's text is freed, then the variant that was chosen is written, or MissingDefault is listed.
 use mathlib.Core.Path.{◌≡◌, refl, ap, sym, subst, ◌∙◌}
-use mathlib.Core.List.{List}
 use mathlib.Core.Option.{Option, none, some}
-use Prim.Native.Nat.{ℕ, zero, suc, ◌+◌, ◌-◌, ◌≤◌, ◌<◌}
+use Prim.Native.Nat.{ℕ, zero, suc}
 use native.Mathlib.Omega.{arith}
 use Rattle.numbers.specs.Value.{Value}
 use Rattle.records.specs.declared.Next.{Next}
 use Rattle.records.specs.declared.Next.TheVariants as next
-use Rattle.records.specs.Got.{Got, got, bad}
+use Rattle.records.specs.Got.{got}
 use Rattle.records.specs.Bytes.{number_at}
-use Rattle.records.specs.Tree.{Pattern, Expression, Inline, Variants, no_variant, or, variant, select}
-use Rattle.records.specs.Decode.{many, variant_at, pattern_at, select_at, expression, inline}
+use Rattle.records.specs.Tree.{Pattern, Expression, Inline, Variants, no_variant, or, variant}
+use Rattle.records.specs.Decode.{pattern_at, expression, inline}
 use Rattle.records.specs.Images.{Store, store_of}
 use Rattle.records.specs.Errors.{missing_default}
-use Rattle.records.proofs.Views.{both, never, select_elim}
+use Rattle.records.proofs.Views.{select_elim}
 use Rattle.entries.specs.Lookup.{Find}
-use Rattle.resolution.specs.Effect.{report, M, Done, ret, ◌>>=◌, emit, release}
+use Rattle.resolution.specs.Effect.{report, M, Done, emit, release}
 use Rattle.resolution.specs.Resolve.{Setting, Trail, chosen, write_pattern, write_expression, write_nth, write_variant, resolve_inline}
 use Rattle.state.specs.Progress.{Progress}
 use Rattle.values.specs.declared.Value as CodeValue

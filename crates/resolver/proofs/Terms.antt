@@ -1,33 +1,32 @@
 -- A term reference: its arguments are the local ones while it is written, and there are none after it.
 use mathlib.Core.Path.{◌≡◌, refl, ap, sym, subst, ◌∙◌}
-use mathlib.Core.List.{List, [], ◌∷◌, ◌++◌}
-use mathlib.Core.Bool.{Bool, true, false}
+use mathlib.Core.List.{List, [], ◌++◌}
 use mathlib.Core.Option.{Option, none, some}
-use Prim.Native.Nat.{ℕ, zero, suc, ◌+◌, ◌-◌, ◌≤◌, ◌<◌}
+use Prim.Native.Nat.{ℕ, suc, ◌+◌, ◌-◌, ◌≤◌}
 use native.Mathlib.Omega.{arith}
 use lib.ListN.{length}
 use Rattle.numbers.specs.Value.{Value}
-use Rattle.records.specs.Got.{Got, got, bad}
-use Rattle.records.specs.Bytes.{part, byte_at, number_at}
+use Rattle.records.specs.Got.{got, bad}
+use Rattle.records.specs.Bytes.{byte_at, number_at}
 use Rattle.records.specs.Tree.{Named, Inline, Inlines, Pattern, Arguments, without, with_arguments}
-use Rattle.records.specs.Decode.{many, id_at, optional_at, named_at, arguments_at, term_arguments_at, inline}
+use Rattle.records.specs.Decode.{many, arguments_at, term_arguments_at, inline}
 use Rattle.records.proofs.Views.{both, never, term_arguments_elim}
 use Rattle.entries.specs.Lookup.{Find}
-use Rattle.resolution.specs.Effect.{Bytes, Trace, Locals, State, Out, M, Done, ret, ◌>>=◌, ◌>>◌, set_locals, release}
+use Rattle.resolution.specs.Effect.{Bytes, Trace, Locals, State, Out, M, Done, ◌>>=◌, ◌>>◌, set_locals, release}
 use Rattle.resolution.specs.Exec.{Machine, Limits}
-use Rattle.resolution.specs.Resolve.{Setting, Trail, look_up, as_term, term_found, write_term, Given, term_arguments, get_arguments, resolve}
+use Rattle.resolution.specs.Resolve.{Trail, look_up, as_term, term_found, write_term, term_arguments, get_arguments}
 use Rattle.state.specs.Progress.{Progress}
 use Rattle.values.specs.declared.Value as CodeValue
 use Rattle.state.specs.declared.Reference.{Reference}
 use Rattle.state.specs.declared.Referring.{Referring}
 use Rattle.state.specs.declared.Reference.TheVariants as ref
-use Rattle.resolver.specs.Relations.Meets.{World, world, Live, LocalsAt, no_locals, some_locals, NamedIn, named_none, named_texts, locals_cleared, Moved, Ended, ended, stopped, Runs, Kept, Env, Setup, setting_of, find_of, cross_of}
+use Rattle.resolver.specs.Relations.Meets.{World, world, Live, LocalsAt, no_locals, some_locals, named_none, named_texts, locals_cleared, Ended, ended, stopped, Runs, Kept, Env, Setup, setting_of, find_of, cross_of}
 use Rattle.resolver.specs.Relations.Leaves.{NamedAt, ReferenceIs}
 use Rattle.resolver.specs.Relations.Members.{Here, PositionalAt, FoundTermAt, TermAt}
 use Rattle.state.specs.Setters.{locals_s, clear_s, back_s}
 use Rattle.resolver.proofs.Single.Laws.{kept_same, kept_then, append_nil}
 use Rattle.resolver.proofs.Single.Steps.{runs_as, runs_over}
-use Rattle.resolver.proofs.Single.Release.{freed, ended_release, stopped_release, release_back, release_over}
+use Rattle.resolver.proofs.Single.Release.{ended_release, stopped_release, release_back, release_over}
 use Rattle.resolver.proofs.Binds.{ret_bind, bind_assoc, given, quiet_found_term, quiet_resolve}
 use Rattle.resolver.proofs.References.{term_read, reference_none, reference_is}
 use Rattle.resolver.proofs.Calls.{arguments_stopped, arguments_unnamed, arguments_runs, kept_named}

@@ -1,34 +1,33 @@
 -- `track`: a pattern that is being resolved already is Cyclic; any other is written under a longer trail.
 use mathlib.Core.Path.{◌≡◌, refl, ap, sym, subst, ◌∙◌}
-use mathlib.Core.List.{List, [], ◌∷◌, ◌++◌}
+use mathlib.Core.List.{List, ◌∷◌}
 use mathlib.Core.Bool.{Bool, true, false}
 use Prim.Native.Nat.{ℕ, zero, suc, ◌+◌, ◌-◌, ◌≤◌, ◌<◌}
 use native.Mathlib.Omega.{arith}
 use native.Mathlib.Numerals.{add-one}
 use lib.ListN.{length, get_or, set, length-set}
 use lib.Seq.{get_or-set_same, get_or-set_other}
-use Rattle.records.specs.Got.{Got, got, bad}
+use Rattle.records.specs.Got.{got}
 use Rattle.records.specs.Bytes.{part}
-use Rattle.records.specs.Tree.{Pattern, pattern, Inline}
-use Rattle.records.specs.Decode.{pattern_at, entry_pattern_at, max_depth, expression, inline}
-use Rattle.records.specs.Errors.{cyclic}
+use Rattle.records.specs.Tree.{Pattern}
+use Rattle.records.specs.Decode.{entry_pattern_at, max_depth, expression}
 use Rattle.records.proofs.Laws.{number_inv}
 use Rattle.records.proofs.Views.{pattern_elim}
 use Rattle.texts.specs.Relations.Report.{plain_of}
 use Rattle.texts.specs.declared.errors.Plain.TheVariants as plain
 use Rattle.entries.specs.Lookup.{Find}
 use Rattle.trail.proofs.Trail.{bytes_at_law}
-use Rattle.resolution.specs.Effect.{Bytes, report, State, Out, M, Done, emit, write, ◌>>◌}
+use Rattle.resolution.specs.Effect.{report, State, Out, M, Done, emit}
 use Rattle.resolution.specs.Exec.{Machine, Limits}
-use Rattle.resolution.specs.Resolve.{Setting, Trail, on_trail, bytes_of, braced, error_text, write_ref_error, track_if, track, write_pattern, resolve}
+use Rattle.resolution.specs.Resolve.{Setting, Trail, on_trail, bytes_of, error_text, write_ref_error, track_if, track, write_pattern, resolve}
 use Rattle.state.specs.Progress.{Progress}
-use Rattle.resolver.specs.Relations.Meets.{World, world, Live, LocalsStay, locals_same, locals_cleared, Moved, Ended, ended, stopped, Runs, Kept, Acts, trail_of, pattern_bytes, Env, Setup, setting_of, find_of, cross_of}
+use Rattle.resolver.specs.Relations.Meets.{World, world, Live, LocalsStay, locals_same, locals_cleared, Ended, ended, stopped, Acts, trail_of, pattern_bytes, Env, setting_of, find_of, cross_of}
 use Rattle.resolver.specs.Relations.Leaves.{ErrorAt}
 use Rattle.resolver.specs.Relations.Members.{Here, PatternAt, TrackAt}
 use Rattle.state.specs.Setters.{depth_s}
 use Rattle.resolver.proofs.Single.Laws.{kept_same, kept_then, runs_then}
 use Rattle.resolver.proofs.Single.Locals.{locals_alike}
-use Rattle.resolver.proofs.Single.Steps.{runs_as, runs_over}
+use Rattle.resolver.proofs.Single.Steps.{runs_over}
 
 -- the trail with one more
 trail_below : (s a : List ℕ) (d i x : ℕ) → i ≤ d → trail_of s (set a d x) i ≡ trail_of s a i

@@ -1,31 +1,30 @@
 -- The value of an inline expression: a literal, a variable, a call's result, or a text of its own.
 use mathlib.Core.Path.{◌≡◌, refl, ap, sym, subst, ◌∙◌}
-use mathlib.Core.List.{List, [], ◌∷◌, ◌++◌}
-use mathlib.Core.Bool.{Bool, true, false}
+use mathlib.Core.List.{List}
+use mathlib.Core.Bool.{Bool, true}
 use mathlib.Core.Option.{Option, none, some}
-use Prim.Native.Nat.{ℕ, zero, suc, ◌+◌, ◌-◌, ◌≤◌, ◌<◌, min}
+use Prim.Native.Nat.{ℕ, ◌-◌, ◌≤◌}
 use native.Mathlib.Omega.{arith}
-use lib.ListN.{length, take, drop, length-take, length-drop}
+use lib.ListN.{length, drop, length-drop}
 use lib.Seq.{length-take-le}
 use lib.Dec.{eqb}
-use Rattle.numbers.specs.Number.{Number, is_number, literal, in_range}
-use Rattle.numbers.specs.Value.{Value, textual, numeric, nothing, wrong}
+use Rattle.numbers.specs.Number.{is_number, literal}
+use Rattle.numbers.specs.Value.{Value, textual, numeric, wrong}
 use Rattle.decimals.specs.Relations.Shown.{shown}
-use Rattle.records.specs.Got.{Got, got, bad}
+use Rattle.records.specs.Got.{got, bad}
 use Rattle.records.specs.Bytes.{part, byte_at, str_at}
 use Rattle.records.specs.Tree.{Inline, variable}
 use Rattle.records.specs.Decode.{id_at, literal_number_at, inline}
 use Rattle.records.proofs.Views.{both, never, id_str, string_str, number_str, ruled_elim, inline_elim}
 use Rattle.buffers.specs.Relations.Append.{moved_back, Keeps}
-use Rattle.unescape.specs.Unescape.{unescape}
 use Rattle.buffers.proofs.Place.{moved_keeps}
-use Rattle.resolution.specs.Effect.{Bytes, State, Out, M, Done, ret, ◌>>=◌, ◌>>◌, capture, release}
+use Rattle.resolution.specs.Effect.{Bytes, State, M, ret, ◌>>=◌, capture, release}
 use Rattle.resolution.specs.Exec.{Machine, Limits}
-use Rattle.resolution.specs.Resolve.{Trail, held, string_value, get_variable, or_wrong, call_function, get_arguments, write_inline, resolve_inline, write_expression, write_message}
+use Rattle.resolution.specs.Resolve.{Trail, held, or_wrong, call_function, get_arguments, write_inline, resolve_inline}
 use Rattle.state.specs.Progress.{Progress}
 use Rattle.values.specs.declared.Value as CodeValue
 use Rattle.values.specs.declared.Value.TheVariants as val
-use Rattle.resolver.specs.Relations.Meets.{World, world, Live, Ended, Runs, Kept, Holds, in_store, in_args, in_work, a_number as holds-number, is_nothing, a_wrong, Env, Setup, setting_of, find_of, cross_of}
+use Rattle.resolver.specs.Relations.Meets.{World, world, Live, Ended, Runs, Kept, Holds, a_number as holds-number, a_wrong, Env, Setup, setting_of, find_of, cross_of}
 use Rattle.resolver.specs.Relations.Leaves.{ResultIs, has_result, is_no_function, StringAt, VariableValueAt}
 use Rattle.resolver.specs.Relations.Members.{Here, InlineAt, ValueAt, TextValueAt, CalledAt}
 use Rattle.resolver.specs.Relations.Parts.{TextKept}

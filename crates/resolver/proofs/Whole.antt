@@ -1,34 +1,31 @@
 -- The run of a pattern, from where text, list and counts stand.
 use mathlib.Core.Path.{◌≡◌, refl, ap, sym, subst, ◌∙◌}
 use mathlib.Core.List.{List, [], ◌∷◌}
-use mathlib.Core.Bool.{Bool, true, false}
-use mathlib.Core.Option.{Option, none, some}
-use Prim.Native.Nat.{ℕ, zero, suc, ◌+◌, ◌-◌, ◌≤◌, ◌<◌, min}
+use Prim.Native.Nat.{ℕ, ◌+◌, ◌-◌, ◌≤◌}
 use native.Mathlib.Omega.{arith}
-use lib.ListN.{length, take, drop, get_or}
+use lib.ListN.{length, get_or}
 use lib.Dec.{ltb}
 use Rattle.records.specs.Got.{got}
-use Rattle.records.specs.Bytes.{part, number_at}
-use Rattle.records.specs.Tree.{Pattern, pattern}
+use Rattle.records.specs.Bytes.{number_at}
+use Rattle.records.specs.Tree.{Pattern}
 use Rattle.records.specs.Decode.{expression, pattern_at, entry_pattern_at, max_depth}
 use Rattle.records.specs.Encode.{enc_all}
-use Rattle.records.specs.Errors.{enc_error}
 use Rattle.records.proofs.Views.{pattern_elim}
 use Rattle.records.proofs.Laws.{number_inv}
-use Rattle.resolution.specs.Effect.{Bytes, State, Out, Done}
-use Rattle.resolution.specs.Resolve.{Trail, bytes_of, resolve}
-use Rattle.resolution.specs.Exec.{Machine, Limits, Ran, ran, refused, exec, start}
+use Rattle.resolution.specs.Effect.{Out, Done}
+use Rattle.resolution.specs.Resolve.{bytes_of, resolve}
+use Rattle.resolution.specs.Exec.{Machine, ran, exec, start}
 use Rattle.resolution.specs.Format.{Buffers, limits_of, max_patterns, fresh}
 use Rattle.theorems.specs.Finished.{trace_of}
 use Rattle.theorems.proofs.Net.{inward, Netted, netted}
 use Rattle.theorems.proofs.Kept.{keeps_none}
 use Rattle.trail.specs.Relations.Trail.{prefixed, pattern_bytes, trail_of}
 use Rattle.state.specs.Progress.{Progress, scope_of, scoped_s}
-use Rattle.resolver.specs.Relations.Meets.{World, world, Live, LocalsAt, no_locals, Moved, Ended, ended, stopped, Env, env, Setup, setting_of, find_of, cross_of}
-use Rattle.resolver.specs.Relations.Members.{Here, PatternAt}
-use Rattle.state.specs.Setters.{depth_s, max_unfound, new_s}
+use Rattle.resolver.specs.Relations.Meets.{World, world, Live, no_locals, Ended, ended, stopped, Env, Setup, setting_of, find_of}
+use Rattle.resolver.specs.Relations.Members.{PatternAt}
+use Rattle.state.specs.Setters.{depth_s, new_s}
 use Rattle.resolver.proofs.Refusals.{refused_small}
-use Rattle.resolver.specs.Relations.Runs.{Rests, Grown, RanAs, ran_as, refused_as}
+use Rattle.resolver.specs.Relations.Runs.{Rests, RanAs, ran_as, refused_as}
 
 abbrev pub buffers : List ℕ → List ℕ → List ℕ → Buffers
 buffers x l w = record { text = x; list = l; work = w }

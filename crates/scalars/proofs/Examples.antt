@@ -1,6 +1,6 @@
 -- Worked examples of the definitions.
 use mathlib.Core.Path.{◌≡◌, refl}
-use mathlib.Core.List.{List, [], ◌∷◌, map}
+use mathlib.Core.List.{[], ◌∷◌, map}
 use Rattle.decimals.specs.Bytes.{digit}
 use Rattle.scalars.specs.Scalars.{hex_value}
 

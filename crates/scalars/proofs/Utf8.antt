@@ -9,7 +9,7 @@ use borrow.Author.Tests.{ltb-true, ltb-false, leb-true, eqb-true, eqb-false, lt-
 use Rattle.decimals.specs.Bytes.{run}
 use Rattle.decimals.proofs.Tests.{and_true}
 use Rattle.rules.specs.Rules.{utf8_first, utf8_step}
-use Rattle.rules.proofs.WellFormed.{first_1, first_2, first_3, first_4, Later, Table, table, run_first, run_later}
+use Rattle.rules.proofs.WellFormed.{first_1, first_2, first_3, first_4, table, run_first, run_later}
 use Rattle.scalars.specs.Scalars.{is_scalar, Scalar, enc_scalar}
 
 pub below : {Z : Type 0} (c n : ℕ) → (c < n → Z) → (n ≤ c → Z) → Z

@@ -5,7 +5,7 @@ use Rattle.records.specs.Images.{Store, store_of}
 use Rattle.records.specs.Errors.{list_header}
 use Rattle.resolution.specs.Effect.{Bytes}
 use Rattle.resolution.specs.Exec.{Machine, ran, refused, start}
-use Rattle.resolution.specs.Format.{finished, refused_running, Buffers, Formatted, limits_of, zeros, refuse}
+use Rattle.resolution.specs.Format.{finished, Buffers, limits_of, refuse}
 use Rattle.theorems.specs.Finished.{Running, Sized}
 use Rattle.requests.specs.Image.{Request, sheet_of}
 use Rattle.sheets.specs.Refused.{cleared}

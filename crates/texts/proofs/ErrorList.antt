@@ -7,10 +7,10 @@ use Prim.Native.Nat.{ℕ, zero, suc, ◌+◌, ◌-◌, ◌≤◌, ◌<◌}
 use native.Mathlib.Omega.{arith}
 use lib.ListN.{length, take, length-append}
 use lib.Seq.{take-length}
-use lib.Dec.{eqb, leb}
+use lib.Dec.{leb}
 use borrow.Author.Tests.{eq-eqb, ne_eqb, leb-true}
 use Rattle.records.specs.Got.{Got, got, bad, after, test, pick}
-use Rattle.records.specs.Bytes.{to_be, part, byte_at, bytes_at, span_at, str_at}
+use Rattle.records.specs.Bytes.{to_be, part, bytes_at, span_at, str_at}
 use Rattle.records.specs.Decode.{optional_at}
 use Rattle.records.specs.Encode.{enc_str, enc_optional, enc_kind, enc_all, enc_whole}
 use Rattle.records.specs.Images.{Kind, kind_at}
@@ -19,7 +19,7 @@ use Rattle.records.specs.Valid.{All}
 use Rattle.records.proofs.Laws.{bytes_in}
 use Rattle.layout.specs.Exact.{Stands, Octets}
 use Rattle.layout.proofs.Stands.{append_nil, length_part, stands_length, stands_of, stands_none, none_ends, bytes_are, join, split}
-use Rattle.layout.proofs.Steps.{nothing, after_elim, took, test_took, tag_took, last_took, byte_took, gives, tagged, ahead, number_exact, byte_complete, byte_ahead, ends}
+use Rattle.layout.proofs.Steps.{after_elim, took, test_took, tag_took, last_took, byte_took, gives, tagged, ahead, number_exact, byte_complete, byte_ahead, ends}
 use Rattle.texts.specs.Relations.Report.{header, headed}
 use Rattle.texts.specs.ErrorList.{referred_at, overriding_at, reference_at, no_value_at, plain_at, tagged_at, record_at, records_at, list_with, value_of, error_of, errors_of, Recordable, Listable, Brief}
 use Rattle.texts.proofs.Recording.{length_u16, length_u32, overriding_length, no_value_length, bare_length, attribute_length, headed_errors}

@@ -22,7 +22,7 @@ use Rattle.bundle.proofs.Accepted.{resource_accepted, resource_refused, function
 use Rattle.resolution.specs.Effect.{Bytes}
 use Rattle.resolution.specs.Resolve.{as_message}
 use Rattle.resolution.specs.Exec.{Machine, ran}
-use Rattle.resolution.specs.Format.{Answer, finished, Buffers, limits_of, ended, format}
+use Rattle.resolution.specs.Format.{finished, Buffers, limits_of, ended, format}
 use Rattle.theorems.specs.Finished.{setting_of, Finished, Says}
 use Rattle.theorems.specs.Steadiness.{Addition, InBytes, AllInBytes, added_by, slice_after, slices_after, AddedTo, EachAdded, Longer, Same, Steadiness, Demand3}
 use Rattle.theorems.proofs.Held.{message_held}

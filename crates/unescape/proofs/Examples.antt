@@ -1,7 +1,6 @@
 -- Worked examples of the definitions.
 use mathlib.Core.Path.{◌≡◌, refl}
-use mathlib.Core.List.{List, [], ◌∷◌}
-use Prim.Native.Nat.{ℕ}
+use mathlib.Core.List.{[], ◌∷◌}
 use Rattle.rules.specs.Rules.{hex}
 use Rattle.decimals.specs.Bytes.{digit}
 use Rattle.scalars.specs.Scalars.{hex_value, is_scalar, scalar_or, enc_scalar}

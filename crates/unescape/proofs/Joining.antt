@@ -1,21 +1,20 @@
 -- What string literals read as, one after the other: a text whose escapes are whole, before any other.
-use mathlib.Core.Path.{◌≡◌, refl, ap, sym, subst, ◌∙◌}
+use mathlib.Core.Path.{◌≡◌, refl, ap, sym, ◌∙◌}
 use mathlib.Core.List.{List, [], ◌∷◌, ◌++◌, append_assoc}
 use mathlib.Core.Bool.{Bool, true, false, ◌&&◌}
 use Prim.Native.Nat.{ℕ, zero, suc, ◌+◌, ◌-◌, ◌*◌, ◌≤◌, ◌<◌}
 use native.Mathlib.Omega.{arith}
 use lib.ListN.{length, drop}
 use lib.Dec.{eqb}
-use borrow.Author.Tests.{eq-eqb, ne_eqb, eqb-true, eqb-false}
+use borrow.Author.Tests.{eq-eqb, ne_eqb, eqb-true}
 use Rattle.decimals.specs.Bytes.{run, choose, given}
-use Rattle.rules.specs.Rules.{hex, escape_step, is_utf8, is_string}
+use Rattle.rules.specs.Rules.{hex, escape_step, is_string}
 use Rattle.scalars.specs.Scalars.{hex_value}
 use Rattle.unescape.specs.Unescape.{digits_of, scalar_piece, scalar_of, escape_of, piece_of, reads_as, more_of, unescape_from, unescape}
-use Rattle.unescape.specs.declared.Digits.{Digits}
-use Rattle.unescape.specs.declared.Digits.TheVariants.{Value, Broken}
+use Rattle.unescape.specs.declared.Digits.TheVariants.{Value}
 use Rattle.unescape.specs.declared.Piece.{Piece}
-use Rattle.unescape.specs.declared.Piece.TheVariants.{Byte, Scalar}
-use Rattle.unescape.proofs.Reading.{Sized, piece_sized}
+use Rattle.unescape.specs.declared.Piece.TheVariants.{Byte}
+use Rattle.unescape.proofs.Reading.{piece_sized}
 
 -- once broken, always broken
 escape_stays : (t : List ℕ) → run escape_step 2 t ≡ 2

@@ -6,14 +6,14 @@ use Prim.Native.Nat.{ℕ, zero, suc, ◌+◌, ◌-◌, ◌*◌, ◌^◌, ◌≤�
 use native.Mathlib.Nat.{pow-suc, pow-le-pow_right}
 use native.Mathlib.Omega.{arith}
 use native.Mathlib.Numerals.{add-one}
-use lib.ListN.{length, take, drop, get_or, length-append, length-drop, drop_of_length-le}
+use lib.ListN.{length, drop, get_or, length-append, length-drop, drop_of_length-le}
 use lib.Seq.{drop-cons, drop-drop}
 use lib.Dec.{eqb, leb}
 use borrow.Author.Tests.{eq-eqb, ne_eqb, leb-true, le-leb}
 use Rattle.rules.specs.Rules.{hex}
 use Rattle.decimals.specs.Bytes.{given}
 use Rattle.buffers.specs.Relations.Append.{over}
-use Rattle.buffers.proofs.Place.{over_none, over_over, then_over, length_over}
+use Rattle.buffers.proofs.Place.{over_none, then_over, length_over}
 use Rattle.scalars.specs.Scalars.{hex_value, scalar_or, enc_scalar}
 use Rattle.scalars.proofs.Scalars.{never, scalar_length}
 use Rattle.unescape.specs.Unescape.{has_backslash, digits_of, scalar_piece, scalar_of, escape_of, piece_of, reads_as, more_of, unescape_from, unescape}

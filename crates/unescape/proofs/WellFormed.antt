@@ -1,14 +1,14 @@
 -- A text that is well-formed reads as one that is: an escape is ASCII, and it reads as the UTF-8 of a scalar.
-use mathlib.Core.Path.{◌≡◌, refl, ap, sym, subst, ◌∙◌}
-use mathlib.Core.List.{List, [], ◌∷◌, ◌++◌, append-nil}
-use mathlib.Core.Bool.{Bool, true, false, ◌&&◌, ◌||◌}
-use Prim.Native.Nat.{ℕ, zero, suc, ◌+◌, ◌-◌, ◌*◌, ◌/◌, ◌%◌, ◌≤◌, ◌<◌}
+use mathlib.Core.Path.{◌≡◌, refl, ap, sym, ◌∙◌}
+use mathlib.Core.List.{List, [], ◌∷◌, append-nil}
+use mathlib.Core.Bool.{Bool, true, false}
+use Prim.Native.Nat.{ℕ, zero, suc, ◌+◌, ◌*◌, ◌≤◌, ◌<◌}
 use native.Mathlib.Omega.{arith}
 use lib.ListN.{length, drop}
-use lib.Dec.{eqb, ltb, leb}
-use borrow.Author.Tests.{eq-eqb, ne_eqb, eqb-true, eqb-false, lt-ltb, le-ltb, ltb-true, ltb-false, leb-true, leb-false, le-leb, lt-leb}
-use Rattle.decimals.specs.Bytes.{run, choose, within, given}
-use Rattle.rules.specs.Rules.{hex, utf8_first, utf8_low, utf8_high, utf8_rest, utf8_step, is_utf8}
+use lib.Dec.{eqb, leb}
+use borrow.Author.Tests.{eq-eqb, ne_eqb, eqb-true, eqb-false, lt-ltb, leb-true, leb-false}
+use Rattle.decimals.specs.Bytes.{run, choose, given}
+use Rattle.rules.specs.Rules.{hex, utf8_first, utf8_low, utf8_step, is_utf8}
 use Rattle.decimals.proofs.Run.{run_append, run_stays}
 use Rattle.rules.proofs.WellFormed.{utf8_stays}
 use Rattle.scalars.specs.Scalars.{hex_value, is_scalar, scalar_or, enc_scalar}
@@ -19,7 +19,7 @@ use Rattle.unescape.specs.declared.Digits.{Digits}
 use Rattle.unescape.specs.declared.Digits.TheVariants.{Value, Broken}
 use Rattle.unescape.specs.declared.Piece.{Piece}
 use Rattle.unescape.specs.declared.Piece.TheVariants.{Byte, Scalar}
-use Rattle.unescape.proofs.Reading.{Sized, piece_sized}
+use Rattle.unescape.proofs.Reading.{piece_sized}
 
 -- an ASCII byte stands between scalars
 least : (x y : Bool) → 0x80 ≤ choose x 0xA0 (choose y 0x90 0x80)

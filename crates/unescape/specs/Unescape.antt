@@ -1,6 +1,6 @@
 -- What a string literal reads as: document 01, "String literal: a backslash is followed by `\`, `"`, `u` with 4 or `U` with 6 hexadecimal digits;
 -- a value that is no Unicode scalar reads as U+FFFD".
-use Rattle.std.specs.Prelude.{ℕ, zero, suc, ◌+◌, ◌*◌, Bool, true, false, ◌||◌, List, [], ◌∷◌, ◌++◌, eqb}
+use Rattle.std.specs.Prelude.{ℕ, zero, suc, ◌+◌, ◌*◌, Bool, false, ◌||◌, List, [], ◌∷◌, ◌++◌, eqb}
 use Rattle.rules.specs.Rules.{hex}
 use Rattle.decimals.specs.Bytes.{given}
 use Rattle.scalars.specs.Scalars.{hex_value, scalar_or, enc_scalar}

@@ -23,7 +23,7 @@ use Rattle.records.proofs.Local.{local_pattern, local_expression}
 use Rattle.records.proofs.Views.{many_cons, many_nil, id_elim, ruled_elim, key_elim, flag_elim, pattern_elim, variant_elim}
 use Rattle.records.specs.Optional.{or_else}
 use Rattle.resolution.specs.Resolve.{matches, next as after_next, this_or, first_by, has_key, is_default, chosen}
-use Rattle.variants.specs.Outline.{Outline, outline, outline_at, outlines, variants_at}
+use Rattle.variants.specs.Outline.{Outline, outline, outline_at, variants_at}
 use Rattle.variants.specs.Choice.{first_of, key_matches, is_default as default-flag, chosen_at}
 use Rattle.variants.specs.Relations.Sought.{pattern_place}
 use Rattle.variants.specs.Relations.Pick.{Pick, picked, no_pick, PickAt, nth_of, pattern_of}

@@ -5,7 +5,7 @@ use mathlib.Core.Bool.{Bool, true, false}
 use Prim.Native.Nat.{ℕ, ◌+◌, ◌-◌, ◌≤◌, ◌<◌}
 use native.Mathlib.Omega.{arith}
 use native.Mathlib.Numerals.{add-one}
-use lib.ListN.{length, take, drop, get_or, set}
+use lib.ListN.{length, drop, get_or, set}
 use lib.Dec.{leb}
 use lib.Seq.{paste, paste-zero, paste-suc, drop-paste, get_or-take, get_or-drop}
 use borrow.Author.Tests.{leb-true, leb-false}

@@ -1,5 +1,4 @@
 -- `buffers::fill_zero` meets its contract: the bytes passed are zeros, and the others as they were.
-use Prim.Native.Nat.{◌-◌}
 use Rattle.buffers.proofs.Place.{fill_end, fill_turn, over_none}
 use lib.ListN.{length-set}
 use mathlib.Core.Path.{refl, sym}

@@ -1,5 +1,4 @@
 -- `listing::list_marked` meets its contract. The loop's invariant: a list to which the records of the entries that are left are appended has those of all.
-use Prim.Native.Nat.{◌-◌}
 use Rattle.entries.proofs.Lengths.{u16_small}
 use Rattle.listing.proofs.Records.{list_next, list_no_count, list_none, list_start, list_stuck}
 use Rattle.records.proofs.Views.{num_is, num_none}

@@ -1,5 +1,4 @@
 -- `listing::tally_marked` meets its contract. The loop's invariant: the tally so far, with the records of the entries that are left, is that of all; and it is small.
-use Prim.Native.Nat.{◌-◌}
 use Rattle.entries.proofs.Lengths.{id_small, u16_small}
 use Rattle.entries.proofs.Walk.{behind_in}
 use Rattle.listing.proofs.Tallying.{tally_bad, tally_next, tally_no_count, tally_none, tally_start, tally_stuck}

@@ -1,5 +1,4 @@
 -- `order::compare` meets its contract: what is left of the two compares as the whole.
-use Prim.Native.Nat.{◌-◌}
 use Rattle.order.proofs.Compared.{left_all, left_ends, left_greater, left_less, left_longer, left_shorter, left_turn}
 use Rattle.order.proofs.compare.Goals as goal
 

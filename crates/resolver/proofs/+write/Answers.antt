@@ -1,5 +1,4 @@
 -- What is left of each function.
-use Prim.Native.Nat.{◌*◌, ◌+◌, ◌-◌, ℕ}
 use Rattle.state.specs.Progress.{Progress, progress_of}
 use Rattle.records.proofs.Views.{num_is, num_none, str_bad, str_is}
 use Rattle.resolver.proofs.Calls.{inlines_more, inlines_none, inlines_stop, none_yet, positional_all, positional_none, taken_first, taken_later, called_none}

@@ -5,7 +5,7 @@ use mathlib.Core.Bool.{true, false}
 use Prim.Native.Nat.{ℕ, ◌-◌, ◌≤◌, ◌<◌}
 use native.Mathlib.Omega.{arith}
 use lib.ListN.{length}
-use Rattle.decimals.specs.Decimal.{Options, Number}
+use Rattle.decimals.specs.Decimal.{Options}
 use Rattle.literals.specs.Literal.{literal}
 use Rattle.numbers.specs.Value.{Value, textual, numeric, merge_one, merge_text}
 use Rattle.decimals.specs.Relations.Shown.{shown_options, told_options, told}

@@ -13,7 +13,7 @@ use Rattle.records.specs.Bytes.{part}
 use Rattle.buffers.specs.Relations.Append.{Keeps}
 use Rattle.resolution.specs.Effect.{Bytes, keep_text, State, Out, M, Done, ret, capture}
 use Rattle.resolution.specs.Resolve.{held}
-use Rattle.resolution.specs.Exec.{Machine, Limits, refused, exec, and_then, step}
+use Rattle.resolution.specs.Exec.{Machine, Limits, exec, and_then, step}
 use Rattle.state.specs.Progress.{Progress}
 use Rattle.values.specs.declared.Value.TheVariants as val
 use Rattle.resolver.specs.Relations.Meets.{World, world, Live, LocalsStay, locals_same, locals_cleared, Moved, Ended, ended, stopped, if_aside, Holds, in_work}

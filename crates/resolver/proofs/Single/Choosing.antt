@@ -1,6 +1,6 @@
 -- Steps of choosing a variant: the value that chooses, and the choice that the definition makes by it.
 use mathlib.Core.Path.{◌≡◌, refl, ap, sym, subst, ◌∙◌}
-use mathlib.Core.List.{List, [], ◌∷◌}
+use mathlib.Core.List.{List}
 use mathlib.Core.Option.{Option}
 use Prim.Native.Nat.{ℕ}
 use Rattle.decimals.specs.Relations.Shown.{shown, told}

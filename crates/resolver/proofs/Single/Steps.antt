@@ -11,7 +11,7 @@ use Rattle.records.proofs.Views.{both, never, select_elim, expression_elim}
 use Rattle.resolution.specs.Effect.{M, write}
 use Rattle.resolution.specs.Resolve.{braced, error_of, cut_short, mark}
 use Rattle.state.specs.Progress.{Progress}
-use Rattle.resolver.specs.Relations.Meets.{World, world, Runs, Acts}
+use Rattle.resolver.specs.Relations.Meets.{World, Runs, Acts}
 use Rattle.resolver.specs.Relations.Leaves.{ErrorAt, CutAt}
 use Rattle.resolver.proofs.Single.Laws.{kept_same, runs_ret, runs_dirty}
 use Rattle.resolver.proofs.Single.Puts.{acts_over}

@@ -7,7 +7,7 @@ use Prim.Native.Nat.{ℕ, zero, suc, ◌-◌, ◌≤◌, ◌<◌}
 use native.Mathlib.Omega.{arith}
 use lib.ListN.{length, drop, length-take}
 use borrow.Author.Tests.{lt-ltb, le-leb}
-use Rattle.numbers.specs.Number.{Number, default_options, in_range, or_zero, digits_limit, scale_limit}
+use Rattle.numbers.specs.Number.{default_options, in_range, or_zero, digits_limit, scale_limit}
 use Rattle.numbers.specs.Value.{Value, textual, wrong, value_text}
 use Rattle.decimals.specs.Relations.Shown.{shown_options}
 use Rattle.decimals.specs.declared.types.Options as CodeOptions

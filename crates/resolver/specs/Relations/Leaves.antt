@@ -2,12 +2,12 @@
 use Rattle.std.specs.Prelude.{◌≡◌, List, [], ◌∷◌, ◌++◌, Bool, true, false, ℕ, ◌-◌, ◌≤◌, length}
 use Rattle.std.proofs.Math.Option.{Option, none, some}
 use Rattle.numbers.specs.Number.{Number, in_range}
-use Rattle.numbers.specs.Value.{Value, textual, numeric, nothing, number_function}
+use Rattle.numbers.specs.Value.{Value, textual, numeric, number_function}
 use Rattle.decimals.specs.Relations.Shown.{shown}
 use Rattle.unescape.specs.Unescape.{unescape}
 use Rattle.records.specs.Got.{got}
 use Rattle.records.specs.Bytes.{part}
-use Rattle.records.specs.Tree.{Literal, Named, Expression, Inline, and, Arguments}
+use Rattle.records.specs.Tree.{Literal, Named, Expression, Inline, Arguments}
 use Rattle.records.specs.Decode.{many, id_at, optional_at, named_at, expression, inline}
 use Rattle.records.specs.Errors.{Referred, reference, too_many_placeables}
 use Rattle.records.specs.Optional.{option_of}
@@ -26,7 +26,7 @@ use Rattle.decimals.specs.declared.types.Number as CodeNumber
 use Rattle.resolution.specs.Effect.{Bytes, Locals, State, ret, ◌>>=◌, ◌>>◌, emit, write, report}
 use Rattle.resolution.specs.Resolve.{dotted, braced, error_text, error_of, cut_short, string_value, named_values, merges_of, write_ref_error, get_variable, write_variable, or_wrong, write_result}
 use Rattle.records.specs.Names.{first_named}
-use Rattle.resolution.specs.Exec.{Machine, Limits, refused}
+use Rattle.resolution.specs.Exec.{Machine, Limits}
 use Rattle.resolver.specs.Relations.Meets.{World, world, named_texts, TextIn, NamedIn, Live, Runs, Kept, Acts, Holds, Env, Setup, setting_of}
 
 -- a variable's value, or that it is missing

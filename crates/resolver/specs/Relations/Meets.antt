@@ -8,7 +8,7 @@ use Rattle.decimals.specs.Text.{ranged_text}
 use Rattle.unescape.specs.Unescape.{unescape, has_backslash}
 use Rattle.records.specs.Got.{got}
 use Rattle.records.specs.Bytes.{part}
-use Rattle.records.specs.Tree.{Literal, Named, Pattern, and, or}
+use Rattle.records.specs.Tree.{Literal, Named, Pattern}
 use Rattle.records.specs.Decode.{many, named_at}
 use Rattle.records.specs.Images.{Store, Argument, store_of}
 use Rattle.order.specs.Accepted.{accepted, judge}
@@ -23,7 +23,7 @@ use Rattle.arguments.specs.Relations.Given.{between}
 use Rattle.arguments.specs.Relations.Places.{Noted}
 use Rattle.state.specs.Setters.{max_unfound}
 use Rattle.resolution.specs.Effect.{Bytes, Locals, State, Out, M, Done}
-use Rattle.resolution.specs.Resolve.{Setting, Trail, held, resolve}
+use Rattle.resolution.specs.Resolve.{Setting, Trail, resolve}
 use Rattle.resolution.specs.Exec.{Machine, Limits, ran, refused, exec}
 use Rattle.resolution.specs.Format.{values_of}
 

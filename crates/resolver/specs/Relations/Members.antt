@@ -4,15 +4,14 @@ use Rattle.std.proofs.Math.Option.{Option}
 use Rattle.numbers.specs.Value.{Value}
 use Rattle.records.specs.Got.{got}
 use Rattle.records.specs.Bytes.{byte_at, number_at}
-use Rattle.records.specs.Tree.{Named, Pattern, Elements, Element, Expression, Inline, Inlines, no_inline, and, Arguments, or}
+use Rattle.records.specs.Tree.{Named, Pattern, Elements, Element, Expression, Inline, Inlines, no_inline, and, Arguments}
 use Rattle.records.specs.Decode.{id_at, element_at, elements_at, pattern_at, entry_pattern_at, inlines_at, arguments_at, select_at, expression, inline}
-use Rattle.records.specs.Errors.{reference}
 use Rattle.entries.specs.Lookup.{Find}
 use Rattle.heads.specs.Tags.{text_tag}
 use Rattle.values.specs.declared.Value as CodeValue
 use Rattle.resolution.specs.Effect.{Bytes, State, M, Done, ret, ◌>>=◌, capture, release}
 use Rattle.resolution.specs.Resolve.{Setting, Trail, error_text, held, track, look_up, as_term, term_found, write_message, write_term, call_function, write_pattern, write_elements, write_element, write_expression, write_inline, resolve_inline, term_arguments, get_arguments}
-use Rattle.resolution.specs.Exec.{Machine, Limits, refused}
+use Rattle.resolution.specs.Exec.{Machine, Limits}
 use Rattle.resolver.specs.Relations.Meets.{World, Live, Runs, Kept, Holds, Env, Setup, setting_of, find_of, cross_of, trail_of}
 use Rattle.resolver.specs.Relations.Leaves.{FirstIs, ResultIs}
 

@@ -1,5 +1,4 @@
 -- `unescape::digits_at` meets its contract: the digits that are left, after those that wrote v, give the same as all; k digits write a number below 16^k.
-use Prim.Native.Nat.{◌-◌}
 use Rattle.unescape.proofs.Reading.{digits_bound, digits_done, digits_none, digits_not, digits_short, digits_turn}
 use Rattle.scalars.proofs.Scalars.{value_below}
 use mathlib.Core.Path.{◌∙◌, refl, sym}

@@ -1,5 +1,4 @@
 -- `unescape::has_backslash` meets its contract: what is left has a backslash exactly if the whole has one.
-use Prim.Native.Nat.{◌-◌}
 use Rattle.unescape.proofs.Reading.{backslash_here, backslash_next, backslash_none}
 use mathlib.Core.Path.{◌∙◌, refl, sym}
 use native.Mathlib.Omega.{arith}

@@ -1,5 +1,4 @@
 -- `unescape::unescape_to` meets its contract: piece by piece, what is read stands behind what was read before.
-use Prim.Native.Nat.{◌-◌}
 use Rattle.unescape.proofs.Reading.{sized_at_law, written_end, written_none, written_room, written_turn}
 use native.Mathlib.Omega.{arith}
 use Rattle.unescape.proofs.unescape_to.Goals as goal

@@ -1,5 +1,4 @@
 -- `unescape::unescaped_len` meets its contract: what is counted, with the length of what is left, gives the same as the whole.
-use Prim.Native.Nat.{◌-◌}
 use Rattle.unescape.proofs.Reading.{count_turn, sized_at_law, unescape_end}
 use Rattle.unescape.specs.Unescape.{unescape}
 use lib.ListN.{drop, length}

@@ -1,9 +1,7 @@
 -- `variants::search` meets its contract: what was passed does not match in any kind, and what is left is searched as all is.
-use Prim.Native.Nat.{◌-◌}
 use Rattle.records.proofs.Views.{num_is, num_none}
 use Rattle.variants.proofs.Firsts.{first_end, first_here, first_lost, first_next, first_no_start, first_start, place_none, place_some, read_bad, read_is}
 use Rattle.variants.proofs.Keys.{kinds_few, tried_all, tried_is, tried_more, tried_one}
-use mathlib.Core.Bool.{false}
 use mathlib.Core.Path.{◌∙◌, refl}
 use native.Mathlib.Omega.{arith}
 use Rattle.variants.proofs.search.Goals as goal

@@ -1,5 +1,5 @@
 -- The measures, and what each loop keeps.
-use Prim.Native.Nat.{◌*◌, ◌+◌, ◌-◌}
+use Prim.Native.Nat.{◌*◌, ◌+◌}
 use Rattle.walks.specs.Outline.{expression_outline, many_outline}
 use Rattle.records.specs.Relations.Answer.{next_of}
 use mathlib.Core.Path.{◌≡◌}

@@ -1,5 +1,4 @@
 -- `arguments::find::find_place` meets its contract: the lower place is the first, or is not above.
-use Prim.Native.Nat.{◌-◌}
 use Rattle.arguments.proofs.Placed.{low_in}
 use Rattle.arguments.specs.Relations.Places.{MayBegin}
 use mathlib.Core.Path.{◌∙◌, refl, sym}

@@ -1,5 +1,4 @@
 -- `decimals::bytes::same_bytes` meets its contract: what is left of both compares as the whole does.
-use Prim.Native.Nat.{◌-◌}
 use Rattle.decimals.proofs.Same.{same_differs, same_end, same_length, same_turn}
 use borrow.Author.Rules.{rules}
 use mathlib.Core.Path.{◌∙◌, refl, sym}

@@ -1,5 +1,4 @@
 -- `decimals::text::push_digits` meets its contract: the higher digits first, by a call with one digit less, then the lowest.
-use Prim.Native.Nat.{◌-◌}
 use Rattle.decimals.proofs.text.+push_digits.Given as goal
 
 abbrev pub decreases-push_digits : goal.decreases-push_digits

@@ -1,5 +1,4 @@
 -- `literals::literal::is_number` meets its contract: the state and the count, run on over what is left, end as over the whole.
-use Prim.Native.Nat.{◌-◌}
 use Rattle.literals.proofs.Counting.{count_end, count_more, one_or_none}
 use Rattle.decimals.proofs.Run.{run_done, run_turn}
 use Rattle.decimals.specs.Bytes.{digit}

@@ -1,5 +1,4 @@
 -- `literals::literal::read_from` meets its contract: what is left is read on from what was read, and there is room for its digits.
-use Prim.Native.Nat.{◌-◌}
 use Rattle.literals.proofs.Reading.{fine_digits, fine_fraction, fine_scale, fine_start, fine_turn, read_end, read_turn}
 use Rattle.literals.specs.Literal.{read_start}
 use Rattle.decimals.specs.Relations.Shown.{told_count}

@@ -1,5 +1,4 @@
 -- `numbers::words::place_in` meets its contract: the words before, and the place in what is left.
-use Prim.Native.Nat.{◌-◌}
 use Rattle.numbers.proofs.Places.{turn_comma, turn_found, turn_none, turn_other}
 use mathlib.Core.Path.{◌∙◌, sym}
 use native.Mathlib.Omega.{arith}

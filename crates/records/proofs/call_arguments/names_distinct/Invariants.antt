@@ -1,5 +1,4 @@
 -- Whether a name is given twice among those left is whether one is given twice at all.
-use Prim.Native.Nat.{◌-◌}
 use Rattle.records.proofs.Named.{Rest}
 use Rattle.records.specs.Names.{distinct}
 use Rattle.records.proofs.call_arguments.names_distinct.Given as goal

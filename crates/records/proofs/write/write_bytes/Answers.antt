@@ -1,5 +1,5 @@
 -- `records::write::write_bytes` meets its contract: byte by byte, where all of them fit.
-use Prim.Native.Nat.{◌+◌, ◌-◌, ℕ}
+use Prim.Native.Nat.{◌+◌, ℕ}
 use Rattle.records.proofs.Laws.{there}
 use Rattle.records.proofs.Writing.{fits_paste, stays}
 use borrow.Author.Rules.{rules}

@@ -1,5 +1,4 @@
 -- `repeats::marks::mark_repeats` meets its contract. The loop's invariant: marks that are right for the entries that are left are right for all.
-use Prim.Native.Nat.{◌-◌}
 use Rattle.entries.proofs.Walk.{behind_in}
 use Rattle.records.proofs.Views.{num_is, num_none}
 use Rattle.repeats.proofs.Marking.{marks_bad, marks_many, marks_next, marks_no_count, marks_none, marks_start, marks_stuck}

@@ -1,5 +1,4 @@
 -- `repeats::slots::place_entries` meets its contract. The loop's invariant: a table in which the entries that are left are placed has them all.
-use Prim.Native.Nat.{◌-◌}
 use Rattle.entries.proofs.Lengths.{u16_small}
 use Rattle.entries.proofs.Walk.{behind_in}
 use Rattle.records.proofs.Views.{num_is, num_none}

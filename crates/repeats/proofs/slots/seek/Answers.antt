@@ -1,5 +1,4 @@
 -- `repeats::slots::seek` meets its contract. The loop's invariant: what is found in the slots that are left is what is found in all eight.
-use Prim.Native.Nat.{◌-◌}
 use Rattle.repeats.proofs.Seeking.{seek_ended, seek_found, seek_starts, seek_turn, suited_at}
 use native.Mathlib.Omega.{arith}
 use Rattle.repeats.proofs.slots.seek.Goals as goal

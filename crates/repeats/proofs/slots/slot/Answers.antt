@@ -1,5 +1,5 @@
 -- `repeats::slots::slot` meets its contract. The loop's invariant: what the bytes that are left make of the number so far is what all make of 0; and it is small.
-use Prim.Native.Nat.{◌%◌, ◌*◌, ◌+◌, ◌-◌, ◌/◌, ℕ}
+use Prim.Native.Nat.{◌%◌, ◌*◌, ◌+◌, ◌/◌, ℕ}
 use Rattle.decimals.proofs.Run.{run_done, run_turn}
 use Rattle.repeats.specs.Relations.Slots.{hash_step, mixed, slot_of}
 use mathlib.Core.Path.{ap, refl, sym}

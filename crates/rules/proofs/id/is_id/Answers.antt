@@ -1,5 +1,4 @@
 -- `rules::is_id` meets its contract.
-use Prim.Native.Nat.{◌-◌}
 use Rattle.decimals.proofs.Run.{run_done, run_turn}
 use Rattle.rules.specs.Rules.{id_step, is_id}
 use borrow.Author.Rules.{rules}

@@ -1,5 +1,4 @@
 -- `rules::is_string` meets its contract.
-use Prim.Native.Nat.{◌-◌}
 use Rattle.decimals.proofs.Run.{run_done, run_turn}
 use Rattle.rules.specs.Rules.{escape_step, is_string}
 use borrow.Author.Rules.{rules}

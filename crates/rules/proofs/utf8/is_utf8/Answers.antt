@@ -1,5 +1,4 @@
 -- `rules::is_utf8` meets its contract.
-use Prim.Native.Nat.{◌-◌}
 use Rattle.decimals.proofs.Run.{run_done, run_turn}
 use Rattle.rules.specs.Rules.{is_utf8, utf8_step}
 use borrow.Author.Rules.{rules}

@@ -1,5 +1,4 @@
 -- `writes::put::copy_down` meets its contract: no byte that is still to be read was written over.
-use Prim.Native.Nat.{◌-◌}
 use Rattle.writes.proofs.Copies.{copy_end, copy_start, copy_turn}
 use lib.ListN.{length-set}
 use mathlib.Core.Path.{refl}
