@@ -151,17 +151,16 @@ pub fn proved(root: &Path) -> String {
 const HEAD: &str = "\
 -- The sentences of the four languages as resource images, those that the program `sheet` and the command embed. Made from sheets/*.ftl by `tools/sheets`:
 -- change those, and run it.
-use mathlib.Core.List.{[], _∷_}
-use Prim.Native.Nat.{_+_, _*_}
+use Rattle.std.specs.Prelude.{[], ◌∷◌, ◌+◌, ◌*◌}
 use Prim.Native.Char.{code}
 use Prim.Native.String as string
 use Prim.Native.String.{String}
-use Rattle·scalars.specs.Scalars.{hexValue}
-use Rattle·resolution.specs.Effect.{Bytes}
+use Rattle.scalars.specs.Scalars.{hex_value}
+use Rattle.resolution.specs.Effect.{Bytes}
 
 -- bytes by their hexadecimal digits, two each
 unfoldable pub hex : String → Bytes
 hex string.[] = []
-hex (string._∷_ c string.[]) = []
-hex (string._∷_ c (string._∷_ d s)) = (16 * hexValue (code c) + hexValue (code d)) ∷ hex s
+hex (string.◌∷◌ c string.[]) = []
+hex (string.◌∷◌ c (string.◌∷◌ d s)) = (16 * hex_value (code c) + hex_value (code d)) ∷ hex s
 ";
