@@ -11,9 +11,7 @@ use Rattle.records.specs.Tree.{Pattern}
 use Rattle.records.specs.Images.{Entry, Store, store_of, resource_of}
 use Rattle.order.specs.Accepted.{Judged, accepted, refused_for, judge}
 use Rattle.order.proofs.Accepted.{refused_with}
-use Rattle.bundle.specs.Additions as additions
 use Rattle.bundle.specs.Additions.{Added, add_function, add_function_to, add_overriding_to, add_plain_to, add_resource, add_resource_overriding, listed, new_bundle, or_refuse, refuse, succeed}
-use Rattle.resolution.specs.Effect as effect
 use Rattle.resolution.specs.Effect.{Bytes, Effect, Trace, begin, expand, free, keep_text, merged, open_text, put, report, unfound}
 use Rattle.resolution.specs.Exec.{Limits, Machine, Ran, allow, allow_if, and_then, exec, put_at, put_text, put_work, ran, refused, step}
 use Rattle.resolution.specs.Format as formatting

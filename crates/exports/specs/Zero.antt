@@ -1,5 +1,5 @@
 -- 0 means done: no refusal of any operation has the number 0.
-use Rattle.std.specs.Prelude.{◌≡◌, ℕ}
+use Rattle.std.specs.Prelude.{◌≡◌}
 use Rattle.bundle.specs.Additions as additions
 use Rattle.bundle.specs.Additions.{done, refused}
 use Rattle.resolution.specs.Format as formatting

@@ -1,11 +1,9 @@
 -- The ways in which a sheet ends: refused before any message, or by its messages' run.
-use mathlib.Core.Path.{◌≡◌, refl, ap, sym, ◌∙◌}
-use mathlib.Core.Bool.{true, false}
+use mathlib.Core.Path.{◌≡◌, ap, sym, ◌∙◌}
 use mathlib.Core.List.{List}
 use Prim.Native.Nat.{ℕ, ◌≤◌, ◌<◌}
 use native.Mathlib.Omega.{arith}
 use lib.ListN.{length}
-use lib.Dec.{leb}
 use borrow.Author.Tests.{le-leb, lt-leb}
 use Rattle.records.specs.Got.{got, bad}
 use Rattle.records.specs.Errors.{list_header}
@@ -14,7 +12,7 @@ use Rattle.layout.specs.Exact.{Octets}
 use Rattle.requests.specs.Image.{Request, sheet_of}
 use Rattle.resolution.specs.Effect.{Bytes}
 use Rattle.resolution.specs.Exec.{Ran, start}
-use Rattle.resolution.specs.Format.{finished, Buffers, Formatted, refuse, ended}
+use Rattle.resolution.specs.Format.{Buffers, Formatted, refuse, ended}
 use Rattle.sheets.specs.Sheet.{run_sheet, format_sheet}
 use Rattle.sheet_theorems.proofs.Messages.{sheet_malformed_store, sheet_malformed, sheet_header, sheet_runs}
 use Rattle.theorems.specs.Figures.{FigureIs}

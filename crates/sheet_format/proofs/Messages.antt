@@ -4,7 +4,6 @@ use mathlib.Core.Option.{Option, some}
 use mathlib.Core.List.{List}
 use Prim.Native.Nat.{ℕ, ◌+◌, ◌≤◌, ◌<◌}
 use native.Mathlib.Omega.{arith}
-use lib.ListN.{length}
 use Rattle.records.specs.Got.{got}
 use Rattle.records.specs.Tree.{Pattern}
 use Rattle.records.specs.Decode.{entry_pattern_at}
@@ -19,7 +18,7 @@ use Rattle.requests.specs.Relations.Shown.{Shows}
 use Rattle.requests.specs.declared.Spans.{Spans}
 use Rattle.resolution.specs.Effect.{Bytes}
 use Rattle.resolution.specs.Resolve.{as_message}
-use Rattle.resolution.specs.Exec.{Machine, Ran, ran, refused, exec}
+use Rattle.resolution.specs.Exec.{Machine, Ran, refused, exec}
 use Rattle.theorems.specs.Finished.{trace_of, setting_of}
 use Rattle.sheet_theorems.specs.Begun.{with_begun, add_begun}
 use Rattle.sheets.specs.Sheet.{run_message}
@@ -29,8 +28,8 @@ use Rattle.state.specs.Progress.{Progress}
 use Rattle.state.specs.Setters.{refuse_s}
 use Rattle.resolver.specs.declared.format.Part as CodePart
 use Rattle.resolver.specs.declared.format.Part.TheVariants as PartAnswer
-use Rattle.resolver.specs.Relations.Meets.{lent, Env, env, Setup}
-use Rattle.resolver.specs.Relations.Runs.{message_in, MessageFound, no_message, no_such_part, pattern_found, Rests, Grown, RanAs, ran_as, refused_as, RunOn}
+use Rattle.resolver.specs.Relations.Meets.{lent, env, Setup}
+use Rattle.resolver.specs.Relations.Runs.{message_in, MessageFound, no_message, no_such_part, pattern_found, Rests, RanAs, ran_as, refused_as, RunOn}
 use Rattle.resolver.proofs.Patterns.{message_found_law}
 use Rattle.sheet_format.specs.Relations.Sheets.{id_of, attribute_of, image_of, limits, MessageRan}
 

@@ -1,11 +1,11 @@
 -- From message to message: where a sheet begins, one message more, the message that is refused, and the end.
 use mathlib.Core.Path.{◌≡◌, refl, ap, sym, subst, ◌∙◌}
 use mathlib.Core.List.{List, [], ◌∷◌}
-use Prim.Native.Nat.{ℕ, zero, suc, ◌+◌, ◌-◌, ◌*◌, ◌≤◌, ◌<◌}
+use Prim.Native.Nat.{ℕ, suc, ◌+◌, ◌-◌, ◌≤◌, ◌<◌}
 use native.Mathlib.Omega.{arith}
 use lib.ListN.{length, drop}
 use lib.Seq.{drop-drop}
-use Rattle.records.specs.Got.{Got, got, after}
+use Rattle.records.specs.Got.{got}
 use Rattle.records.specs.Bytes.{number_at}
 use Rattle.records.specs.Decode.{many}
 use Rattle.records.proofs.Laws.{after_elim, got_elim}
@@ -16,13 +16,13 @@ use Rattle.requests.specs.Relations.Shown.{Shows}
 use Rattle.requests.specs.declared.Spans.{Spans}
 use Rattle.requests.proofs.Views.{Parts, sheet_parts, count_small}
 use Rattle.resolution.specs.Effect.{Bytes}
-use Rattle.resolution.specs.Exec.{Machine, Limits, Ran, ran, refused, start}
+use Rattle.resolution.specs.Exec.{Limits, start}
 use Rattle.resolution.specs.Format.{limits_of}
 use Rattle.sheets.specs.Sheet.{run_message, run_sheet}
 use Rattle.sheet_theorems.proofs.Messages.{sheet_none, sheet_next, sheet_stops}
 use Rattle.state.specs.Progress.{Progress}
 use Rattle.state.specs.Setters.{new_s}
-use Rattle.resolver.specs.Relations.Runs.{Rests, Grown, RanAs, ran_as, refused_as}
+use Rattle.resolver.specs.Relations.Runs.{Grown, RanAs, ran_as, refused_as}
 use Rattle.resolver.proofs.Whole.{rests_start}
 use Rattle.sheet_format.specs.Relations.Sheets.{limits, Checked, Begins, MessageRan, Passed, SheetRan}
 
