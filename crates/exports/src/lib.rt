@@ -1,4 +1,5 @@
-// The proved operations for programs in C and Rust: `rt staticlib exports` writes target/staticlib/libexports.a, and include/weszlagyo.h declares them.
+// The proved operations for programs in C and Rust. `exports_c` has them under their names in C, and `tools/archive` writes target/staticlib/libexports.a;
+// include/weszlagyo.h declares them.
 // Each answers 0, or the number of its refusal, and writes its figures into the numbers that are lent to it. None has a `requires`: whatever bytes the
 // slices hold, the answer is the definition's.
 #![tactic(auto)]

@@ -1,5 +1,5 @@
 // Prints the sheet of a sighting in English, Danish, Russian and Welsh: the sentences of sheets/*.ftl through the proved library. The command that takes
-// options is rust/cli; this program needs nothing but `rt`, and runs unproved too: `rt try sheet`.
+// options is rust/cli; this program needs nothing but `rt`, and runs unproved too: `rt try` in this folder.
 #![tactic(auto)]
 
 mod embedded;
