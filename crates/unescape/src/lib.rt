@@ -46,7 +46,9 @@ fn hex_value(b: u8) -> u32
     ensures { result ≡ hex_value b }
 {
     let d = b as u32;
-    d % 16 + d / 64 * 9
+    let value = d % 16 + d / 64 * 9;
+    prove!(value == scalars::hex_value(b));
+    value
 }
 
 // The value of n hexadecimal digits from `at` on.
