@@ -8,7 +8,7 @@ use Rattle.theorems.specs.Steadiness.{Addition, AllInBytes, slices_after, EachAd
 use Rattle.sheets.specs.Sheet.{format_sheet}
 use Rattle.sheet_theorems.specs.ClaimsJoining.{Joins}
 
--- The first sheet is `formatSheet s image b`, the second `formatSheet (slicesAfter xs s) image b'`; t, e, k and w are the first's text length, error
+-- The first sheet is `format_sheet s image b`, the second `format_sheet (slices_after xs s) image b'`; t, e, k and w are the first's text length, error
 -- count, placeables begun and workspace figure.
 pub record SheetUnchanged (s : Bytes) (xs : List Addition) (image : Bytes) (b b' : Buffers) (t e k w : ℕ) : Type 0 where
   -- "Each addition gets the slice that the last one left, its length unchanged", over the whole list

@@ -89,7 +89,7 @@ Steadiness =
     → (t e n w : ℕ) → (format s id a image b).answer ≡ finished t e n 0 w
     → Same t (format s id a image b) (format (slices_after xs s) id a image b')
 
--- Demand 3, held to its words. The first formatting is `format s id a image b`, the second `format (slicesAfter xs s) id a image b'`; t, e, k and w are
+-- Demand 3, held to its words. The first formatting is `format s id a image b`, the second `format (slices_after xs s) id a image b'`; t, e, k and w are
 -- the first's text length, error count, placeables begun and workspace figure.
 pub record Unchanged (s : Bytes) (xs : List Addition) (id : Bytes) (a : Option Bytes) (image : Bytes) (b b' : Buffers) (t e k w : ℕ) : Type 0 where
   -- "Each addition gets the slice that the last one left, its length unchanged", over the whole list

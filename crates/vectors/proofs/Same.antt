@@ -1,4 +1,4 @@
--- Laws of allAre: a turn of the loop.
+-- Laws of all_are: a turn of the loop.
 use Rattle.std.proofs.Common.{◌≡◌, ℕ, ◌+◌, ◌<◌, ◌≤◌, Bool, true, false, ◌&&◌, eqb, List, length, get_or, drop, sym, ◌∙◌, add-one, drop_of_length-le, drop-cons, eq-eqb, ne_eqb}
 use Rattle.decimals.specs.Bytes.{same_bytes}
 use Rattle.vectors.specs.Readings.{part_in, all_are, begins_with}
