@@ -1,4 +1,6 @@
 -- What the code reads of a value: by its tag, where the image decodes, and that a text lies in the bytes.
+use Rattle.records.specs.Relations.Answer.{Num}
+use Rattle.std.specs.Prelude.{Some, None}
 use mathlib.Core.Path.{◌≡◌, refl, ap, sym, subst, ◌∙◌}
 use mathlib.Core.List.{List}
 use mathlib.Core.Bool.{Bool, true, false}
@@ -8,8 +10,6 @@ use native.Mathlib.Omega.{arith}
 use lib.ListN.{length, get_or}
 use lib.Dec.{eqb, leb}
 use borrow.Author.Tests.{eq-eqb, ne_eqb, lt-ltb, le-ltb, leb-true, leb-false}
-use Rattle.records.specs.declared.Num.{Num}
-use Rattle.records.specs.declared.Num.TheVariants as num
 use Rattle.arguments.specs.declared.Given.{Given}
 use Rattle.arguments.specs.declared.Given.TheVariants as goal
 use Rattle.records.specs.Got.{Got, got, bad, after, test, pick}
@@ -26,19 +26,19 @@ use Rattle.arguments.proofs.Views.{argument_value_elim, argument_number_elim}
 
 -- a value by its tag
 module _ (s : List ℕ) (at : ℕ) {r : Num} (is : r ≡ num_of (byte_at s at)) where
-  pub value_bad : r ≡ num.Bad → value_given s at ≡ bad
+  pub value_bad : r ≡ None → value_given s at ≡ bad
   unfolding value_given after
   value_bad h = rw (num_none is h)
 
-  pub value_text_law : {tag p : ℕ} → r ≡ num.At tag p → tag ≡ 1 → value_given s at ≡ text_given s p
+  pub value_text_law : {tag p : ℕ} → r ≡ Some (tag, p) → tag ≡ 1 → value_given s at ≡ text_given s p
   unfolding value_given after pick
   value_text_law {tag} h i = rw (num_is is h, eq-eqb tag 1 i)
 
-  pub value_number : {tag p : ℕ} → r ≡ num.At tag p → tag ≡ 2 → value_given s at ≡ number_given s p
+  pub value_number : {tag p : ℕ} → r ≡ Some (tag, p) → tag ≡ 2 → value_given s at ≡ number_given s p
   unfolding value_given after pick
   value_number {tag} h i = rw (num_is is h, ne_eqb tag 1 (λ z. omega arith), eq-eqb tag 2 i)
 
-  pub value_nothing : {tag p : ℕ} → r ≡ num.At tag p → (tag ≡ 1 → ⊥) → (tag ≡ 2 → ⊥) → value_given s at ≡ got goal.Nothing p
+  pub value_nothing : {tag p : ℕ} → r ≡ Some (tag, p) → (tag ≡ 1 → ⊥) → (tag ≡ 2 → ⊥) → value_given s at ≡ got goal.Nothing p
   unfolding value_given after pick
   value_nothing {tag} h i j = rw (num_is is h, ne_eqb tag 1 i, ne_eqb tag 2 j)
 
@@ -116,16 +116,16 @@ module _ (s : List ℕ) (at : ℕ) where
           rw (bytes_out s at 10 (omega arith), number_out (number_given s at) refl (omega arith))
 
 -- what the code answers for a value
-pub given_bad : {g : Got Given} → g ≡ bad → goal.Missing ≡ given_from g
+pub given_bad : {g : Got Given} → g ≡ bad → None ≡ given_from g
 unfolding given_from read_or
 given_bad h = rw h
 
-pub given_is : {g : Got Given} {v : Given} {e : ℕ} → g ≡ got v e → v ≡ given_from g
+pub given_is : {g : Got Given} {v : Given} {e : ℕ} → g ≡ got v e → Some v ≡ given_from g
 unfolding given_from read_or
 given_is h = rw h
 
 -- What is found where the image decodes: what the definition says of its arguments.
-pub value_means : (s : List ℕ) (at : ℕ) {a : Argument} {e : ℕ} → argument_value_at s at ≡ got a e → (v : Given) × (value_given s at ≡ got v e) × (meant s v ≡ some a)
+pub value_means : (s : List ℕ) (at : ℕ) {a : Argument} {e : ℕ} → argument_value_at s at ≡ got a e → (v : Given) × (value_given s at ≡ got v e) × (meant s (Some v) ≡ some a)
 unfolding value_given text_given number_given after pick meant
 value_means s at {a} {e} h =
     argument_value_elim s at h
@@ -139,17 +139,20 @@ value_means s at {a} {e} h =
     (goal.Number f d k, rw (hb, sign.1, hd, hk, sign.2), ap some (sym w))))
     (λ hb w. (goal.Nothing, rw hb, ap some (sym w)))
 
+abbrev within : List ℕ → Given → Type 0
+within s v = Within s (Some v)
+
 -- A text that is found lies in the bytes, whatever they are.
-value_within : (s : List ℕ) (at : ℕ) {v : Given} {e : ℕ} → value_given s at ≡ got v e → Within s v
+value_within : (s : List ℕ) (at : ℕ) {v : Given} {e : ℕ} → value_given s at ≡ got v e → Within s (Some v)
 unfolding value_given text_given number_given Within
 value_within s at h =
     after_elim (byte_at s at) _ h (λ t p _ h.
     pick_elim _ _ _ h
-    (λ _ h. after_elim (span_at s p) _ h (λ a i hs h. got_elim h (λ x y. subst (Within s) x (span_in s p hs))))
+    (λ _ h. after_elim (span_at s p) _ h (λ a i hs h. got_elim h (λ x y. subst (within s) x (span_in s p hs))))
     (λ _ h. pick_elim _ _ _ h
-    (λ _ h. after_elim (byte_at s p) _ h (λ f q _ h. after_elim (number_at 8 s q) _ h (λ d r _ h. as_elim _ (byte_at s r) h (λ k _ w. subst (Within s) (sym w) tt))))
-    (λ _ h. got_elim h (λ x _. subst (Within s) x tt))))
+    (λ _ h. after_elim (byte_at s p) _ h (λ f q _ h. after_elim (number_at 8 s q) _ h (λ d r _ h. as_elim _ (byte_at s r) h (λ k _ w. subst (within s) (sym w) tt))))
+    (λ _ h. got_elim h (λ x _. subst (within s) x tt))))
 
-pub row_within : (s : List ℕ) (at : ℕ) {a : List ℕ × Given} {e : ℕ} → row_at s at ≡ got a e → Within s a.1
+pub row_within : (s : List ℕ) (at : ℕ) {a : List ℕ × Given} {e : ℕ} → row_at s at ≡ got a e → Within s (Some a.1)
 unfolding row_at
-row_within s at h = after_elim (str_at s at) _ h (λ n p _ h. as_elim _ _ h (λ v hv w. subst (λ (y : List ℕ × Given). Within s y.1) (sym w) (value_within s p hv)))
+row_within s at h = after_elim (str_at s at) _ h (λ n p _ h. as_elim _ _ h (λ v hv w. subst (λ (y : List ℕ × Given). Within s (Some y.1)) (sym w) (value_within s p hv)))

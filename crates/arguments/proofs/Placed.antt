@@ -1,18 +1,17 @@
 -- The places that are noted: a search from the last one that is not above finds what a name has.
+use Rattle.records.specs.Relations.Answer.{Num}
+use Rattle.std.specs.Prelude.{Option, Some, None}
 use mathlib.Core.Path.{◌≡◌, refl, ap, sym, subst, ◌∙◌}
 use mathlib.Core.List.{List, [], ◌∷◌}
 use mathlib.Core.Bool.{Bool, true, false, ◌||◌, false≢true}
 use mathlib.Core.Option.{none}
 use Prim.Native.Nat.{ℕ, zero, suc, ◌+◌, ◌-◌, ◌*◌, ◌≤◌, ◌<◌}
 use native.Mathlib.Omega.{arith}
-use native.Mathlib.Nat.{zero-mul, mul-le-mul_right}
+use native.Mathlib.Nat.{zero-mul}
 use lib.ListN.{take, drop, get_or}
 use lib.Dec.{leb}
 use borrow.Author.Tests.{leb-false, le-leb, lt-leb}
-use Rattle.records.specs.declared.Num.{Num}
-use Rattle.records.specs.declared.Num.TheVariants as num
 use Rattle.arguments.specs.declared.Given.{Given}
-use Rattle.arguments.specs.declared.Given.TheVariants as goal
 use Rattle.decimals.specs.Bytes.{same_bytes}
 use Rattle.decimals.proofs.Same.{same_eq, eq_same}
 use Rattle.decimals.proofs.Tests.{and_true}
@@ -31,7 +30,7 @@ use Rattle.order.proofs.Ascending.{leads_trans}
 use Rattle.order.proofs.Before.{before_irreflexive, before_same}
 use Rattle.order.proofs.Accepted.{accepted_read}
 use Rattle.arguments.specs.Relations.Given.{meant, Within}
-use Rattle.arguments.specs.Relations.Outline.{readable, or_missing, sought_by, sought}
+use Rattle.arguments.specs.Relations.Outline.{readable, shown_option, sought_by, sought}
 use Rattle.arguments.specs.Relations.Places.{step_of, PlacesOf, Noted, is_past, is_above, MayBegin, FoundBy, no_count, from_place}
 use Rattle.arguments.proofs.Views.{argument_elim, arguments_image_elim}
 use Rattle.arguments.proofs.Sought.{sought_from, sought_within, sought_means}
@@ -116,11 +115,11 @@ or_false true u h = absurd (false≢true (sym h))
 
 -- what is past, and what is above, by the code's tests
 module _ (s : List ℕ) (at : ℕ) (name : List ℕ) {r : Num} (is : r ≡ num_of (span_at s at)) where
-  pub past_none : r ≡ num.Bad → true ≡ is_past (str_at s at) name
+  pub past_none : r ≡ None → true ≡ is_past (str_at s at) name
   unfolding is_past
   past_none h = rw (str_bad s at is h)
 
-  pub past_name : {p e : ℕ} → r ≡ num.At p e → {b : Bool} → b ≡ before name (part s p (e - p)) → b ≡ is_past (str_at s at) name
+  pub past_name : {p e : ℕ} → r ≡ Some (p, e) → {b : Bool} → b ≡ before name (part s p (e - p)) → b ≡ is_past (str_at s at) name
   unfolding is_past
   past_name h w = w ∙ ap (λ (g : Got (List ℕ)). is_past g name) (sym (str_is s at is h))
 
@@ -133,10 +132,6 @@ module _ (s places : List ℕ) (n : ℕ) (name : List ℕ) (j : ℕ) where
   unfolding is_above
   above_there h e = e ∙ rw (lt-leb n (j * step_of n) h)
 
--- a place times a step fits 64 bits
-pub product_fits : (n j : ℕ) → n < 18446744073709551616 → j < 256 → j * step_of n < 18446744073709551616
-product_fits n j h k = let w : j * step_of n ≤ 255 * step_of n = mul-le-mul_right (step_of n) (omega arith) in omega arith
-
 -- a place that is not above stands at an argument, and its name is not greater
 above_not : (s places : List ℕ) (n : ℕ) (name : List ℕ) (j : ℕ) → is_above s places n name j ≡ false → (j * step_of n < n) × (is_past (str_at s (get_or places j 0)) name ≡ false)
 unfolding is_above
@@ -145,9 +140,6 @@ above_not s places n name j h = let w = or_false (leb n (j * step_of n)) (is_pas
 pub low_in : (s places : List ℕ) (n : ℕ) (name : List ℕ) {j : ℕ} → MayBegin s places n name j → (j < 256) × (j * step_of n ≤ n)
 low_in s places n name {j} (MayBegin.first e) = (omega arith, subst (λ (i : ℕ). i * step_of n ≤ n) (sym e) (rw (zero-mul (step_of n)) (omega arith)))
 low_in s places n name {j} (MayBegin.further k h) = let w = (above_not s places n name j h).0 in (k, omega arith)
-
-pub low_fits : {s places : List ℕ} {n : ℕ} {name : List ℕ} {j : ℕ} → MayBegin s places n name j → n < 18446744073709551616 → j * step_of n < 18446744073709551616
-low_fits {s} {places} {n} {name} {j} low h = product_fits n j h (low_in s places n name low).0
 
 module _ (s places name : List ℕ) (n : ℕ) {l : Pairs} {f : ℕ} (hm : many [] ◌∷◌ n argument_at s 7 ≡ got l f) (up : ascending l ≡ true) (pl : PlacesOf s 7 n places) where
   -- the arguments from a place on
@@ -164,7 +156,7 @@ module _ (s places name : List ℕ) (n : ℕ) {l : Pairs} {f : ℕ} (hm : many [
       ∙ sym e
 
   none_given : (c at : ℕ) → c ≤ 0 → meant s (sought_from s name c at) ≡ none
-  unfolding readable sought or_missing meant
+  unfolding readable sought shown_option meant
   none_given zero at z = refl
   none_given (suc c) at z = absurd (omega arith)
 
@@ -196,21 +188,21 @@ module _ (s places name : List ℕ) (n : ℕ) {l : Pairs} {f : ℕ} (hm : many [
 
 -- what is found, where no count can be read and where one is
 module _ (s places name : List ℕ) {r : Num} (is : r ≡ num_of (number_at 2 s 5)) where
-  pub found_none : r ≡ num.Bad → FoundBy s places name goal.Missing
-  found_none h = no_count (num_none is h) refl
+  pub found_none : r ≡ None → {g : Option Given} → g ≡ None → FoundBy s places name g
+  found_none h e = no_count (num_none is h) e
 
-  pub found_here : {count from : ℕ} → r ≡ num.At count from → {j : ℕ} → MayBegin s places count name j → {g : Given} → g ≡ sought_from s name (count - j * step_of count) (get_or places j 0) → FoundBy s places name g
+  pub found_here : {count from : ℕ} → r ≡ Some (count, from) → {j : ℕ} → MayBegin s places count name j → {g : Option Given} → g ≡ sought_from s name (count - j * step_of count) (get_or places j 0) → FoundBy s places name g
   found_here {count} {from} h {j} low e = from_place count from j (num_is is h) low e
 
 module _ {s places name : List ℕ} where
   -- a text that is found lies in the bytes, whatever they are
-  pub found_within : {g : Given} → FoundBy s places name g → Within s g
+  pub found_within : {g : Option Given} → FoundBy s places name g → Within s g
   unfolding Within
   found_within (no_count h e) = subst (Within s) (sym e) tt
   found_within (from_place n f j h low e) = subst (Within s) (sym e) (sought_within s name (n - j * step_of n) (get_or places j 0))
 
   -- where the image is accepted and its places are noted, what is found is what the definition says
-  pub found_means : {g : Given} → FoundBy s places name g → Noted s places → (l : Pairs) → judge s ≡ accepted l → meant s g ≡ first_named name l
+  pub found_means : {g : Option Given} → FoundBy s places name g → Noted s places → (l : Pairs) → judge s ≡ accepted l → meant s g ≡ first_named name l
   unfolding in_order Noted
   found_means {g} (no_count h e) noted l a = arguments_image_elim s (accepted_read s l a).1 (λ k hk hm. absurd (no k (sym h ∙ hk)))
     where

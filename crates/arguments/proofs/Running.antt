@@ -1,4 +1,6 @@
 -- Arguments that are checked one after the other: where they end, whether they are in order, and that runs join.
+use Rattle.records.specs.Relations.Answer.{Next, Num}
+use Rattle.std.specs.Prelude.{Option, Some, None}
 use mathlib.Core.Path.{◌≡◌, refl, ap, sym, subst, ◌∙◌}
 use mathlib.Core.List.{List, [], ◌∷◌}
 use mathlib.Core.Bool.{Bool, true, false, ◌&&◌, not}
@@ -7,16 +9,10 @@ use Prim.Native.Nat.{ℕ, zero, suc, ◌+◌, ◌-◌, ◌%◌, ◌≤◌, ◌<�
 use native.Mathlib.Omega.{arith}
 use lib.ListN.{length, get_or}
 use lib.Dec.{eqb}
-use borrow.Author.Tests.{eqb-true, eq-eqb, ne_eqb, le-leb, lt-leb}
-use Rattle.records.specs.declared.Num.{Num}
-use Rattle.records.specs.declared.Num.TheVariants as num
-use Rattle.records.specs.declared.Next.{Next}
-use Rattle.records.specs.declared.Next.TheVariants as next
+use borrow.Author.Tests.{eqb-true, eq-eqb, ne_eqb, lt-leb}
 use Rattle.arguments.specs.declared.Given.{Given}
 use Rattle.arguments.specs.declared.Given.TheVariants as goal
 use Rattle.arguments.specs.declared.image.Checked.{Checked}
-use Rattle.arguments.specs.declared.image.Run.{Run}
-use Rattle.arguments.specs.declared.image.Run.TheVariants as run
 use Rattle.records.specs.Got.{Got, got, bad, after}
 use Rattle.records.specs.Relations.Answer.{next_of, num_of}
 use Rattle.records.specs.Bytes.{part, byte_at, number_at, span_at, str_at}
@@ -33,9 +29,9 @@ use Rattle.arguments.proofs.Views.{argument_elim}
 use Rattle.arguments.proofs.Found.{given_is, value_means}
 
 -- where a run ends
-unfoldable pub end_of : Run → Next
-end_of (run.Is c) = next.At c.at
-end_of run.Bad = next.Bad
+unfoldable pub end_of : Option Checked → Next
+end_of (Some c) = Some c.at
+end_of None = None
 
 pub run_ends : (n : ℕ) (s : List ℕ) (at last : ℕ) (fine : Bool) → end_of (run_from n s at last fine) ≡ next_of (many [] ◌∷◌ n argument_at s at)
 unfolding end_of run_from many next_of read_or after
@@ -43,30 +39,30 @@ run_ends zero s at last fine = refl
 run_ends (suc n) s at last fine = go (argument_at s at) (λ e. run_ends n s e at (fine && stands_after s last at))
   where
     go : (g : Got (List ℕ × Argument)) → ((e : ℕ) → end_of (run_from n s e at (fine && stands_after s last at)) ≡ next_of (many [] ◌∷◌ n argument_at s e))
-        → end_of (read_or run.Bad g (λ a e. run_from n s e at (fine && stands_after s last at))) ≡ next_of (after g (λ a e. after (many [] ◌∷◌ n argument_at s e) (λ l f. got (a ∷ l) f)))
+        → end_of (read_or None g (λ a e. run_from n s e at (fine && stands_after s last at))) ≡ next_of (after g (λ a e. after (many [] ◌∷◌ n argument_at s e) (λ l f. got (a ∷ l) f)))
     go (got a e) ih = ih e ∙ next_end (λ (l : List (List ℕ × Argument)). a ∷ l) (many [] ◌∷◌ n argument_at s e) refl
     go bad ih = refl
 
 -- one more argument, and none
-module _ (s : List ℕ) (left at last : ℕ) (fine : Bool) {y : Run} (inv : run_from left s at last fine ≡ y) where
-  pub run_end : left ≤ 0 → run.Is (record { at = at; last = last; fine = fine }) ≡ y
+module _ (s : List ℕ) (left at last : ℕ) (fine : Bool) {y : Option Checked} (inv : run_from left s at last fine ≡ y) where
+  pub run_end : left ≤ 0 → Some (record { at = at; last = last; fine = fine }) ≡ y
   unfolding run_from
   run_end z = go left z ∙ inv
     where
-      go : (n : ℕ) → n ≤ 0 → run.Is (record { at = at; last = last; fine = fine }) ≡ run_from n s at last fine
+      go : (n : ℕ) → n ≤ 0 → Some (record { at = at; last = last; fine = fine }) ≡ run_from n s at last fine
       go zero z = refl
       go (suc n) z = absurd (omega arith)
 
   module _ (z : 0 < left) {r : Next} (is : r ≡ next_of (argument_at s at)) where
-    pub run_stop : r ≡ next.Bad → run.Bad ≡ y
+    pub run_stop : r ≡ None → None ≡ y
     unfolding run_from read_or
     run_stop h = go left z ∙ inv
       where
-        go : (n : ℕ) → 0 < n → run.Bad ≡ run_from n s at last fine
+        go : (n : ℕ) → 0 < n → None ≡ run_from n s at last fine
         go zero z = absurd (omega arith)
         go (suc n) z = rw (next_none is h)
 
-    pub run_turn : {e : ℕ} → r ≡ next.At e → {b : Bool} → b ≡ fine && stands_after s last at → run_from (left - 1) s e at b ≡ y
+    pub run_turn : {e : ℕ} → r ≡ Some e → {b : Bool} → b ≡ fine && stands_after s last at → run_from (left - 1) s e at b ≡ y
     unfolding run_from read_or
     run_turn {e} h {b} q = next_is is h (λ a ha. go a ha left z ∙ inv)
       where
@@ -75,49 +71,54 @@ module _ (s : List ℕ) (left at last : ℕ) (fine : Bool) {y : Run} (inv : run_
         go a ha (suc n) z = let m : suc n - 1 ≡ n = omega arith in rw (m, ha, q)
 
 -- a run, and what follows it
-unfoldable pub then : Run → (Checked → Run) → Run
-then (run.Is c) f = f c
-then run.Bad f = run.Bad
+unfoldable pub then : Option Checked → (Checked → Option Checked) → Option Checked
+then (Some c) f = f c
+then None f = None
 
 pub run_split : (a b n : ℕ) (s : List ℕ) (at last : ℕ) (fine : Bool) → n ≡ a + b → run_from n s at last fine ≡ then (run_from a s at last fine) (λ c. run_from b s c.at c.last c.fine)
 unfolding run_from then read_or
 run_split zero b n s at last fine e = let q : n ≡ b = omega arith in ap (λ (i : ℕ). run_from i s at last fine) q
 run_split (suc a) b n s at last fine e = go n e (λ m i q. run_split a b m s i at (fine && stands_after s last at) q)
   where
-    rest : Checked → Run
+    rest : Checked → Option Checked
     rest c = run_from b s c.at c.last c.fine
 
     by : (m : ℕ) (g : Got (List ℕ × Argument)) → ((i : ℕ) → run_from m s i at (fine && stands_after s last at) ≡ then (run_from a s i at (fine && stands_after s last at)) rest)
-        → read_or run.Bad g (λ x i. run_from m s i at (fine && stands_after s last at)) ≡ then (read_or run.Bad g (λ x i. run_from a s i at (fine && stands_after s last at))) rest
+        → read_or None g (λ x i. run_from m s i at (fine && stands_after s last at)) ≡ then (read_or None g (λ x i. run_from a s i at (fine && stands_after s last at))) rest
     by m (got x i) ih = ih i
     by m bad ih = refl
 
     go : (k : ℕ) → k ≡ suc a + b → ((m i : ℕ) → m ≡ a + b → run_from m s i at (fine && stands_after s last at) ≡ then (run_from a s i at (fine && stands_after s last at)) rest)
-        → run_from k s at last fine ≡ then (read_or run.Bad (argument_at s at) (λ x i. run_from a s i at (fine && stands_after s last at))) rest
+        → run_from k s at last fine ≡ then (read_or None (argument_at s at) (λ x i. run_from a s i at (fine && stands_after s last at))) rest
     go zero q ih = absurd (omega arith)
     go (suc m) q ih = by m (argument_at s at) (λ i. ih m i (omega arith))
 
 -- a value by its variant: only a number can have a longer scale
-module _ {v w : Given} (is : v ≡ w) where
-  pub least_number : {f : Bool} {d k : ℕ} → v ≡ goal.Number f d k → {b : Bool} → b ≡ is_least (Argument.number f d k) → b ≡ least_given w
+module _ {v w : Option Given} (is : v ≡ w) where
+  pub least_number : {f : Bool} {d k : ℕ} → v ≡ Some (goal.Number f d k) → {b : Bool} → b ≡ is_least (Argument.number f d k) → b ≡ least_given w
   unfolding least_given
   least_number h e = e ∙ ap least_given (sym h ∙ is)
 
-  pub least_missing : v ≡ goal.Missing → true ≡ least_given w
+  pub least_missing : v ≡ None → true ≡ least_given w
   unfolding least_given
   least_missing h = ap least_given (sym h ∙ is)
 
-  pub least_text : {a e : ℕ} → v ≡ goal.Text a e → true ≡ least_given w
+  pub least_text : {a e : ℕ} → v ≡ Some (goal.Text a e) → true ≡ least_given w
   unfolding least_given
   least_text h = ap least_given (sym h ∙ is)
 
-  pub least_nothing : v ≡ goal.Nothing → true ≡ least_given w
+  pub least_nothing : v ≡ Some goal.Nothing → true ≡ least_given w
   unfolding least_given
   least_nothing h = ap least_given (sym h ∙ is)
 
-pub least_whole : (f : Bool) (d k : ℕ) → k ≡ 0 → true ≡ is_least (Argument.number f d k)
+least_whole : (f : Bool) (d k : ℕ) → k ≡ 0 → true ≡ is_least (Argument.number f d k)
 unfolding is_least
 least_whole f d k h = rw (eq-eqb k 0 h)
+
+-- the test of the scale, where it holds
+pub least_zero : (f : Bool) (d k : ℕ) → k ≡ 0 → eqb k 0 ≡ is_least (Argument.number f d k)
+unfolding is_least
+least_zero f d k h = rw (eq-eqb k 0 h)
 
 pub least_digits : (f : Bool) (d k : ℕ) → (k ≡ 0 → ⊥) → not (eqb (d % 10) 0) ≡ is_least (Argument.number f d k)
 unfolding is_least
@@ -131,7 +132,7 @@ value_cases s at bad h c n = c refl
 value_cases s at (got v e) h c n =
     after_elim (byte_at s at) _ h (λ t p hb h.
     pick_elim _ _ _ h
-    (λ _ h. after_elim (span_at s p) _ h (λ a i hs h. got_elim h (λ x y. c (ap least_given (sym x)))))
+    (λ _ h. after_elim (span_at s p) _ h (λ a i hs h. got_elim h (λ x y. c (ap (λ (z : Given). least_given (Some z)) (sym x)))))
     (λ _ h. pick_elim _ _ _ h
     (λ two h.
     after_elim (byte_at s p) _ h (λ f q hf h.
@@ -143,7 +144,7 @@ value_cases s at (got v e) h c n =
     let kb = byte_inv s r hk in
     let er : r ≡ at + 10 = omega (arith, tb.2, fb.2, db.1) in
     n (eqb f 1) d k e (omega (arith, er, kb.0)) (sym tb.1 ∙ eqb-true t 2 two) (kb.1 ∙ ap (λ (j : ℕ). get_or s j 0) er) (ap (λ (z : Given). got z e) (sym x)))))))
-    (λ _ h. got_elim h (λ x y. c (ap least_given (sym x))))))
+    (λ _ h. got_elim h (λ x y. c (ap (λ (z : Given). least_given (Some z)) (sym x))))))
 
 -- a value without a scale
 module _ (s : List ℕ) (at : ℕ) where
@@ -159,27 +160,13 @@ module _ (s : List ℕ) (at : ℕ) where
   whole_least e h = value_cases s at (value_given s at) refl (λ c. sym c) (λ f d k i lt two ek w.
       sym (ap (λ (g : Got Given). least_given (given_from g)) w ∙ whole_number f d k i (ek ∙ scale_none lt two (sym e ∙ h))))
 
-  -- the tests of the code
-  pub whole_short : length s ≤ at + 10 → true ≡ is_whole s at
-  unfolding is_whole
-  whole_short h = rw (le-leb (length s) (at + 10) h)
-
-  module _ (lt : at + 10 < length s) where
-    pub whole_other : (get_or s at 0 ≡ 2 → ⊥) → true ≡ is_whole s at
-    unfolding is_whole
-    whole_other h = rw (lt-leb (length s) (at + 10) lt, ne_eqb (get_or s at 0) 2 h)
-
-    pub whole_scale : get_or s at 0 ≡ 2 → eqb (get_or s (at + 10) 0) 0 ≡ is_whole s at
-    unfolding is_whole
-    whole_scale h = rw (lt-leb (length s) (at + 10) lt, eq-eqb (get_or s at 0) 2 h)
-
 -- an argument by its name, and the one before it by its name
 module _ (s : List ℕ) (last at : ℕ) {r : Num} (is : r ≡ num_of (span_at s at)) where
-  pub stands_nowhere : r ≡ num.Bad → false ≡ stands_after s last at
+  pub stands_nowhere : r ≡ None → false ≡ stands_after s last at
   unfolding stands_after read_or
   stands_nowhere h = rw (str_bad s at is h)
 
-  module _ {p e : ℕ} (h : r ≡ num.At p e) {b : Bool} (bs : b ≡ least_given (given_from (value_given s e))) where
+  module _ {p e : ℕ} (h : r ≡ Some (p, e)) {b : Bool} (bs : b ≡ least_given (given_from (value_given s e))) where
     stands_by : stands_after s last at ≡ b && follows (str_at s last) (part s p (e - p))
     unfolding stands_after read_or
     stands_by = rw (str_is s at is h, bs)
@@ -191,11 +178,11 @@ module _ (s : List ℕ) (last at : ℕ) {r : Num} (is : r ≡ num_of (span_at s 
       follows_by : stands_after s last at ≡ follows (str_at s last) (part s p (e - p))
       follows_by = stands_by ∙ ap (λ (x : Bool). x && follows (str_at s last) (part s p (e - p))) w
 
-      pub stands_first : q ≡ num.Bad → true ≡ stands_after s last at
+      pub stands_first : q ≡ None → true ≡ stands_after s last at
       unfolding follows
       stands_first k = sym (follows_by ∙ ap (λ (g : Got (List ℕ)). follows g (part s p (e - p))) (str_bad s last qs k))
 
-      pub stands_behind : {a c : ℕ} → q ≡ num.At a c → {x : Bool} → x ≡ before (part s a (c - a)) (part s p (e - p)) → x ≡ stands_after s last at
+      pub stands_behind : {a c : ℕ} → q ≡ Some (a, c) → {x : Bool} → x ≡ before (part s a (c - a)) (part s p (e - p)) → x ≡ stands_after s last at
       unfolding follows
       stands_behind k y = y ∙ sym (follows_by ∙ ap (λ (g : Got (List ℕ)). follows g (part s p (e - p))) (str_is s last qs k))
 
@@ -213,9 +200,8 @@ and_assoc : (a b c : Bool) → (a && b) && c ≡ a && (b && c)
 and_assoc true b c = refl
 and_assoc false b c = refl
 
-least_meant : (s : List ℕ) (v : Given) (a : Argument) → meant s v ≡ some a → least_given v ≡ is_least a
+least_meant : (s : List ℕ) (v : Given) (a : Argument) → meant s (Some v) ≡ some a → least_given (Some v) ≡ is_least a
 unfolding meant least_given is_least
-least_meant s goal.Missing a h = cc
 least_meant s (goal.Text x e) a h = let q : Argument.string (between s x e) ≡ a = cc in ap is_least q
 least_meant s (goal.Number f d k) a h = let q : Argument.number f d k ≡ a = cc in ap is_least q
 least_meant s goal.Nothing a h = let q : Argument.nothing ≡ a = cc in ap is_least q
@@ -232,9 +218,9 @@ stands_is s last at {a} {e} h =
     (p, m, rw (m, least)))
 
 pub run_reads : (n : ℕ) (s : List ℕ) (at last : ℕ) (fine : Bool) {l : List (List ℕ × Argument)} {e : ℕ} → many [] ◌∷◌ n argument_at s at ≡ got l e
-    → (last' : ℕ) × (run_from n s at last fine ≡ run.Is (record { at = e; last = last'; fine = fine && risen (str_at s last) l }))
+    → (last' : ℕ) × (run_from n s at last fine ≡ Some (record { at = e; last = last'; fine = fine && risen (str_at s last) l }))
 unfolding run_from read_or risen
-run_reads zero s at last fine {l} {e} h = many_nil [] ◌∷◌ argument_at s zero at (omega arith) h (λ w q. (last, rw (w, q) (ap (λ (b : Bool). run.Is (record { at = at; last = last; fine = b })) (ended fine))))
+run_reads zero s at last fine {l} {e} h = many_nil [] ◌∷◌ argument_at s zero at (omega arith) h (λ w q. (last, rw (w, q) (ap (λ (b : Bool). Some (record { at = at; last = last; fine = b })) (ended fine))))
   where
     ended : (b : Bool) → b ≡ b && true
     ended true = refl
@@ -250,7 +236,7 @@ run_reads (suc n) s at last fine {l} {e} h =
     ∙ ap (λ (g : Got (List ℕ)). fine && ((is_least a.1 && follows (str_at s last) a.0) && risen g t)) k.1
     ∙ ap (λ (b : Bool). fine && ((is_least a.1 && follows (str_at s last) a.0) && b)) (risen_place a.0 k.0 0 t)
     ∙ ap (λ (y : List (List ℕ × Argument)). fine && risen (str_at s last) y) (sym w) in
-    (x.0, rw ha (x.1 ∙ ap (λ (b : Bool). run.Is (record { at = e; last = x.0; fine = b })) f)))
+    (x.0, rw ha (x.1 ∙ ap (λ (b : Bool). Some (record { at = e; last = x.0; fine = b })) f)))
 
 -- that is the order of the definition
 shuffle : (p q r t : Bool) → (p && q) && (r && t) ≡ (q && r) && (p && t)

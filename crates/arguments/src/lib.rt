@@ -11,7 +11,6 @@ pub use image::check_arguments;
 // What an arguments image gives for a name. A text is the part of the image from a position up to another; a number is sign, digits and scale.
 #[derive(Clone, Copy)]
 pub enum Given {
-    Missing,
     Text(usize, usize),
     Number(bool, u64, u8),
     Nothing,

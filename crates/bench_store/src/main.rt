@@ -2,80 +2,62 @@
 // bytes and 960 variables: eight images of ASCII text, then eight of Cyrillic.
 #![tactic(auto)]
 
-use buffers::{Wrote, put_bytes};
-use records::Next;
+use buffers::{NoRoom, put_bytes};
+use images::check_store;
 use std::io;
 
-// Puts bytes at a position, and answers the one past them.
-fn append(d: &mut [u8], at: usize, src: &[u8]) -> usize {
-    match put_bytes(d, at, src) {
-        Wrote::At(e) => e,
-        Wrote::Full => at,
-    }
-}
-
-// 960 texts and variables.
-fn elements(d: &mut [u8], from: usize, text: &[u8]) -> usize {
+// 960 texts and variables from a position on, and the position past them.
+fn put_elements(d: &mut [u8], from: usize, text: &[u8]) -> Result<usize, NoRoom> {
     let mut at = from;
-    let mut left = 960usize;
-    while 0 < left {
-        at = append(d, at, b"\x01\x00\x3C");
-        at = append(d, at, text);
-        at = append(d, at, b"\x02\x06\x00\x01n");
-        left -= 1;
+    for _ in 0..960 {
+        at = put_bytes(d, at, b"\x01\x00\x3C")?;
+        at = put_bytes(d, at, text)?;
+        at = put_bytes(d, at, b"\x02\x06\x00\x01n")?;
     }
-    at
+    Ok(at)
 }
 
 // Eight items: a plain resource of one message `m` each.
-fn items(d: &mut [u8], from: usize, text: &[u8]) -> usize {
+fn put_items(d: &mut [u8], from: usize, text: &[u8]) -> Result<usize, NoRoom> {
     let mut at = from;
-    let mut left = 8usize;
-    while 0 < left {
-        at = append(d, at, b"\x01\x00\x00\xFF\x14\x01\x00\x01");
-        at = append(d, at, b"\x01\x00\x01m\x01\x00\x00\xFF\x02\x07\x80");
-        at = elements(d, at, text);
-        at = append(d, at, b"\x00\x00");
-        left -= 1;
+    for _ in 0..8 {
+        at = put_bytes(d, at, b"\x01\x00\x00\xFF\x14\x01\x00\x01")?;
+        at = put_bytes(d, at, b"\x01\x00\x01m\x01\x00\x00\xFF\x02\x07\x80")?;
+        at = put_elements(d, at, text)?;
+        at = put_bytes(d, at, b"\x00\x00")?;
     }
-    at
+    Ok(at)
 }
 
-fn made(d: &mut [u8]) -> usize {
-    let a = append(d, 0, b"\x00\x0F\xF1\x59\x01\x00\x01\x00\x10");
-    let b = items(
+fn make_store(d: &mut [u8]) -> Result<usize, NoRoom> {
+    let at = put_bytes(d, 0, b"\x00\x0F\xF1\x59\x01\x00\x01\x00\x10")?;
+    let at = put_items(
         d,
-        a,
+        at,
         b"Two harbour porpoises and one calf were seen at leg seven...",
-    );
-    items(
+    )?;
+    put_items(
         d,
-        b,
+        at,
         b"\xD0\x94\xD0\xB2\xD0\xB5 \xD0\xBC\xD0\xBE\xD1\x80\xD1\x81\xD0\xBA\xD0\xB8\xD0\xB5 \xD1\x81\xD0\xB2\xD0\xB8\xD0\xBD\xD1\x8C\xD0\xB8 \xD0\xB8 \xD0\xB4\xD0\xB5\xD1\x82\xD1\x91\xD0\xBD\xD1\x8B\xD1\x88 7......",
     )
 }
 
 // How many of so many checks find the store well-formed.
-fn checked(s: &[u8], times: u64) -> u64 {
-    let mut ok = 0u64;
-    let mut left = times;
-    while 0 < left {
-        if let Next::At(_) = images::check_store(s) {
-            ok = std::num::wrapping_add_u64(ok, 1);
-        }
-        left -= 1;
-    }
-    ok
+fn count_checks(s: &[u8], times: usize) -> usize {
+    (0..times).filter(|_| check_store(s).is_some()).count()
 }
 
-// The largest image, and no byte past it.
+// The largest store, and no byte past it.
 fn room() -> [u8; 1048576] {
-    [0u8; 1048576]
+    [0; 1048576]
 }
 
 fn main(rt: HostRuntime) -> io::Result<()> {
     let mut store = room();
-    let n = made(&mut store);
-    let ok = checked(&store, 1000);
-    println!(rt; "{n} bytes, well-formed {ok} times of 1000")
+    let Ok(n) = make_store(&mut store) else {
+        return println!(rt; "the store has no room");
+    };
+    let well_formed = count_checks(&store, 1000);
+    println!(rt; "{n} bytes, well-formed {well_formed} times of 1000")
 }

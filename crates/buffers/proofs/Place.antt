@@ -1,17 +1,16 @@
 -- Laws of bytes written over a buffer.
 use mathlib.Core.Path.{◌≡◌, refl, ap, sym, subst, ◌∙◌}
-use mathlib.Core.List.{List, [], ◌∷◌, ◌++◌, append_assoc, append-nil}
+use mathlib.Core.List.{List, [], ◌∷◌, ◌++◌, append_assoc}
 use mathlib.Core.Bool.{Bool, true, false}
-use Prim.Native.Nat.{ℕ, suc, ◌+◌, ◌-◌, ◌≤◌, ◌<◌}
+use Prim.Native.Nat.{ℕ, ◌+◌, ◌-◌, ◌≤◌, ◌<◌}
 use native.Mathlib.Omega.{arith}
 use native.Mathlib.Numerals.{add-one, add-two, add-three}
-use lib.ListN.{length, take, drop, get_or, set, replicate, length-append, length-take, length-drop, length-replicate, replicate-append-replicate, get_or-append, drop_of_length-le}
-use lib.Seq.{paste, sets, sets-eq, take-length, take_at, drop_at, drop-drop, take-suc, set_at, get_or-take, get_or-drop, take-take, paste-zero, drop-cons, length-take-le}
+use lib.ListN.{length, take, drop, set, length-append, length-take, length-drop}
+use lib.Seq.{paste, sets, sets-eq, take-length, take_at, drop_at, drop-drop, take-take, paste-zero, length-take-le}
 use borrow.Author.Tests.{le-leb, lt-leb, leb-true, leb-false}
 use Rattle.records.specs.Bytes.{part}
-use Rattle.buffers.specs.Relations.Append.{over, attempt, appended, moved_back, Keeps}
-use Rattle.buffers.specs.declared.Wrote.{Wrote}
-use Rattle.buffers.specs.declared.Wrote.TheVariants.{At, Full}
+use Rattle.buffers.specs.Relations.Append.{over, attempt, appended, moved_back, Keeps, Wrote, full}
+use Rattle.std.specs.Prelude.{Ok}
 
 module _ (d : List ℕ) (at : ℕ) where
   pub over_none : over d at [] ≡ d
@@ -60,13 +59,6 @@ module _ (d : List ℕ) (at : ℕ) where
       let e : drop at (take at d ++ bs ++ drop (at + length bs) d) ≡ bs ++ drop (at + length bs) d = rw append_assoc (drop_at (take at d) (bs ++ drop (at + length bs) d) at (length-take-le at d h)) in
       rw e (take_at bs (drop (at + length bs) d) (length bs) refl)
 
-  -- what stands before is untouched
-  pub get_d_over : (bs : List ℕ) (k : ℕ) → k < at → at ≤ length d → get_or (over d at bs) k 0 ≡ get_or d k 0
-  unfolding over
-  get_d_over bs k h g =
-      let l : k < length (take at d) = rw (length-take-le at d g) h in
-      rw append_assoc (get_or-append (take at d) (bs ++ drop (at + length bs) d) 0 k l ∙ get_or-take at d k 0 h)
-
 -- two writes, one after the other, are one
 module _ (d : List ℕ) (at : ℕ) (a : List ℕ) where
   pub over_over : (b : List ℕ) → at + (length a + length b) ≤ length d → over (over d at a) (at + length a) b ≡ over d at (a ++ b)
@@ -87,59 +79,45 @@ module _ (d : List ℕ) (at : ℕ) (a : List ℕ) where
       let i : at + length a < length (over d at a) = omega arith in
       rw (h, q, set_over (over d at a) (at + length a) x i) (over_over (x ∷ []) f)
 
--- a byte before what was written
-pub set_before : (d bs : List ℕ) (p x : ℕ) → p < length d → set (over d (p + 1) bs) p x ≡ over d p (x ∷ bs)
-unfolding over
-set_before d bs p x h =
-    let s : p + 1 ≡ suc p = omega arith in
-    let e : take (p + 1) d ++ bs ++ drop (p + 1 + length bs) d ≡ take p d ++ (get_or d p 0 ∷ (bs ++ drop (p + 1 + length bs) d)) = rw (s, take-suc d p 0 h) (simp append_assoc) in
-    let i : p + 1 + length bs ≡ p + length (x ∷ bs) = omega arith in
-    rw e (set_at (take p d) (get_or d p 0) (bs ++ drop (p + 1 + length bs) d) x p (length-take-le p d (omega arith)) ∙ rw i (sym (append_assoc (take p d) (x ∷ bs) _)))
-
--- a buffer that is written all over
-pub over_all : (d bs : List ℕ) → length d ≡ length bs → over d 0 bs ≡ bs
-unfolding over
-over_all d bs h = rw (drop_of_length-le d {i = 0 + length bs} (omega arith)) (append-nil bs)
-
 -- an attempt that succeeds, and one that does not
 module _ (d : List ℕ) (at : ℕ) (bs : List ℕ) where
-  pub appended_fits : {e : List ℕ} {p : ℕ} → at + length bs ≤ length d → p ≡ at + length bs → e ≡ over d at bs → (At p, e) ≡ appended d at bs
+  pub appended_fits : {e : List ℕ} {p : ℕ} → at + length bs ≤ length d → p ≡ at + length bs → e ≡ over d at bs → (Ok p, e) ≡ appended d at bs
   unfolding appended attempt
   appended_fits h q g = rw (le-leb _ _ h, q, g)
 
-  pub appended_full : length d < at + length bs → (Full, d) ≡ appended d at bs
+  pub appended_full : length d < at + length bs → (full, d) ≡ appended d at bs
   unfolding appended attempt
   appended_full h = rw (lt-leb _ _ h)
 
 -- no bytes always fit, and change nothing
-pub appended_none : (d : List ℕ) (at : ℕ) → at ≤ length d → appended d at [] ≡ (At at, d)
+pub appended_none : (d : List ℕ) (at : ℕ) → at ≤ length d → appended d at [] ≡ (Ok at, d)
 appended_none d at h = sym (appended_fits d at [] (omega arith) (omega arith) (sym (over_none d at)))
 
 -- what the answer says
 module _ (d : List ℕ) (at : ℕ) (bs : List ℕ) {r : Wrote} {e : List ℕ} where
-  pub attempt_at : (t : Bool) {p : ℕ} → (r, e) ≡ attempt t d at bs → r ≡ At p → (t ≡ true) × (p ≡ at + length bs) × (e ≡ over d at bs)
+  pub attempt_at : (t : Bool) {p : ℕ} → (r, e) ≡ attempt t d at bs → r ≡ Ok p → (t ≡ true) × (p ≡ at + length bs) × (e ≡ over d at bs)
   unfolding attempt
   attempt_at true {p} h q =
-      let a : r ≡ At (at + length bs) = ap (λ (x : Wrote × List ℕ). x.0) h in
+      let a : r ≡ Ok (at + length bs) = ap (λ (x : Wrote × List ℕ). x.0) h in
       (refl, (cc), ap (λ (x : Wrote × List ℕ). x.1) h)
   attempt_at false h q =
-      let a : r ≡ Full = ap (λ (x : Wrote × List ℕ). x.0) h in
+      let a : r ≡ full = ap (λ (x : Wrote × List ℕ). x.0) h in
       let z : ◌≡◌ {A = ℕ} 0 1 = cc in
       absurd (omega arith)
 
-  pub attempt_no : (t : Bool) → (r, e) ≡ attempt t d at bs → r ≡ Full → (t ≡ false) × (e ≡ d)
+  pub attempt_no : (t : Bool) → (r, e) ≡ attempt t d at bs → r ≡ full → (t ≡ false) × (e ≡ d)
   unfolding attempt
   attempt_no true h q =
-      let a : r ≡ At (at + length bs) = ap (λ (x : Wrote × List ℕ). x.0) h in
+      let a : r ≡ Ok (at + length bs) = ap (λ (x : Wrote × List ℕ). x.0) h in
       let z : ◌≡◌ {A = ℕ} 0 1 = cc in
       absurd (omega arith)
   attempt_no false h q = (refl, ap (λ (x : Wrote × List ℕ). x.1) h)
 
-  pub appended_at : {p : ℕ} → (r, e) ≡ appended d at bs → r ≡ At p → (at + length bs ≤ length d) × (p ≡ at + length bs) × (e ≡ over d at bs)
+  pub appended_at : {p : ℕ} → (r, e) ≡ appended d at bs → r ≡ Ok p → (at + length bs ≤ length d) × (p ≡ at + length bs) × (e ≡ over d at bs)
   unfolding appended
   appended_at h q = let w = attempt_at _ h q in (leb-true _ _ w.0, w.1, w.2)
 
-  pub appended_no : (r, e) ≡ appended d at bs → r ≡ Full → (length d < at + length bs) × (e ≡ d)
+  pub appended_no : (r, e) ≡ appended d at bs → r ≡ full → (length d < at + length bs) × (e ≡ d)
   unfolding appended
   appended_no h q = let w = attempt_no _ h q in (leb-false _ _ w.0, w.1)
 
@@ -154,56 +132,19 @@ module _ (d : List ℕ) (at a b : ℕ) where
   pub store_4 : (c e : ℕ) → at + 4 ≤ length d → set (set (set (set d at a) (at + 1) b) (at + 2) c) (at + 3) e ≡ over d at (a ∷ b ∷ c ∷ e ∷ [])
   store_4 c e h = rw (add-one, add-two, add-three) (sets_over d at (a ∷ b ∷ c ∷ e ∷ []) h)
 
--- zeros from the front on: a turn, and the end
-module _ (d₀ : List ℕ) {d : List ℕ} (i : ℕ) where
-  pub fill_turn : i < length d₀ → d ≡ over d₀ 0 (replicate i 0) → set d i 0 ≡ over d₀ 0 (replicate (i + 1) 0)
-  fill_turn h e =
-      let l = length-replicate {A = ℕ} i 0 in
-      then_set d₀ 0 (replicate i 0) 0 e (omega arith) (omega arith) ∙ ap (over d₀ 0) (replicate-append-replicate i 1 0)
-
-  pub fill_end : i ≤ length d₀ → length d₀ ≤ i → d ≡ over d₀ 0 (replicate i 0) → d ≡ replicate (length d₀) 0
-  fill_end h g e =
-      let m : i ≡ length d₀ = omega arith in
-      let f : d ≡ over d₀ 0 (replicate (length d₀) 0) = rw m at e in
-      let l = length-replicate {A = ℕ} (length d₀) 0 in
-      f ∙ over_all d₀ (replicate (length d₀) 0) (omega arith)
-
--- bytes moved up, the last first: the start, a turn, and the end
-module _ (w₀ : List ℕ) (from n to : ℕ) (h : from ≤ to) (g : to + n ≤ length w₀) where
-  part_length : length (part w₀ from n) ≡ n
-  part_length = simp (length-take, length-drop) (omega arith)
-
-  pub move_start : w₀ ≡ over w₀ (to + n) (drop n (part w₀ from n))
-  move_start =
-      let l = part_length in
-      rw (drop_of_length-le (part w₀ from n) {i = n} (omega arith)) (sym (over_none w₀ (to + n)))
-
-  step : (j : ℕ) {w : List ℕ} → j < n → w ≡ over w₀ (to + (j + 1)) (drop (j + 1) (part w₀ from n)) → set w (to + j) (get_or w (from + j) 0) ≡ over w₀ (to + j) (drop j (part w₀ from n))
-  step j {w} k e =
-      let l = part_length in
-      let a : to + (j + 1) ≡ to + j + 1 = omega arith in
-      let b : get_or w (from + j) 0 ≡ get_or w₀ (from + j) 0 = rw e (get_d_over w₀ (to + (j + 1)) _ (from + j) (omega arith) (omega arith)) in
-      let c : get_or (part w₀ from n) j 0 ≡ get_or w₀ (from + j) 0 = get_or-take n (drop from w₀) j 0 k ∙ get_or-drop from w₀ j 0 in
-      let f : w ≡ over w₀ (to + j + 1) (drop (j + 1) (part w₀ from n)) = rw a at e in
-      let m : drop j (part w₀ from n) ≡ get_or w₀ (from + j) 0 ∷ drop (j + 1) (part w₀ from n) = drop-cons (part w₀ from n) j 0 (omega arith) ∙ rw (c, add-one) in
-      rw (b, m, f) (set_before w₀ (drop (j + 1) (part w₀ from n)) (to + j) (get_or w₀ (from + j) 0) (omega arith))
-
-  pub move_turn : (i : ℕ) {w : List ℕ} → 0 < i → i ≤ n → w ≡ over w₀ (to + i) (drop i (part w₀ from n)) → set w (to + (i - 1)) (get_or w (from + (i - 1)) 0) ≡ over w₀ (to + (i - 1)) (drop (i - 1) (part w₀ from n))
-  move_turn i {w} z k e =
-      let m : i ≡ i - 1 + 1 = omega arith in
-      step (i - 1) (omega arith) (subst (λ (x : ℕ). w ≡ over w₀ (to + x) (drop x (part w₀ from n))) m e)
-
-  pub move_end : (i : ℕ) {w : List ℕ} → i ≤ 0 → w ≡ over w₀ (to + i) (drop i (part w₀ from n)) → w ≡ over w₀ to (part w₀ from n)
-  move_end i {w} z e =
-      let m : i ≡ 0 = omega arith in
-      let k : to + 0 ≡ to = omega arith in
-      let f : w ≡ over w₀ (to + 0) (drop 0 (part w₀ from n)) = subst (λ (x : ℕ). w ≡ over w₀ (to + x) (drop x (part w₀ from n))) m e in
-      rw k at f
-
 module _ (w : List ℕ) (from n to : ℕ) where
   pub moved_back_law : from ≤ to → to + n ≤ length w → moved_back w from n to ≡ over w to (part w from n)
   unfolding moved_back
   moved_back_law h g = rw (le-leb _ _ h, le-leb _ _ g)
+
+  -- the library's move
+  pub moved_paste : from ≤ to → to + n ≤ length w → paste w to (drop from w) (from + n - from) ≡ moved_back w from n to
+  unfolding over
+  moved_paste h g =
+      let k : from + n - from ≡ n = omega arith in
+      let l : length (part w from n) ≡ n = simp (length-take, length-drop) (omega arith) in
+      let e : to + n ≡ to + length (part w from n) = omega arith in
+      rw (k, e) (sym (moved_back_law h g))
 
   pub not_moved : to < from → moved_back w from n to ≡ w
   unfolding moved_back

@@ -1,26 +1,23 @@
 -- Steps of a new bundle: each refusal, in its order, and the nine bytes of an empty store.
-use mathlib.Core.Path.{◌≡◌, refl, ◌∙◌}
+use mathlib.Core.Path.{◌≡◌, refl}
 use mathlib.Core.List.{List, [], ◌∷◌, ◌++◌}
 use Prim.Native.Nat.{ℕ, zero, suc, ◌≤◌, ◌<◌}
 use native.Mathlib.Omega.{arith}
-use lib.ListN.{length, set, drop}
-use lib.Seq.{sets}
+use lib.ListN.{length, drop}
 use lib.Dec.{eqb}
 use borrow.Author.Tests.{le-leb, lt-leb}
 use Rattle.records.specs.Bytes.{to_be}
 use Rattle.records.specs.Encode.{enc_all, enc_counted, enc_flag, enc_whole, enc_store}
 use Rattle.records.specs.Images.{max_locale}
-use Rattle.records.specs.Relations.Write.{over_fit}
-use Rattle.records.proofs.Writing.{fits_sets}
-use Rattle.buffers.proofs.Place.{sets_over}
 use Rattle.growth.specs.Items.{at_front}
-use Rattle.growth.proofs.Items.{over_front}
-use Rattle.bundle.specs.declared.Answer.TheVariants as answer
+use Rattle.std.specs.Prelude.{Ok, Err}
+use Rattle.refusals.specs.declared.Refusal.TheVariants as refusal
+use Rattle.refusals.specs.Numbers.{number_of}
 use Rattle.bundle.specs.Additions.{refuse, succeed, or_refuse, new_bundle}
 use Rattle.bundle.specs.Gives.{answer_of, gave}
 
 -- a new bundle's bytes
-new_bytes : ℕ → ℕ → List ℕ
+abbrev pub new_bytes : ℕ → ℕ → List ℕ
 new_bytes locale isolating = 0 ∷ 0 ∷ 0 ∷ 9 ∷ 1 ∷ locale ∷ isolating ∷ 0 ∷ 0 ∷ []
 
 flag_byte : (b : ℕ) → b ≤ 1 → enc_flag (eqb b 1) ≡ b ∷ []
@@ -34,23 +31,19 @@ unfolding enc_store enc_whole enc_counted enc_all to_be new_bytes
 new_is locale isolating h = rw (flag_byte isolating h)
 
 module _ (s : List ℕ) (locale isolating : ℕ) where
-  pub new_1 : length s < 9 → gave (answer.Refused 1) s [] ≡ new_bundle s locale isolating
-  unfolding gave answer_of new_bundle or_refuse refuse
+  pub new_1 : length s < 9 → gave (Err refusal.ShortSlice) s [] ≡ new_bundle s locale isolating
+  unfolding gave answer_of number_of new_bundle or_refuse refuse
   new_1 h = rw (lt-leb 9 (length s) h)
 
   module _ (l9 : 9 ≤ length s) where
-    pub new_2 : 3 < locale → gave (answer.Refused 2) s [] ≡ new_bundle s locale isolating
-    unfolding gave answer_of new_bundle or_refuse refuse max_locale
+    pub new_2 : 3 < locale → gave (Err refusal.NoLocale) s [] ≡ new_bundle s locale isolating
+    unfolding gave answer_of number_of new_bundle or_refuse refuse max_locale
     new_2 h = rw (le-leb 9 (length s) l9, lt-leb locale 3 h)
 
-    pub new_3 : locale ≤ 3 → 1 < isolating → gave (answer.Refused 3) s [] ≡ new_bundle s locale isolating
-    unfolding gave answer_of new_bundle or_refuse refuse max_locale
+    pub new_3 : locale ≤ 3 → 1 < isolating → gave (Err refusal.NoFlag) s [] ≡ new_bundle s locale isolating
+    unfolding gave answer_of number_of new_bundle or_refuse refuse max_locale
     new_3 h k = rw (le-leb 9 (length s) l9, le-leb locale 3 h, lt-leb isolating 1 k)
 
-    pub new_done : locale ≤ 3 → isolating ≤ 1 → {a : List ℕ} → a ≡ over_fit s 0 (to_be 4 9) → gave (answer.Done 0) (set (set (set (set (set a 4 1) 5 locale) 6 isolating) 7 0) 8 0) [] ≡ new_bundle s locale isolating
-    unfolding gave answer_of new_bundle or_refuse succeed max_locale at_front new_bytes to_be
-    new_done h k {a} q =
-        let p : a ≡ sets s 0 (to_be 4 9) = q ∙ fits_sets s 0 (to_be 4 9) (omega arith) in
-        let w : set (set (set (set (set a 4 1) 5 locale) 6 isolating) 7 0) 8 0 ≡ sets s 0 (new_bytes locale isolating) = rw p in
-        let f : sets s 0 (new_bytes locale isolating) ≡ new_bytes locale isolating ++ drop 9 s = sets_over s 0 (new_bytes locale isolating) (omega arith) ∙ over_front s (new_bytes locale isolating) 9 refl in
-        rw (le-leb 9 (length s) l9, le-leb locale 3 h, le-leb isolating 1 k, new_is locale isolating k, w, f)
+    pub new_done : locale ≤ 3 → isolating ≤ 1 → gave (Ok 0) (new_bytes locale isolating ++ drop 9 s) [] ≡ new_bundle s locale isolating
+    unfolding gave answer_of new_bundle or_refuse succeed max_locale at_front new_bytes
+    new_done h k = rw (le-leb 9 (length s) l9, le-leb locale 3 h, le-leb isolating 1 k, new_is locale isolating k)

@@ -1,5 +1,5 @@
 -- The entries of the table, and which of them a number uses.
-use mathlib.Core.Path.{◌≡◌, refl, ap, sym, ◌∙◌}
+use mathlib.Core.Path.{◌≡◌, refl, ap, sym}
 use mathlib.Core.Bool.{Bool, true, false}
 use mathlib.Core.List.{List, [], ◌∷◌}
 use Prim.Native.Nat.{ℕ, zero, suc, ◌+◌, ◌%◌, ◌<◌, ◌≤◌}
@@ -16,16 +16,21 @@ read_inside [] k x y h = absurd (not-suc-le-zero h)
 read_inside (a ∷ l) zero x y h = refl
 read_inside (a ∷ l) (suc k) x y h = read_inside l k x y (le_of_suc-le-suc h)
 
--- an entry of the line that a test chose
-pub entry_of_law : (i : ℕ) {rule at : ℕ} → rule ≡ i → length (get_or held i []) ≡ 200 → at < 200 → get_or (get_or held i []) at 0 ≡ get_or (get_or held rule []) at 53
-entry_of_law i {rule} {at} e n h = read_inside (get_or held i []) at 0 53 (omega (arith, n)) ∙ ap (λ (j : ℕ). get_or (get_or held j []) at 53) (sym e)
+-- a line has 200 entries
+line_long : (rule : ℕ) → rule < 8 → length (get_or held rule []) ≡ 200
+unfolding held
+line_long zero h = refl
+line_long (suc zero) h = refl
+line_long (suc (suc zero)) h = refl
+line_long (suc (suc (suc zero))) h = refl
+line_long (suc (suc (suc (suc zero)))) h = refl
+line_long (suc (suc (suc (suc (suc zero))))) h = refl
+line_long (suc (suc (suc (suc (suc (suc zero)))))) h = refl
+line_long (suc (suc (suc (suc (suc (suc (suc zero))))))) h = refl
+line_long (suc (suc (suc (suc (suc (suc (suc (suc r)))))))) h = absurd (omega arith)
 
-past_four : (m n : ℕ) → m ≤ n → (n ≡ m → ⊥) → (n ≡ m + 1 → ⊥) → (n ≡ m + 2 → ⊥) → (n ≡ m + 3 → ⊥) → m + 4 ≤ n
-past_four m n h a b c d = omega arith
-
--- a number that is none of the lines' is past them all
-pub past_lines : (n : ℕ) → (n ≡ 0 → ⊥) → (n ≡ 1 → ⊥) → (n ≡ 2 → ⊥) → (n ≡ 3 → ⊥) → (n ≡ 4 → ⊥) → (n ≡ 5 → ⊥) → (n ≡ 6 → ⊥) → (n ≡ 7 → ⊥) → 8 ≤ n
-past_lines n a b c d e f g h = past_four 4 n (past_four 0 n (omega arith) a b c d) e f g h
+pub line_entry : (rule at : ℕ) → rule < 8 → at < 200 → get_or (get_or held rule []) at 0 ≡ get_or (get_or held rule []) at 53
+line_entry rule at h k = read_inside (get_or held rule []) at 0 53 (omega (arith, line_long rule h))
 
 -- a rule set that the table does not have
 pub no_line : (rule at : ℕ) → 8 ≤ rule → 53 ≡ get_or (get_or held rule []) at 53

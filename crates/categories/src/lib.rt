@@ -6,7 +6,7 @@ ghost use Rattle.categories.specs.Held.{held, held_digit};
 
 // The categories of 0 to 199 as digits, 0 zero, 1 one, 2 two, 3 few, 4 many, 5 other: a line for each rule set, of en, da, ru and cy, cardinal then ordinal.
 // The program `plural_table` prints these lines, from the written conditions.
-const TABLE: [[u8; 200]; 8] = [
+static TABLE: [[u8; 200]; 8] = [
     *b"51555555555555555555555555555555555555555555555555555555555555555555555555555555555555555555555555555555555555555555555555555555555555555555555555555555555555555555555555555555555555555555555555555555",
     *b"51235555555555555555512355555551235555555123555555512355555551235555555123555555512355555551235555555123555555555555555551235555555123555555512355555551235555555123555555512355555551235555555123555555",
     *b"51555555555555555555555555555555555555555555555555555555555555555555555555555555555555555555555555555555555555555555555555555555555555555555555555555555555555555555555555555555555555555555555555555555",
@@ -17,54 +17,26 @@ const TABLE: [[u8; 200]; 8] = [
     *b"01233440005555555555555555555555555555555555555555555555555555555555555555555555555555555555555555555555555555555555555555555555555555555555555555555555555555555555555555555555555555555555555555555555",
 ];
 
-// An entry of a line. The number of each line is written out: `TABLE[rule]` would have all 1,600 bytes copied to the stack, and this only the 200 of the line.
+// An entry of a line.
 fn entry(rule: usize, at: usize) -> u8
     requires { at < 200 }
     ensures { result ≡ get_or (get_or held rule []) at 53 }
 {
-    match rule {
-        0 => {
-            let line = TABLE[0];
-            line[at]
-        }
-        1 => {
-            let line = TABLE[1];
-            line[at]
-        }
-        2 => {
-            let line = TABLE[2];
-            line[at]
-        }
-        3 => {
-            let line = TABLE[3];
-            line[at]
-        }
-        4 => {
-            let line = TABLE[4];
-            line[at]
-        }
-        5 => {
-            let line = TABLE[5];
-            line[at]
-        }
-        6 => {
-            let line = TABLE[6];
-            line[at]
-        }
-        7 => {
-            let line = TABLE[7];
-            line[at]
-        }
-        _ => b'5',
+    if rule < TABLE.len() {
+        TABLE[rule][at]
+    } else {
+        b'5'
     }
 }
 
 // The digit that the table has for a whole number in a rule set, which is numbered as the lines are; `5` in one that has no line.
+#[tactic(auto, using(crate::proofs::Entries::entry_low, crate::proofs::Entries::entry_high), unfolding(crate::specs::Held::held_digit))]
 pub fn digit(rule: usize, n: u64) -> u8
     ensures { result ≡ held_digit rule n }
 {
     if n < 100 {
-        return entry(rule, n as usize);
+        entry(rule, n as usize)
+    } else {
+        entry(rule, (100 + n % 100) as usize)
     }
-    entry(rule, (100 + n % 100) as usize)
 }

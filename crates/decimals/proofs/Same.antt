@@ -1,18 +1,13 @@
 -- Laws of equal bytes.
-use mathlib.Core.Path.{◌≡◌, refl, ap, sym, ◌∙◌}
+use mathlib.Core.Path.{◌≡◌, refl, ap}
 use mathlib.Core.List.{List, [], ◌∷◌}
 use mathlib.Core.Bool.{Bool, true, false, ◌&&◌}
-use Prim.Native.Nat.{ℕ, suc, ◌+◌, ◌≤◌, ◌<◌}
-use native.Mathlib.Numerals.{add-one}
-use lib.ListN.{length, drop, get_or, drop_of_length-le}
-use lib.Seq.{drop-cons}
+use Prim.Native.Nat.{ℕ, suc, ◌≤◌}
+use lib.ListN.{length, drop, drop_of_length-le}
 use lib.Dec.{eqb}
-use borrow.Author.Tests.{eqb-true, eq-eqb, ne_eqb}
+use lib.Pointwise.{pointwise}
+use borrow.Author.Tests.{eqb-true, eq-eqb}
 use Rattle.decimals.specs.Bytes.{same_bytes}
-
-pub same_more : (a b : List ℕ) (i : ℕ) → i < length a → i < length b → same_bytes (drop i a) (drop i b) ≡ eqb (get_or a i 0) (get_or b i 0) && same_bytes (drop (i + 1) a) (drop (i + 1) b)
-unfolding same_bytes
-same_more a b i h k = rw (drop-cons a i 0 h, drop-cons b i 0 k, add-one)
 
 pub same_end : (a b : List ℕ) (i : ℕ) → length a ≤ i → length b ≤ i → same_bytes (drop i a) (drop i b) ≡ true
 unfolding same_bytes
@@ -40,14 +35,6 @@ same_eq (x ∷ a) (y ∷ b) h = go (eqb x y) refl (same_eq a b) h
     go true e f k = let p = eqb-true x y e in let q = f k in cc
     go false e f k = cc
 
--- a turn of the loop
-module _ (a b : List ℕ) (i : ℕ) {x : Bool} (h : i < length a) (k : i < length b) (inv : same_bytes (drop i a) (drop i b) ≡ x) where
-  pub same_turn : get_or a i 0 ≡ get_or b i 0 → same_bytes (drop (i + 1) a) (drop (i + 1) b) ≡ x
-  same_turn e = sym (rw (eq-eqb (get_or a i 0) (get_or b i 0) e) at (same_more a b i h k)) ∙ inv
-
-  pub same_differs : (get_or a i 0 ≡ get_or b i 0 → ⊥) → false ≡ x
-  same_differs f = sym (rw (ne_eqb (get_or a i 0) (get_or b i 0) f) at (same_more a b i h k)) ∙ inv
-
 -- equal bytes test as equal
 pub same_refl : (a : List ℕ) → same_bytes a a ≡ true
 unfolding same_bytes
@@ -56,3 +43,11 @@ same_refl (x ∷ a) = rw (eq-eqb x x refl, same_refl a)
 
 pub eq_same : (a b : List ℕ) → a ≡ b → same_bytes a b ≡ true
 eq_same a b e = rw e (same_refl b)
+
+-- what `==` answers of two slices
+pub pointwise_same : (a b : List ℕ) → pointwise eqb a b ≡ same_bytes a b
+unfolding same_bytes
+pointwise_same [] [] = refl
+pointwise_same [] (y ∷ b) = refl
+pointwise_same (x ∷ a) [] = refl
+pointwise_same (x ∷ a) (y ∷ b) = ap (λ (t : Bool). eqb x y && t) (pointwise_same a b)

@@ -5,10 +5,10 @@ ghost use Rattle.decimals.specs.Text.{digits_of, decimal, sign_text, fraction_te
 ghost use Rattle.decimals.specs.Relations.Shown.{told, told_count, held_text};
 ghost use Rattle.decimals.specs.Relations.Adds.{Adds};
 
-use crate::types::{Count, DIGITS_LIMIT, FRACTION_LIMIT, Number, NumberText, Options, SCALE_LIMIT};
+use crate::types::{DIGITS_LIMIT, FRACTION_LIMIT, Number, NumberText, Options, SCALE_LIMIT};
 
 // A decimal without sign and options.
-#[derive(Clone, Copy)]
+#[derive(Clone, Copy, PartialEq, Eq)]
 pub struct Decimal {
     pub digits: u64,
     pub scale: u8,
@@ -20,19 +20,13 @@ pub fn shortest(digits: u64, scale: u8) -> Decimal
 {
     let mut d = digits;
     let mut s = scale;
-    while 0 < s {
-        if d % 10 != 0 {
-            return Decimal {
-                digits: d,
-                scale: s,
-            };
-        }
-        d = d / 10;
+    while 0 < s && d % 10 == 0 {
+        d /= 10;
         s -= 1;
     }
     Decimal {
         digits: d,
-        scale: 0,
+        scale: s,
     }
 }
 
@@ -40,27 +34,20 @@ pub fn shortest(digits: u64, scale: u8) -> Decimal
 pub fn whole(digits: u64, scale: u8) -> u64
     ensures { result ≡ digits / 10 ^ scale }
 {
-    let mut d = digits;
-    let mut s = scale;
-    while 0 < s {
-        d = d / 10;
-        s -= 1;
+    match 10u64.checked_pow(u32::from(scale)) {
+        Some(power) => digits / power,
+        None => 0,
     }
-    d
 }
 
 // A text with a byte added.
-fn push(t: NumberText, b: u8) -> NumberText
+fn push(mut t: NumberText, b: u8) -> NumberText
     requires { t.len < text_limit }
     ensures { Adds t (b ∷ []) result }
 {
-    let at = t.len;
-    let mut bytes = t.bytes;
-    bytes[at] = b;
-    NumberText {
-        bytes: bytes,
-        len: at + 1,
-    }
+    t.bytes[t.len] = b;
+    t.len += 1;
+    t
 }
 
 // A text with the lowest w digits of n added.
@@ -98,6 +85,7 @@ fn push_zeros(t: NumberText, n: u64) -> NumberText
     push_zeros(push(t, 48), n - 1)
 }
 
+#[tactic(auto, using(crate::proofs::Writing::adds_none), unfolding(crate::specs::Text::sign_text))]
 fn push_sign(t: NumberText, negative: bool) -> NumberText
     requires { t.len < text_limit }
     ensures { Adds t (sign_text negative) result }
@@ -108,22 +96,12 @@ fn push_sign(t: NumberText, negative: bool) -> NumberText
     t
 }
 
-// A count, 0 where it is not set.
-fn or_zero(m: Count) -> u64
-    ensures { result ≡ or_zero (told_count m) }
-{
-    match m {
-        Count::Unset => 0,
-        Count::Set(k) => k,
-    }
-}
-
 // A text with a fraction added: a dot, s digits, and zeros up to the minimum; nothing where there are no digits.
-fn push_fraction(t: NumberText, m: Count, d: u64, s: u64) -> NumberText
+fn push_fraction(t: NumberText, m: Option<u64>, d: u64, s: u64) -> NumberText
     requires { t.len + length (fraction_text (told_count m) d s) ≤ text_limit }
     ensures { Adds t (fraction_text (told_count m) d s) result }
 {
-    let k = or_zero(m);
+    let k = m.unwrap_or(0);
     if k <= s {
         if s == 0 {
             return t;
@@ -133,6 +111,7 @@ fn push_fraction(t: NumberText, m: Count, d: u64, s: u64) -> NumberText
     push_zeros(push_digits(push(t, 46), s, d), k - s)
 }
 
+#[tactic(auto, unfolding(crate::specs::Text::padded))]
 fn empty() -> NumberText
     ensures { result ≡ held_text [] }
 {
@@ -142,18 +121,13 @@ fn empty() -> NumberText
     }
 }
 
+#[tactic(auto, using(crate::proofs::Shown::unset_zero, std::proofs::lemmas::Bool::Decides::nat_tests), unfolding(crate::specs::Text::in_range))]
 fn in_range(n: Number) -> bool
     ensures { result ≡ in_range (told n) }
 {
-    if DIGITS_LIMIT <= n.digits {
-        return false;
-    }
-    if SCALE_LIMIT < n.scale {
-        return false;
-    }
-    let o = n.options;
-    let m = o.minimum_fraction_digits;
-    or_zero(m) <= FRACTION_LIMIT
+    n.digits < DIGITS_LIMIT
+        && n.scale <= SCALE_LIMIT
+        && n.options.minimum_fraction_digits.unwrap_or(0) <= FRACTION_LIMIT
 }
 
 // The text of a number in range, no bytes for any other; behind it zeros.
@@ -162,11 +136,14 @@ pub fn number_text(n: Number) -> NumberText
 {
     if in_range(n) {
         let q = shortest(n.digits, n.scale);
-        let o = n.options;
-        let m = o.minimum_fraction_digits;
         let t = push_sign(empty(), n.negative);
         let u = push_whole(t, whole(q.digits, q.scale));
-        return push_fraction(u, m, q.digits, q.scale as u64);
+        return push_fraction(
+            u,
+            n.options.minimum_fraction_digits,
+            q.digits,
+            q.scale as u64,
+        );
     }
     empty()
 }

@@ -1,11 +1,11 @@
 -- Where a decoder reads, the outline says the same: each record ends where its outline does, and heads say what was read. For callers:
 -- past an entry and past an item.
+use Rattle.records.specs.Relations.Answer.{Next}
+use Rattle.std.specs.Prelude.{Some, None}
 use mathlib.Core.Path.{◌≡◌, refl, ap, sym, subst, ◌∙◌}
 use mathlib.Core.List.{List, [], ◌∷◌}
 use Prim.Native.Nat.{ℕ, zero, suc, ◌+◌, ◌-◌, ◌<◌}
 use native.Mathlib.Omega.{arith}
-use Rattle.records.specs.declared.Next.{Next}
-use Rattle.records.specs.declared.Next.TheVariants as next
 use Rattle.records.specs.Got.{Got, got, bad, Parser, after, pick}
 use Rattle.records.specs.Relations.Answer.{next_of}
 use Rattle.records.specs.Bytes.{part, bytes_at, number_at, span_at, str_at}
@@ -107,17 +107,17 @@ module _ (s : List ℕ) (n at : ℕ) (z : 0 < n) {es : List Entry} {f : ℕ} (q 
   first_unread h = many_cons [] ◌∷◌ entry_at s n at z q (λ x e r hx _ _. entry_parts s at hx (λ a i j hi _ _ _. never h hi))
 
   module _ {r : Next} (is : r ≡ next_of (entry_outline s at)) where
-    pub first_endless : r ≡ next.Bad → C
+    pub first_endless : r ≡ None → C
     first_endless h = many_cons [] ◌∷◌ entry_at s n at z q (λ x e t hx _ _. never (next_none is h) (entry_ends s at x e hx).1)
 
-    pub first_ends : {i : ℕ} → r ≡ next.At i → ((x : Entry) (t : List Entry) → entry_at s at ≡ got x i → many [] ◌∷◌ (n - 1) entry_at s i ≡ got t f → es ≡ x ∷ t → C) → C
+    pub first_ends : {i : ℕ} → r ≡ Some i → ((x : Entry) (t : List Entry) → entry_at s at ≡ got x i → many [] ◌∷◌ (n - 1) entry_at s i ≡ got t f → es ≡ x ∷ t → C) → C
     first_ends {i} h c =
         many_cons [] ◌∷◌ entry_at s n at z q (λ x e t hx ht el.
         let ei : e ≡ i = sym (next_end_is is h (entry_ends s at x e hx).1) in
         c x t (hx ∙ ap (got x) ei) (subst (λ (k : ℕ). many [] ◌∷◌ (n - 1) entry_at s k ≡ got t f) ei ht) el)
 
 -- the same for the entries behind k of `count`
-pub turn_ends : {C : Type 0} (s : List ℕ) (count k at : ℕ) {es : List Entry} {f i : ℕ} {r : Next} → k < count → many [] ◌∷◌ (count - k) entry_at s at ≡ got es f → r ≡ next_of (entry_outline s at) → r ≡ next.At i
+pub turn_ends : {C : Type 0} (s : List ℕ) (count k at : ℕ) {es : List Entry} {f i : ℕ} {r : Next} → k < count → many [] ◌∷◌ (count - k) entry_at s at ≡ got es f → r ≡ next_of (entry_outline s at) → r ≡ Some i
     → ((x : Entry) (t : List Entry) → entry_at s at ≡ got x i → many [] ◌∷◌ (count - (k + 1)) entry_at s i ≡ got t f → es ≡ x ∷ t → C) → C
 turn_ends s count k at {f = f} {i = i} lt q is h c =
     first_ends s (count - k) at (omega arith) q is h (λ x t hx ht el.

@@ -2,7 +2,8 @@
 use mathlib.Core.Path.{◌≡◌, refl, ap, sym, ◌∙◌}
 use mathlib.Core.Bool.{Bool, true, false}
 use mathlib.Core.List.{List, [], ◌∷◌}
-use mathlib.Core.Option.{Option, some, none}
+use mathlib.Core.Option.{Option as Maybe, some, none}
+use Rattle.std.specs.Prelude.{Option, Some, None}
 use Prim.Native.Nat.{ℕ, ◌-◌}
 use lib.ListN.{get_or}
 use lib.Dec.{eqb}
@@ -14,8 +15,8 @@ use Rattle.decimals.specs.Bytes.{same_bytes}
 use Rattle.records.specs.Decode.{many}
 use Rattle.records.specs.Images.{Entry, Item, Store, is_some, entry_at, resource_at, function_at, item_at, store_of}
 use Rattle.records.proofs.Laws.{after_is, byte_inv}
-use Rattle.entries.specs.declared.Found.{Found}
-use Rattle.entries.specs.declared.Found.TheVariants as found
+use Rattle.entries.specs.declared.Holder.{Holder as Held}
+use Rattle.entries.specs.declared.Holder.TheVariants as found
 use Rattle.entries.specs.Lookup.{Holder, first_entry, last_entry, holder_after, find_from, find_in}
 use Rattle.records.specs.Names.{first_named}
 use Rattle.entries.specs.Lookup.{last_named}
@@ -29,35 +30,35 @@ use Rattle.entries.proofs.Held.{held_found}
 use Rattle.entries.proofs.Decoded.{Each, many_heads, entry_ends, item_ends}
 
 -- of two holders the first
-or_held : {s : List ℕ} {o : Option Holder} {x : Found} (p : Option Holder) → HolderAt s o x → (x ≡ found.Nothing → ⊥) → HolderAt s (or_else o p) x
+or_held : {s : List ℕ} {o : Maybe Holder} {x : Option Held} (p : Maybe Holder) → HolderAt s o x → (x ≡ None → ⊥) → HolderAt s (or_else o p) x
 unfolding or_else
 or_held p (is_message_at q e f h w k he) n = is_message_at q e f h (rw w) k he
 or_held p (term_at q e f h w k he) n = term_at q e f h (rw w) k he
 or_held p (is_function_at h w) n = is_function_at h (rw w)
 or_held p (nothing_at h w) n = absurd (n h)
 
-or_other : {s : List ℕ} {o p : Option Holder} {x y : Found} → HolderAt s o x → x ≡ found.Nothing → HolderAt s p y → HolderAt s (or_else o p) y
+or_other : {s : List ℕ} {o p : Maybe Holder} {x y : Option Held} → HolderAt s o x → x ≡ None → HolderAt s p y → HolderAt s (or_else o p) y
 unfolding or_else
 or_other {s} {o} {p} {x} {y} (is_message_at q e f h w k he) n v = let z : ◌≡◌ {A = ℕ} 0 1 = cc in absurd (omega arith)
 or_other {s} {o} {p} {x} {y} (term_at q e f h w k he) n v = let z : ◌≡◌ {A = ℕ} 0 1 = cc in absurd (omega arith)
 or_other {s} {o} {p} {x} {y} (is_function_at h w) n v = let z : ◌≡◌ {A = ℕ} 0 1 = cc in absurd (omega arith)
 or_other {s} {o} {p} {x} {y} (nothing_at h w) n v = rw w v
 
-message_there : {q : ℕ} → found.Message q ≡ found.Nothing → ⊥
+message_there : {q : ℕ} → Some (found.Message q) ≡ None → ⊥
 message_there h = let z : ◌≡◌ {A = ℕ} 0 1 = cc in omega arith
 
-term_there : {q : ℕ} → found.Term q ≡ found.Nothing → ⊥
+term_there : {q : ℕ} → Some (found.Term q) ≡ None → ⊥
 term_there h = let z : ◌≡◌ {A = ℕ} 0 1 = cc in omega arith
 
-function_there : found.Function ≡ found.Nothing → ⊥
+function_there : Some found.Function ≡ None → ⊥
 function_there h = let z : ◌≡◌ {A = ℕ} 0 1 = cc in omega arith
 
 module _ (s : List ℕ) where
   -- what the outline locates holds the id
-  abbrev pub Holds : Option Holder → Option Location → Type 0
+  abbrev pub Holds : Maybe Holder → Maybe Location → Type 0
   Holds o p = HolderAt s o (found_of p)
 
-  or_holds : (o o' : Option Holder) (p p' : Option Location) → Holds o p → Holds o' p' → Holds (or_else o o') (or_else p p')
+  or_holds : (o o' : Maybe Holder) (p p' : Maybe Location) → Holds o p → Holds o' p' → Holds (or_else o o') (or_else p p')
   unfolding found_of or_else
   or_holds o o' none p' h k = or_other h refl k
   or_holds o o' (some (Location.message q)) p' h k = or_held o' h message_there
@@ -113,7 +114,7 @@ module _ (s : List ℕ) where
 
   -- an item: what it makes of what held the id before
   abbrev ItemRow : Item → Ids → Type 0
-  ItemRow x ids = (i : List ℕ) (o : Option Holder) (p : Option Location) → Holds o p → Holds (holder_after x i o) (located_after ids i p)
+  ItemRow x ids = (i : List ℕ) (o : Maybe Holder) (p : Maybe Location) → Holds o p → Holds (holder_after x i o) (located_after ids i p)
 
   item_says : (at : ℕ) (x : Item) (f : ℕ) → item_at s at ≡ got x f → (ids : Ids) × (e : ℕ) × (item_head s at ≡ got ids e) × ItemRow x ids
   unfolding item_head ids_by holder_after located_after function_in list_after first_named found_of
@@ -128,7 +129,7 @@ module _ (s : List ℕ) where
           function_parts s at h (λ m q a _ _ hs en _.
           rw (behind_str 6 s at hs, ← en, or_none) (named_holds (same_bytes n i) Holder.function Location.function (is_function_at refl refl)))
 
-  pub from_holds : (xs : List Item) (l : List Ids) → Each ItemRow xs l → (i : List ℕ) (o : Option Holder) (p : Option Location) → Holds o p → Holds (find_from xs i o) (locate_from l i p)
+  pub from_holds : (xs : List Item) (l : List Ids) → Each ItemRow xs l → (i : List ℕ) (o : Maybe Holder) (p : Maybe Location) → Holds o p → Holds (find_from xs i o) (locate_from l i p)
   unfolding find_from locate_from
   from_holds [] [] h i o p k = k
   from_holds [] (y ∷ l) h i o p k = absurd h
@@ -143,14 +144,14 @@ module _ (s : List ℕ) where
       rw hk (from_holds st.items _ (many_heads ItemRow item_at item_head item_outline s (item_ends s) item_says k 9 st.items f hm) i none none (nothing_at refl refl)))
 
   -- for callers
-  pub holder_at : (i : List ℕ) {r : Found} → r ≡ found_of (locate s i) → (st : Store) (f : ℕ) → store_of s ≡ got st f → HolderAt s (find_in st.items i) r
+  pub holder_at : (i : List ℕ) {r : Option Held} → r ≡ found_of (locate s i) → (st : Store) (f : ℕ) → store_of s ≡ got st f → HolderAt s (find_in st.items i) r
   holder_at i is st f h = rw is (located i st f h)
 
-  same_some : {o : Option Holder} (p : Option Location) → Holds o p → is_some p ≡ is_some o
+  same_some : {o : Maybe Holder} (p : Maybe Location) → Holds o p → is_some p ≡ is_some o
   unfolding is_some held_by
   same_some {o} p h = ap is_some (sym (held_found p)) ∙ go h
     where
-      go : {r : Found} → HolderAt s o r → is_some (held_by r) ≡ is_some o
+      go : {r : Option Held} → HolderAt s o r → is_some (held_by r) ≡ is_some o
       go (is_message_at q e f h w k he) = rw (h, w)
       go (term_at q e f h w k he) = rw (h, w)
       go (is_function_at h w) = rw (h, w)

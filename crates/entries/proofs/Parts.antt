@@ -1,10 +1,10 @@
 -- The parts of an entry that decodes: where the outline places a pattern, that pattern stands.
+use Rattle.records.specs.Relations.Answer.{Next}
 use mathlib.Core.Path.{◌≡◌, refl}
 use mathlib.Core.Bool.{Bool, true, false}
 use mathlib.Core.List.{List, [], ◌∷◌}
 use mathlib.Core.Option.{Option, some, none}
 use Prim.Native.Nat.{ℕ}
-use Rattle.records.specs.declared.Next.{Next}
 use Rattle.records.specs.Got.{got, after, test}
 use Rattle.records.specs.Bytes.{str_at}
 use Rattle.decimals.specs.Bytes.{same_bytes}

@@ -1,4 +1,6 @@
 -- Steps of the walkers, on any bytes: what is read behind a head; of a list that goes as far as its records can be read, what stands first and what is left.
+use Rattle.records.specs.Relations.Answer.{Next, Num}
+use Rattle.std.specs.Prelude.{Some, None}
 use mathlib.Core.Path.{◌≡◌, refl, ap, sym, ◌∙◌}
 use mathlib.Core.Bool.{Bool, true, false}
 use mathlib.Core.List.{List, [], ◌∷◌}
@@ -7,10 +9,6 @@ use Prim.Native.Nat.{ℕ, zero, suc, ◌-◌, ◌≤◌, ◌<◌}
 use native.Mathlib.Omega.{arith}
 use lib.ListN.{length, get_or}
 use lib.Dec.{eqb}
-use Rattle.records.specs.declared.Next.{Next}
-use Rattle.records.specs.declared.Num.{Num}
-use Rattle.records.specs.declared.Next.TheVariants as next
-use Rattle.records.specs.declared.Num.TheVariants as num
 use Rattle.records.specs.Got.{Got, got, bad, Parser, after}
 use Rattle.records.specs.Relations.Answer.{next_of, num_of}
 use Rattle.records.specs.Bytes.{part, bytes_at, span_at, str_at}
@@ -29,15 +27,15 @@ use Rattle.entries.proofs.Open.{behind_is}
 
 -- behind a head
 module _ (n : ℕ) (p : Parser ℕ) (s : List ℕ) (at : ℕ) {r : Next} (is : r ≡ next_of (bytes_at n s at)) where
-  pub behind_stop : r ≡ next.Bad → num.Bad ≡ num_of (behind n p s at)
+  pub behind_stop : r ≡ None → None ≡ num_of (behind n p s at)
   unfolding behind after num_of
   behind_stop h = rw (next_none is h)
 
-  pub behind_step : {i : ℕ} {x : Num} → r ≡ next.At i → x ≡ num_of (p s i) → x ≡ num_of (behind n p s at)
+  pub behind_step : {i : ℕ} {x : Num} → r ≡ Some i → x ≡ num_of (p s i) → x ≡ num_of (behind n p s at)
   behind_step {i} {x} h q = next_is is h (λ bs hb. q ∙ ap num_of (sym (behind_is n p s at hb)))
 
 -- where a Str behind a head stands
-pub behind_in : (n : ℕ) (s : List ℕ) (at : ℕ) {r : Num} {a e : ℕ} → r ≡ num_of (behind n span_at s at) → r ≡ num.At a e → (a ≤ e) × (e ≤ length s)
+pub behind_in : (n : ℕ) (s : List ℕ) (at : ℕ) {r : Num} {a e : ℕ} → r ≡ num_of (behind n span_at s at) → r ≡ Some (a, e) → (a ≤ e) × (e ≤ length s)
 unfolding behind
 behind_in n s at is h = after_elim (bytes_at n s at) _ (num_is is h) (λ bs i _ q. span_in s i q)
 
@@ -55,10 +53,10 @@ behind_no_str n s at h = go (bytes_at n s at) h
     go bad q = refl
 
 -- an answer that holds whatever is asked, as nothing is read there
-pub not_read : {A C : Type 0} {g : Got A} → Passes g next.Bad → (a : A) (f : ℕ) → g ≡ got a f → C
+pub not_read : {A C : Type 0} {g : Got A} → Passes g None → (a : A) (f : ℕ) → g ≡ got a f → C
 not_read h a f q = let w = h a f q in let z : ◌≡◌ {A = ℕ} 0 1 = cc in absurd (omega arith)
 
-pub end_of : {A : Type 0} {g : Got A} {i : ℕ} → Passes g (next.At i) → (a : A) (f : ℕ) → g ≡ got a f → f ≡ i
+pub end_of : {A : Type 0} {g : Got A} {i : ℕ} → Passes g (Some i) → (a : A) (f : ℕ) → g ≡ got a f → f ≡ i
 end_of h a f q = let w = h a f q in cc
 
 pub told : {A : Type 0} {g : Got A} {r x : Next} → Passes g r → r ≡ x → Passes g x
@@ -129,11 +127,11 @@ module _ {A B : Type 0} (head : Parser (List ℕ × A)) (whole : Parser B) (s i 
     pub first_here : same_bytes x.0 i ≡ true → FirstOf n at ≡ some x.1
     first_here y = let w = list_first head whole s n at z h in ap (first_named i) w.1 ∙ named_here i x w.0 y
 
-    pub first_stuck : {r : Next} → same_bytes x.0 i ≡ false → r ≡ next_of (whole s at) → r ≡ next.Bad → FirstOf n at ≡ none
+    pub first_stuck : {r : Next} → same_bytes x.0 i ≡ false → r ≡ next_of (whole s at) → r ≡ None → FirstOf n at ≡ none
     unfolding first_named
     first_stuck y is b = ap (first_named i) (list_stuck head whole s n at z h (next_none is b)) ∙ named_past i x [] y
 
-    pub first_next : {r : Next} {f : ℕ} → same_bytes x.0 i ≡ false → r ≡ next_of (whole s at) → r ≡ next.At f → FirstOf n at ≡ FirstOf (n - 1) f
+    pub first_next : {r : Next} {f : ℕ} → same_bytes x.0 i ≡ false → r ≡ next_of (whole s at) → r ≡ Some f → FirstOf n at ≡ FirstOf (n - 1) f
     first_next {f = f} y is k = next_is is k (λ b w. ap (first_named i) (list_next head whole s n at z h w) ∙ named_past i x (readable (n - 1) head whole s f) y)
 
   -- with the one found so far
@@ -149,21 +147,21 @@ module _ {A B : Type 0} (head : Parser (List ℕ × A)) (whole : Parser B) (s i 
   last_bad n at o h = ap (λ (l : List (List ℕ × A)). or_else (last_named i l) o) (list_bad head whole s n at h)
 
   module _ (n at : ℕ) (o : Option A) (z : 0 < n) {x : List ℕ × A} {e : ℕ} (h : head s at ≡ got x e) where
-    pub last_stuck : {r : Next} → r ≡ next_of (whole s at) → r ≡ next.Bad → LastOf n at o ≡ or_else (option_of (same_bytes x.0 i) x.1) o
+    pub last_stuck : {r : Next} → r ≡ next_of (whole s at) → r ≡ None → LastOf n at o ≡ or_else (option_of (same_bytes x.0 i) x.1) o
     unfolding last_named or_else
     last_stuck is b = ap (λ (l : List (List ℕ × A)). or_else (last_named i l) o) (list_stuck head whole s n at z h (next_none is b)) ∙ last_more i x [] o
 
-    pub last_next : {r : Next} {f : ℕ} → r ≡ next_of (whole s at) → r ≡ next.At f → LastOf n at o ≡ LastOf (n - 1) f (or_else (option_of (same_bytes x.0 i) x.1) o)
+    pub last_next : {r : Next} {f : ℕ} → r ≡ next_of (whole s at) → r ≡ Some f → LastOf n at o ≡ LastOf (n - 1) f (or_else (option_of (same_bytes x.0 i) x.1) o)
     last_next {f = f} is k =
         next_is is k (λ b w.
         ap (λ (l : List (List ℕ × A)). or_else (last_named i l) o) (list_next head whole s n at z h w) ∙ last_more i x (readable (n - 1) head whole s f) o)
 
 -- the heads, from what the code reads
-pub entry_head_law : (s : List ℕ) (at : ℕ) {r : Num} {a e : ℕ} → r ≡ num_of (behind 1 span_at s at) → r ≡ num.At a e → entry_head s at ≡ got (part s a (e - a), kind_as (eqb (get_or s at 0) 1) at) e
+pub entry_head_law : (s : List ℕ) (at : ℕ) {r : Num} {a e : ℕ} → r ≡ num_of (behind 1 span_at s at) → r ≡ Some (a, e) → entry_head s at ≡ got (part s a (e - a), kind_as (eqb (get_or s at 0) 1) at) e
 unfolding entry_head
 entry_head_law s at is h = after_is (behind 1 str_at s at) _ (behind_str 1 s at (num_is is h))
 
-pub entry_no_head : (s : List ℕ) (at : ℕ) {r : Num} → r ≡ num_of (behind 1 span_at s at) → r ≡ num.Bad → entry_head s at ≡ bad
+pub entry_no_head : (s : List ℕ) (at : ℕ) {r : Num} → r ≡ num_of (behind 1 span_at s at) → r ≡ None → entry_head s at ≡ bad
 unfolding entry_head after
 entry_no_head s at is h = rw (behind_no_str 1 s at (num_none is h))
 
@@ -180,9 +178,9 @@ unfolding attribute_outline pattern_outline
 attribute_past s at {e = e} h q = next_end (λ b. tt) (sized_at 4 s e) q ∙ ap next_of (sym (after_is (str_at s at) _ h))
 
 module _ (s : List ℕ) (at : ℕ) {r : Next} (is : r ≡ next_of (str_at s at)) where
-  pub attribute_stop : r ≡ next.Bad → next.Bad ≡ next_of (attribute_outline s at)
+  pub attribute_stop : r ≡ None → None ≡ next_of (attribute_outline s at)
   unfolding attribute_outline
   attribute_stop h = next_stop (str_at s at) _ is h
 
-  pub attribute_step : {p : ℕ} {x : Next} → r ≡ next.At p → x ≡ next_of (sized_at 4 s p) → x ≡ next_of (attribute_outline s at)
+  pub attribute_step : {p : ℕ} {x : Next} → r ≡ Some p → x ≡ next_of (sized_at 4 s p) → x ≡ next_of (attribute_outline s at)
   attribute_step h q = next_is is h (λ t w. attribute_past s at w q)

@@ -7,9 +7,8 @@ pub mod resource;
 
 // What holds an id, and where its entry stands in the store.
 #[derive(Clone, Copy)]
-pub enum Found {
+pub enum Holder {
     Message(usize),
     Term(usize),
     Function,
-    Nothing,
 }

@@ -5,8 +5,9 @@ use mathlib.Core.List.{List}
 use Prim.Native.Nat.{ℕ}
 use Rattle.bundle.specs.Additions.{Added}
 use Rattle.bundle.specs.Gives.{answer_of, gave}
-use Rattle.bundle.specs.declared.Answer.{Answer}
-use Rattle.bundle.specs.declared.Answer.TheVariants as answer
+use Rattle.std.specs.Prelude.{Result, Ok, Err}
+use Rattle.refusals.specs.declared.Refusal.{Refusal}
+use Rattle.refusals.specs.Numbers as refusals
 use Rattle.exports.specs.Numbers.{number_of, count_of}
 
 -- the number n, the slice s, the list l and the count k' are those of what an operation gave, over the count k
@@ -14,15 +15,15 @@ abbrev Told : ℕ → List ℕ → List ℕ → ℕ → ℕ → Added → Type 0
 Told n s l k k' x = (n ≡ number_of x.answer) × (s ≡ x.slice) × (l ≡ x.list) × (k' ≡ count_of x.answer k)
 
 -- done: the number is 0, and the count the answer's
-pub done_told : {r : Answer} {n : ℕ} {s l : List ℕ} {x : Added} (k : ℕ) → gave r s l ≡ x → r ≡ answer.Done n → Told 0 s l k n x
+pub done_told : {r : Result ℕ Refusal} {n : ℕ} {s l : List ℕ} {x : Added} (k : ℕ) → gave r s l ≡ x → r ≡ Ok n → Told 0 s l k n x
 unfolding gave answer_of number_of count_of
 done_told {s = s} {l = l} k h is =
-    let e : gave (answer.Done _) s l ≡ _ = sym (ap (λ (r : Answer). gave r s l) is) ∙ h in
+    let e : gave (Ok _) s l ≡ _ = sym (ap (λ (r : Result ℕ Refusal). gave r s l) is) ∙ h in
     (ap (λ (a : Added). number_of a.answer) e, ap (λ (a : Added). a.slice) e, ap (λ (a : Added). a.list) e, ap (λ (a : Added). count_of a.answer k) e)
 
 -- refused: the number is the refusal's, and the count as before
-pub refused_told : {r : Answer} {n : ℕ} {s l : List ℕ} {x : Added} (k : ℕ) → gave r s l ≡ x → r ≡ answer.Refused n → Told n s l k k x
+pub refused_told : {r : Result ℕ Refusal} {f : Refusal} {n : ℕ} {s l : List ℕ} {x : Added} (k : ℕ) → gave r s l ≡ x → r ≡ Err f → n ≡ refusals.number_of f → Told n s l k k x
 unfolding gave answer_of number_of count_of
-refused_told {s = s} {l = l} k h is =
-    let e : gave (answer.Refused _) s l ≡ _ = sym (ap (λ (r : Answer). gave r s l) is) ∙ h in
-    (ap (λ (a : Added). number_of a.answer) e, ap (λ (a : Added). a.slice) e, ap (λ (a : Added). a.list) e, ap (λ (a : Added). count_of a.answer k) e)
+refused_told {s = s} {l = l} k h is en =
+    let e : gave (Err _) s l ≡ _ = sym (ap (λ (r : Result ℕ Refusal). gave r s l) is) ∙ h in
+    (en ∙ ap (λ (a : Added). number_of a.answer) e, ap (λ (a : Added). a.slice) e, ap (λ (a : Added). a.list) e, ap (λ (a : Added). count_of a.answer k) e)

@@ -6,15 +6,19 @@
 
 ghost use Rattle.std.specs.Prelude.{◌≡◌};
 ghost use Rattle.bundle.specs.Additions.{new_bundle, add_resource, add_resource_overriding, add_function};
-ghost use Rattle.records.specs.Optional.{option_of};
+ghost use Rattle.records.specs.Optional.{lent, option_of};
 ghost use Rattle.resolution.specs.Format.{format};
 ghost use Rattle.theorems.specs.HighestUse.{highest_use};
 ghost use Rattle.sheets.specs.Sheet.{format_sheet};
 ghost use Rattle.sheet_theorems.specs.HighestUse.{sheet_highest_use};
 ghost use Rattle.exports.specs.Numbers.{number_of, count_of, handed, used_after};
 
-use bundle::Answer;
-use resolver::format::Answer as Formatted;
+// The attribute, where it is asked for.
+fn named<'a>(has: bool, attribute: &'a [u8]) -> Option<&'a [u8]>
+    ensures { lent result ≡ option_of has attribute.now }
+{
+    if has { Some(attribute) } else { None }
+}
 
 // A new bundle at the front of a slice. Refusals: 1, 2, 3.
 #[unsafe(no_mangle)]
@@ -23,8 +27,8 @@ pub extern "C" fn weszlagyo_new(slice: &mut [u8], locale: u8, isolating: u8) -> 
     ensures slice_after { slice.new ≡ (new_bundle slice.old locale isolating).slice }
 {
     match bundle::new(slice, locale, isolating) {
-        Answer::Done(_) => 0,
-        Answer::Refused(n) => n,
+        Ok(_) => 0,
+        Err(refusal) => refusal.number(),
     }
 }
 
@@ -42,11 +46,11 @@ pub extern "C" fn weszlagyo_add_resource(
     ensures count_after { count.new ≡ count_of (add_resource slice.old image.now list.old).answer count.old }
 {
     match bundle::add_resource(slice, image, list) {
-        Answer::Done(n) => {
+        Ok(n) => {
             *count = n;
             0
         }
-        Answer::Refused(n) => n,
+        Err(refusal) => refusal.number(),
     }
 }
 
@@ -57,8 +61,8 @@ pub extern "C" fn weszlagyo_add_resource_overriding(slice: &mut [u8], image: &[u
     ensures slice_after { slice.new ≡ (add_resource_overriding slice.old image.now).slice }
 {
     match bundle::add_resource_overriding(slice, image) {
-        Answer::Done(_) => 0,
-        Answer::Refused(n) => n,
+        Ok(_) => 0,
+        Err(refusal) => refusal.number(),
     }
 }
 
@@ -69,8 +73,8 @@ pub extern "C" fn weszlagyo_add_function(slice: &mut [u8], id: &[u8], code: u8) 
     ensures slice_after { slice.new ≡ (add_function slice.old id.now code).slice }
 {
     match bundle::add_function(slice, id, code) {
-        Answer::Done(_) => 0,
-        Answer::Refused(n) => n,
+        Ok(_) => 0,
+        Err(refusal) => refusal.number(),
     }
 }
 
@@ -102,8 +106,16 @@ pub extern "C" fn weszlagyo_format<'a>(
         } }
     ensures used_after { used.new ≡ used_after result (highest_use store.now id.now (option_of has attribute.now) arguments.now) used.old }
 {
-    match resolver::format::format(store, id, has, attribute, arguments, text, list, work) {
-        Formatted::Finished(f) => {
+    match resolver::format::format(
+        store,
+        id,
+        named(has, attribute),
+        arguments,
+        text,
+        list,
+        work,
+    ) {
+        Ok(f) => {
             *written = f.text;
             *errors = f.errors;
             *begun = f.begun;
@@ -111,8 +123,7 @@ pub extern "C" fn weszlagyo_format<'a>(
             *used = f.work;
             0
         }
-        Formatted::Refused(n) => n,
-        Formatted::Cleared(n) => n,
+        Err(failure) => failure.number(),
     }
 }
 
@@ -142,7 +153,7 @@ pub extern "C" fn weszlagyo_format_sheet<'a>(
     ensures used_after { used.new ≡ used_after result (sheet_highest_use store.now sheet.now) used.old }
 {
     match sheet_format::format_sheet(store, sheet, text, list, work) {
-        Formatted::Finished(sums) => {
+        Ok(sums) => {
             *written = sums.text;
             *errors = sums.errors;
             *begun = sums.begun;
@@ -150,7 +161,6 @@ pub extern "C" fn weszlagyo_format_sheet<'a>(
             *used = sums.work;
             0
         }
-        Formatted::Refused(n) => n,
-        Formatted::Cleared(n) => n,
+        Err(failure) => failure.number(),
     }
 }

@@ -6,8 +6,8 @@ use Prim.Native.Nat.{ℕ, ◌+◌, ◌-◌, ◌≤◌, ◌<◌}
 use native.Mathlib.Omega.{arith}
 use lib.ListN.{length, set, take, drop, length-append, length-set, length-drop}
 use lib.Seq.{length-take-le, take-append-le, drop-append-le, drop_at, take-append-add, drop-append-add, drop-drop, take-add, take-take}
-use lib.Dec.{ltb, leb}
-use borrow.Author.Tests.{le-leb, lt-leb, leb-true, leb-false, ltb-true}
+use lib.Dec.{leb}
+use borrow.Author.Tests.{le-leb, lt-leb, leb-true, ltb-true}
 use Rattle.records.specs.Bytes.{part, to_be}
 use Rattle.records.specs.Encode.{enc_str, enc_whole, enc_function}
 use Rattle.records.specs.Images.{max_store, max_items}
@@ -18,35 +18,8 @@ use Rattle.buffers.proofs.Place.{set_over, length_over, then_over, then_set}
 use Rattle.texts.proofs.Recording.{length_u16, length_u32, length_str}
 use Rattle.growth.specs.Items.{at_front, with_item, has_room, written_if, file_item}
 
--- n bytes behind others, within a limit
-pub fits_not : (limit used n : ℕ) → limit < used → false ≡ leb (used + n) limit
-fits_not limit used n h = sym (lt-leb (used + n) limit (omega arith))
-
-pub fits_below : (limit used n : ℕ) → used ≤ limit → leb n (limit - used) ≡ leb (used + n) limit
-fits_below limit used n h = go (leb n (limit - used)) refl
-  where
-    go : (b : Bool) → leb n (limit - used) ≡ b → leb n (limit - used) ≡ leb (used + n) limit
-    go true e = let k = leb-true n (limit - used) e in e ∙ sym (le-leb (used + n) limit (omega arith))
-    go false e = let k = leb-false n (limit - used) e in e ∙ sym (lt-leb (used + n) limit (omega arith))
-
 -- room for an item
 module _ (size used count n : ℕ) where
-  pub room_no_slice : {r : Bool} → r ≡ leb (used + n) size → r ≡ false → false ≡ has_room size used count n
-  unfolding has_room
-  room_no_slice {r} h k = rw (sym h ∙ k)
-
-  module _ {r : Bool} (h : r ≡ leb (used + n) size) (k : r ≡ true) where
-    in_slice : leb (used + n) size ≡ true
-    in_slice = sym h ∙ k
-
-    pub room_no_store : {t : Bool} → t ≡ leb (used + n) 1048576 → t ≡ false → false ≡ has_room size used count n
-    unfolding has_room max_store
-    room_no_store {t} e z = rw (in_slice, sym e ∙ z)
-
-    pub room_items : {t x : Bool} → t ≡ leb (used + n) 1048576 → t ≡ true → x ≡ ltb count 256 → x ≡ has_room size used count n
-    unfolding has_room max_store max_items
-    room_items {t} e z q = rw (in_slice, sym e ∙ z) q
-
   and_left : (a b : Bool) → a && b ≡ true → a ≡ true
   and_left true b h = refl
   and_left false b h = let z : ◌≡◌ {A = ℕ} 0 1 = cc in absurd (omega arith)
@@ -60,6 +33,9 @@ module _ (size used count n : ℕ) where
   room_is h =
       let r = and_right (leb (used + n) size) _ h in
       (leb-true (used + n) size (and_left (leb (used + n) size) _ h), leb-true (used + n) 1048576 (and_left (leb (used + n) 1048576) _ r), ltb-true count 256 (and_right (leb (used + n) 1048576) _ r))
+
+  pub room_true : {r : Bool} → r ≡ has_room size used count n → r ≡ true → (used + n ≤ size) × (used + n ≤ 1048576) × (count < 256)
+  room_true h k = room_is (sym h ∙ k)
 
 -- the bytes of an item
 pub resource_written : (d : List ℕ) (at mode : ℕ) (image : List ℕ) {e f : List ℕ} → at + (1 + length image) ≤ length d → e ≡ set d at mode → f ≡ over_fit e (at + 1) image → f ≡ over d at (mode ∷ image)
@@ -206,6 +182,13 @@ function_length id =
     let b = length-append (to_be 4 (4 + length (1 ∷ 1 ∷ enc_str id))) (1 ∷ 1 ∷ enc_str id) in
     let c = length_u32 (4 + length (1 ∷ 1 ∷ enc_str id)) in
     omega arith
+
+-- the same, where the code finds room
+pub item_filed : (s : List ℕ) (used count : ℕ) (item : List ℕ) (n : ℕ) {r : Bool} {a b : List ℕ} → length item ≡ n → 9 ≤ used → r ≡ has_room (length s) used count n → r ≡ true
+    → a ≡ over s used item → b ≡ over (over a 0 (to_be 4 (used + n))) 7 (to_be 2 (count + 1)) → b ≡ file_item s used count item
+item_filed s used count item n e lo h k p q =
+    let f = room_true (length s) used count n h k in
+    item_put s used count item {k = count} lo (omega arith) refl (omega arith) p q ∙ sym (filed_is s used count item lo e (sym h ∙ k))
 
 -- the used length and the count, each over the bytes that stood there
 pub counts_over : (d : List ℕ) (used count : ℕ) {a b : List ℕ} → 9 ≤ length d → a ≡ over_fit d 0 (to_be 4 used) → b ≡ over_fit a 7 (to_be 2 count) → b ≡ over (over d 0 (to_be 4 used)) 7 (to_be 2 count)

@@ -7,29 +7,14 @@ ghost use Rattle.records.specs.Encode.{enc_function};
 ghost use Rattle.buffers.specs.Relations.Append.{over};
 ghost use Rattle.growth.specs.Items.{has_room, written_if, file_item};
 
-use records::{MAX_ITEMS, MAX_STORE, write_bytes, write_u16, write_u32};
-
-// Whether n bytes behind `used` others stay within a limit.
-fn within(limit: usize, used: usize, n: usize) -> bool
-    ensures { result ≡ leb (used + n) limit }
-{
-    if limit < used {
-        return false;
-    }
-    n <= limit - used
-}
+use records::{MAX_ITEMS, MAX_STORE, has_bytes, write_bytes, write_u16, write_u32};
 
 // Whether a slice of `size` bytes, of which `used` are used by `count` items, has room for an item of n bytes.
+#[tactic(auto, unfolding(crate::specs::Items::has_room, records::specs::Images::max_store, records::specs::Images::max_items))]
 pub fn has_room(size: usize, used: usize, count: usize, n: usize) -> bool
     ensures { result ≡ has_room size used count n }
 {
-    if !within(size, used, n) {
-        return false;
-    }
-    if !within(MAX_STORE, used, n) {
-        return false;
-    }
-    count < MAX_ITEMS
+    has_bytes(size, used, n) && has_bytes(MAX_STORE, used, n) && count < MAX_ITEMS
 }
 
 // Writes the item of a resource.
@@ -64,32 +49,23 @@ fn put_counts(slice: &mut [u8], used: usize, count: usize)
 }
 
 // Files a resource behind the others, where it has room: its item, and the used length and the count over it.
+#[tactic(auto, using(crate::proofs::Items::room_true))]
 pub fn file_resource(slice: &mut [u8], used: usize, count: usize, mode: u8, image: &[u8])
     ensures { slice.new ≡ file_item slice.old used count (mode ∷ image.now) }
 {
-    if used < 9 {
-        return;
+    if 9 <= used && has_room(slice.len(), used, count, 1 + image.len()) {
+        put_resource(slice, used, mode, image);
+        put_counts(slice, used + (1 + image.len()), count + 1);
     }
-    if !has_room(slice.len(), used, count, 1 + image.len()) {
-        return;
-    }
-    put_resource(slice, used, mode, image);
-    put_counts(slice, used + (1 + image.len()), count + 1);
 }
 
 // Files a function behind the others, where it has room and its Id is no longer than one may be.
+#[tactic(auto, using(crate::proofs::Items::room_true))]
 pub fn file_function(slice: &mut [u8], used: usize, count: usize, id: &[u8])
     ensures { slice.new ≡ written_if (leb (length id.now) 255) slice.old (file_item slice.old used count (3 ∷ enc_function id.now)) }
 {
-    if 255 < id.len() {
-        return;
+    if id.len() <= 255 && 9 <= used && has_room(slice.len(), used, count, 9 + id.len()) {
+        put_function(slice, used, id);
+        put_counts(slice, used + (9 + id.len()), count + 1);
     }
-    if used < 9 {
-        return;
-    }
-    if !has_room(slice.len(), used, count, 9 + id.len()) {
-        return;
-    }
-    put_function(slice, used, id);
-    put_counts(slice, used + (9 + id.len()), count + 1);
 }

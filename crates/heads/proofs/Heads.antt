@@ -2,31 +2,22 @@
 use mathlib.Core.Path.{◌≡◌, refl, ap, sym, ◌∙◌}
 use mathlib.Core.List.{List}
 use mathlib.Core.Bool.{Bool, true, false, ◌||◌, ◌&&◌, not}
-use Prim.Native.Nat.{ℕ, ◌+◌, ◌-◌, ◌≤◌}
+use Prim.Native.Nat.{ℕ, ◌-◌}
 use native.Mathlib.Omega.{arith}
-use lib.ListN.{length, get_or, get_or-eq_default}
+use lib.ListN.{get_or}
 use lib.Dec.{eqb, ltb}
-use Rattle.records.specs.Got.{got, bad, test}
+use Rattle.records.specs.Got.{got}
 use Rattle.records.specs.Bytes.{byte_at}
 use Rattle.records.specs.Tree.{Expression, Inline}
 use Rattle.records.specs.Decode.{expression, inline}
 use Rattle.records.specs.Images.{Store, store_of}
-use Rattle.records.proofs.Views.{both, never, flag_elim, select_elim, term_elim, Body, a_string, a_number, is_function, is_message, is_term, is_variable, is_nested, inline_elim, expression_elim}
+use Rattle.records.proofs.Views.{both, flag_elim, select_elim, term_elim, Body, a_string, a_number, is_function, is_message, is_term, is_variable, is_nested, inline_elim, expression_elim}
 use Rattle.records.proofs.Laws.{byte_inv}
 use Rattle.images.proofs.Views.{store_elim}
 use Rattle.resolution.specs.Resolve.{bare, bare_inline}
 use Rattle.heads.specs.Header.{locale_byte, isolated}
 use Rattle.heads.specs.Tags.{text_tag, bare_tag, bare_at, marks_at}
-use borrow.Author.Tests.{eqb-true, ltb-false}
-
--- no byte is read past the end
-byte_out : (s : List ℕ) (at : ℕ) → byte_at s at ≡ bad → length s ≤ at
-unfolding byte_at test
-byte_out s at h = go (ltb at (length s)) refl h
-  where
-    go : (b : Bool) → ltb at (length s) ≡ b → test b (got (get_or s at 0) (at + 1)) ≡ bad → length s ≤ at
-    go true e g = never g refl
-    go false e g = ltb-false at (length s) e
+use borrow.Author.Tests.{eqb-true}
 
 -- a store: its sixth byte is its locale, its seventh its isolating Flag
 module _ (s : List ℕ) {x : Store} {e : ℕ} (h : store_of s ≡ got x e) where
@@ -47,25 +38,7 @@ pub isolating_is : (s : List ℕ) (n : ℕ) {r : Bool} → r ≡ isolated s n �
 unfolding isolated
 isolating_is s n is x e h = is ∙ ap (λ (b : Bool). ltb 1 n && b) (isolating_byte s h)
 
--- a slice too short for the Flag
-pub isolated_short : (s : List ℕ) (n : ℕ) → length s ≤ 6 → false ≡ isolated s n
-unfolding isolated
-isolated_short s n g = rw (get_or-eq_default s 0 g) (go (ltb 1 n))
-  where
-    go : (b : Bool) → false ≡ (b && false)
-    go true = refl
-    go false = refl
-
 -- an expression: the byte that stands there is its tag
-module _ (s : List ℕ) (at : ℕ) where
-  pub bare_none : byte_at s at ≡ bad → false ≡ bare_at s at
-  unfolding bare_at bare_tag
-  bare_none g = rw (get_or-eq_default s 0 (byte_out s at g))
-
-  pub bare_tag_law : {tag p : ℕ} {b : Bool} → byte_at s at ≡ got tag p → b ≡ bare_tag tag → b ≡ bare_at s at
-  unfolding bare_at
-  bare_tag_law g e = e ∙ ap bare_tag (byte_inv s at g).1
-
 module _ (s : List ℕ) (at d : ℕ) {x : Expression} {f : ℕ} (h : expression d s at ≡ got x f) where
   tag_bare : (tag p : ℕ) → byte_at s at ≡ got tag p → bare_tag tag ≡ bare x
   unfolding bare bare_inline bare_tag

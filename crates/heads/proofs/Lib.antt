@@ -1,2 +1,2 @@
--- Laws that the proofs of several functions cite.
+-- What the bytes say of a store or an expression that decodes.
 pub mod Heads

@@ -1,4 +1,6 @@
 -- The records of the marked entries, as they are written; the list with its header.
+use Rattle.records.specs.Relations.Answer.{Next}
+use Rattle.std.specs.Prelude.{Some, None}
 use mathlib.Core.Path.{◌≡◌, refl, ap, sym, subst, ◌∙◌}
 use mathlib.Core.Bool.{Bool, true, false}
 use mathlib.Core.List.{List, [], ◌∷◌, ◌++◌, append-nil, append_assoc}
@@ -7,8 +9,6 @@ use native.Mathlib.Omega.{arith}
 use lib.ListN.{length, get_or, drop, take, length-append}
 use lib.Dec.{eqb}
 use borrow.Author.Tests.{eq-eqb, ne_eqb, le-leb}
-use Rattle.records.specs.declared.Next.{Next}
-use Rattle.records.specs.declared.Next.TheVariants as next
 use Rattle.records.specs.Relations.Answer.{next_of}
 use Rattle.records.specs.Got.{got, bad}
 use Rattle.records.specs.Bytes.{part, byte_at, number_at, span_at, to_be}
@@ -17,10 +17,10 @@ use Rattle.records.specs.Errors.{Error, overriding, enc_error, enc_errors}
 use Rattle.records.specs.Decode.{many}
 use Rattle.records.specs.Images.{Kind, Entry, max_image, entry_at, resource_of}
 use Rattle.records.proofs.Views.{both, never, many_nil}
-use Rattle.buffers.specs.Relations.Append.{over}
+use Rattle.buffers.specs.Relations.Append.{over, Wrote, full}
 use Rattle.texts.specs.Relations.Report.{kind_of, recorded, room_for, header, headed}
-use Rattle.buffers.specs.declared.Wrote.{Wrote}
-use Rattle.buffers.specs.declared.Wrote.TheVariants as wrote
+use Rattle.std.specs.Prelude.{Ok, Err}
+use Rattle.std.specs.Result.{result_unwrap_or}
 use Rattle.buffers.proofs.Place.{over_none, then_over, length_over, attempt_no}
 use Rattle.texts.proofs.Recording.{recorded_at, room_by_size, length_u32, headed_done}
 use Rattle.listing.specs.declared.Tally.{Tally}
@@ -28,7 +28,6 @@ use Rattle.entries.specs.Outline.{behind, entry_outline}
 use Rattle.entries.specs.Repeats.{repeat_if}
 use Rattle.entries.specs.Relations.Marked.{marked}
 use Rattle.listing.specs.Relations.Tallies.{counted, Tallies}
-use Rattle.listing.specs.declared.Listed.TheVariants as listed
 use Rattle.listing.specs.Relations.Lists.{kind_by, record_of, ListsEntry, Lists, lists_all, lists_short}
 use Rattle.entries.proofs.Open.{entry_parts, entry_kind, whole_resource}
 use Rattle.entries.proofs.Lengths.{id_short}
@@ -67,7 +66,7 @@ module _ (image : List ℕ) (at mark : ℕ) (list : List ℕ) (to : ℕ) where
     unfolding repeat_if enc_all
     record_is {x} hx y = rw y (append-nil (enc_error (overriding x.kind x.id)) ∙ ap (λ (k : Kind). enc_error (overriding k x.id)) (sym (kind_is hx)) ∙ ap (λ (t : List ℕ). enc_error (overriding (kind_of (kind_by (eqb b 1))) t)) (id_is' hx))
 
-    pub lists_one : {w : Wrote} {k : _} {q : ℕ} {out : List ℕ} → mark ≡ 1 → k ≡ kind_by (eqb b 1) → (w, out) ≡ recorded list to (overriding (kind_of k) (part image a (e - a))) → w ≡ wrote.At q → ListsEntry image at mark list to q out
+    lists_one : {w : Wrote} {k : _} {q : ℕ} {out : List ℕ} → mark ≡ 1 → k ≡ kind_by (eqb b 1) → (w, out) ≡ recorded list to (overriding (kind_of k) (part image a (e - a))) → w ≡ Ok q → ListsEntry image at mark list to q out
     lists_one {w} {k} {q} {out} y ek h v =
         let h' : (w, out) ≡ recorded list to (overriding (kind_of (kind_by (eqb b 1))) (part image a (e - a))) = h ∙ ap (λ (z : _). recorded list to (overriding (kind_of z) (part image a (e - a)))) ek in
         let g = recorded_at list to (overriding (kind_of (kind_by (eqb b 1))) (part image a (e - a))) h' v in
@@ -76,7 +75,7 @@ module _ (image : List ℕ) (at mark : ℕ) (list : List ℕ) (to : ℕ) where
           lists = λ x f hx l m. rw (record_is hx (eq-eqb mark 1 y)) (g.2, g.3);
         }
 
-    pub lists_full : {w : Wrote} {k : _} {out : List ℕ} {r : ℕ} → mark ≡ 1 → k ≡ kind_by (eqb b 1) → (w, out) ≡ recorded list to (overriding (kind_of k) (part image a (e - a))) → w ≡ wrote.Full → ListsEntry image at mark list to r out
+    lists_full : {w : Wrote} {k : _} {out : List ℕ} {r : ℕ} → mark ≡ 1 → k ≡ kind_by (eqb b 1) → (w, out) ≡ recorded list to (overriding (kind_of k) (part image a (e - a))) → w ≡ full → ListsEntry image at mark list to r out
     unfolding recorded
     lists_full {w} {k} {out} {r} y ek h v =
         let h' : (w, out) ≡ recorded list to (overriding (kind_of (kind_by (eqb b 1))) (part image a (e - a))) = h ∙ ap (λ (z : _). recorded list to (overriding (kind_of z) (part image a (e - a)))) ek in
@@ -95,6 +94,11 @@ module _ (image : List ℕ) (at mark : ℕ) (list : List ℕ) (to : ℕ) where
               absurd (omega arith);
         }
 
+    -- the same, as the code goes on
+    pub lists_put : {w : Wrote} {k : _} {out : List ℕ} {r : ℕ} → mark ≡ 1 → k ≡ kind_by (eqb b 1) → (w, out) ≡ recorded list to (overriding (kind_of k) (part image a (e - a))) → r ≡ result_unwrap_or w to → ListsEntry image at mark list to r out
+    lists_put {w = Ok q} y ek h v = rw v (lists_one y ek h refl)
+    lists_put {w = Err x} y ek h v = lists_full y ek h refl
+
 -- the list of the entries from a position on
 module _ (image marks : List ℕ) where
   pub record ListFrom (n k at : ℕ) (list : List ℕ) (to : ℕ) (out : List ℕ) : Type 0 where
@@ -105,11 +109,11 @@ module _ (image marks : List ℕ) where
   unfolding marked enc_all
   list_none {n} {k} {at} {to} {list} z = record { says = λ es f q l b. many_nil [] ◌∷◌ entry_at image n at z q (λ el _. rw el (sym (over_none list to))) }
 
-  pub list_stuck : {n k at to : ℕ} {list out : List ℕ} {o : Next} → 0 < n → o ≡ next_of (entry_outline image at) → o ≡ next.Bad → ListFrom n k at list to out
+  pub list_stuck : {n k at to : ℕ} {list out : List ℕ} {o : Next} → 0 < n → o ≡ next_of (entry_outline image at) → o ≡ None → ListFrom n k at list to out
   list_stuck {n} {k} {at} z is b = record { says = λ es f q l _. first_endless image n at z q is b }
 
   pub list_next : (count : ℕ) {k at i m to to' : ℕ} {list list' out : List ℕ} {o : Next} → k < count → m ≡ get_or marks k 0 → ListsEntry image at m list to to' list'
-      → o ≡ next_of (entry_outline image at) → o ≡ next.At i → ListFrom (count - (k + 1)) (k + 1) i list' to' out → ListFrom (count - k) k at list to out
+      → o ≡ next_of (entry_outline image at) → o ≡ Some i → ListFrom (count - (k + 1)) (k + 1) i list' to' out → ListFrom (count - k) k at list to out
   unfolding marked
   list_next count {k} {at} {i} {m} {to} {to'} {list} {list'} {out} lt em y₀ is w rest = record {
     says = λ es f q l b.
@@ -178,11 +182,11 @@ module _ {m r : List Error} {t : Tally} (y : Tallies m t) (e : m ≡ r) where
       list_headed l r (omega arith) (omega arith) (p ∙ ap (λ (z : List Error). over l 5 (enc_all enc_error z)) e) (q ∙ ap (λ (n : ℕ). headed a (5 + n)) ez)
 
 -- the list of what was tallied
-pub listed_short : (l : List ℕ) {m : List Error} {t : Tally} → Tallies m t → length l < 5 + t.size → Lists m l listed.Short l
+pub listed_short : (l : List ℕ) {m : List Error} {t : Tally} → Tallies m t → length l < 5 + t.size → Lists m l full l
 listed_short l {m} {t} y h = let z : 5 + t.size ≡ length (enc_errors m) = tally_size y refl in lists_short refl (omega arith) refl
 
 pub listed_all : (l : List ℕ) {m : List Error} {t : Tally} {a b : List ℕ} → Tallies m t → 5 + t.size ≤ length l → 5 + t.size < 4294967296
-    → a ≡ over l 5 (enc_all enc_error m) → b ≡ headed a (5 + t.size) → Lists m l (listed.All t.count) b
+    → a ≡ over l 5 (enc_all enc_error m) → b ≡ headed a (5 + t.size) → Lists m l (Ok t.count) b
 listed_all l {m} {t} y h g p q =
     let z : 5 + t.size ≡ length (enc_errors m) = tally_size y refl in
-    lists_all (ap listed.All (tally_count y refl)) (omega arith) (list_done y refl l h g p q)
+    lists_all (ap Ok (tally_count y refl)) (omega arith) (list_done y refl l h g p q)

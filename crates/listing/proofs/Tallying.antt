@@ -1,14 +1,15 @@
 -- The tally of the records of the marked entries.
+use Rattle.records.specs.Relations.Answer.{Next, Num, num_of}
+use Rattle.std.proofs.Common.{Fits, w8}
+use Rattle.std.specs.Prelude.{Some, None}
 use mathlib.Core.Path.{◌≡◌, refl, ap, sym, subst, ◌∙◌}
 use mathlib.Core.Bool.{Bool, true, false}
 use mathlib.Core.List.{List, [], ◌∷◌, ◌++◌, append-nil}
 use Prim.Native.Nat.{ℕ, zero, suc, ◌+◌, ◌-◌, ◌≤◌, ◌<◌}
 use native.Mathlib.Omega.{arith}
-use lib.ListN.{length, get_or, length-append, get_or-eq_default}
+use lib.ListN.{length, get_or, length-append}
 use lib.Dec.{eqb}
 use borrow.Author.Tests.{eq-eqb, ne_eqb}
-use Rattle.records.specs.declared.Next.{Next}
-use Rattle.records.specs.declared.Next.TheVariants as next
 use Rattle.records.specs.Relations.Answer.{next_of}
 use Rattle.records.specs.Got.{got, bad}
 use Rattle.records.specs.Bytes.{number_at, span_at}
@@ -16,7 +17,7 @@ use Rattle.records.specs.Encode.{enc_all}
 use Rattle.records.specs.Errors.{Error, overriding, enc_error}
 use Rattle.records.specs.Decode.{many}
 use Rattle.records.specs.Images.{Entry, max_image, entry_at, resource_of}
-use Rattle.records.proofs.Views.{both, never, many_cons, many_nil}
+use Rattle.records.proofs.Views.{both, never, many_cons, many_nil, num_is}
 use Rattle.texts.proofs.Recording.{overriding_length}
 use Rattle.listing.specs.declared.Tally.{Tally}
 use Rattle.entries.specs.Outline.{behind, entry_outline}
@@ -25,11 +26,15 @@ use Rattle.entries.specs.Relations.Marked.{marked}
 use Rattle.listing.specs.Relations.Tallies.{counted, Tallied, Tallies}
 use Rattle.entries.proofs.Open.{whole_resource}
 use Rattle.entries.proofs.Decoded.{first_unread, first_endless, turn_ends}
-use Rattle.entries.proofs.Lengths.{id_length, entry_size}
+use Rattle.entries.proofs.Lengths.{id_length, entry_size, id_small, u16_small}
 
--- there is no mark past the end
-pub mark_none : (marks : List ℕ) {k : ℕ} → length marks ≤ k → 0 ≡ get_or marks k 0
-mark_none marks l = sym (get_or-eq_default marks 0 l)
+-- numbers of two bytes, as the code reads them
+module _ (s : List ℕ) (bytes : (i : ℕ) → Fits w8 (get_or s i 0)) where
+  pub few : (at : ℕ) {r : Num} {n e : ℕ} → r ≡ num_of (number_at 2 s at) → r ≡ Some (n, e) → n < 65536
+  few at is h = u16_small s at (λ i. omega (arith, bytes i)) (num_is is h)
+
+  pub short : (at : ℕ) {r : Num} {a e : ℕ} → r ≡ num_of (behind 1 span_at s at) → r ≡ Some (a, e) → e - a < 65536
+  short at is h = id_small s at (λ i. omega (arith, bytes i)) (num_is is h)
 
 -- records of entries
 repeat_length : (b : Bool) (x : Entry) (l : List Error) → length (repeat_if b x l) ≡ counted b 1 + length l
@@ -81,11 +86,11 @@ module _ (image marks : List ℕ) where
   pub tally_bad : {n k at : ℕ} {t r : Tally} → 0 < n → behind 1 span_at image at ≡ bad → TallyFrom n k at t r
   tally_bad {n} {k} {at} z h = record { says = λ es f q. first_unread image n at z q h }
 
-  pub tally_stuck : {n k at : ℕ} {t r : Tally} {o : Next} → 0 < n → o ≡ next_of (entry_outline image at) → o ≡ next.Bad → TallyFrom n k at t r
+  pub tally_stuck : {n k at : ℕ} {t r : Tally} {o : Next} → 0 < n → o ≡ next_of (entry_outline image at) → o ≡ None → TallyFrom n k at t r
   tally_stuck {n} {k} {at} z is b = record { says = λ es f q. first_endless image n at z q is b }
 
   pub tally_next : (count : ℕ) {k at a e i m : ℕ} {t t' r : Tally} {o : Next} → k < count → behind 1 span_at image at ≡ got a e → m ≡ get_or marks k 0 → Tallied t m (e - a) t'
-      → o ≡ next_of (entry_outline image at) → o ≡ next.At i → TallyFrom (count - (k + 1)) (k + 1) i t' r → TallyFrom (count - k) k at t r
+      → o ≡ next_of (entry_outline image at) → o ≡ Some i → TallyFrom (count - (k + 1)) (k + 1) i t' r → TallyFrom (count - k) k at t r
   unfolding marked
   tally_next count {k} {at} {a} {e} {i} {m} {t} {t'} {r} lt h em y₀ is w rest = record {
     says = λ es f q.

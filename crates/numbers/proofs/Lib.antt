@@ -1,7 +1,7 @@
 -- Laws that the proofs of several functions, and the crates above, cite.
 pub mod Tests
-pub mod Places
 pub mod Merging
 pub mod Equality
 pub mod Exactly
 pub mod Examples
+pub mod Places

@@ -1,56 +1,72 @@
--- Laws of a word's place in a list.
-use mathlib.Core.Path.{◌≡◌, ap, sym, ◌∙◌}
-use mathlib.Core.List.{List, [], ◌∷◌, ◌++◌}
-use mathlib.Core.Bool.{Bool, true, false}
-use Prim.Native.Nat.{ℕ, suc, ◌+◌, ◌-◌, ◌≤◌, ◌<◌}
-use native.Mathlib.Numerals.{add-one}
-use native.Mathlib.Omega.{arith}
-use lib.ListN.{length, length-drop, take, drop, get_or, drop_of_length-le}
-use lib.Seq.{drop-cons, get_or-drop, take-suc}
-use borrow.Author.Tests.{eq-eqb, ne_eqb}
+-- Laws of the places of the options' names: the merge of an option is the one at the place of its name.
+use mathlib.Core.Path.{◌≡◌, refl, ap, sym, ◌∙◌}
+use mathlib.Core.Bool.{Bool, true, false, ◌&&◌, not}
+use mathlib.Core.Option.{some}
+use mathlib.Core.List.{List, []}
+use Prim.Native.Nat.{ℕ, suc}
+use lib.Dec.{eqb, ltb}
+use Rattle.decimals.specs.declared.types.Options as CodeOptions
 use Rattle.decimals.specs.Bytes.{same_bytes, choose}
-use Rattle.numbers.specs.Relations.Places.{place_from}
+use Rattle.decimals.specs.Decimal.{Options, Number, fraction_limit}
+use Rattle.numbers.specs.Value.{numeric, to_count, too_long, merge_text, merge_count, kind_of, style_of, display_of, false_word, type_name, style_name, currency_name, currency_display_name, use_grouping_name, with_kind, with_style, with_currency, with_currency_display, with_use_grouping, pick_options, with_minimum_integer_digits, with_minimum_fraction_digits, with_maximum_fraction_digits, with_minimum_significant_digits, with_maximum_significant_digits, minimum_integer_digits_name, minimum_fraction_digits_name, maximum_fraction_digits_name, minimum_significant_digits_name, maximum_significant_digits_name}
+use Rattle.decimals.specs.Relations.Shown.{shown_count, shown_options, told_options}
+use Rattle.numbers.specs.Relations.Places.{place_from, text_names, count_names, merge_at, count_named, set_count}
+use Rattle.decimals.proofs.Same.{same_eq}
+use Rattle.decimals.proofs.Shown.{count_back, text_back}
 
--- a comma, and any other byte
-pub place_comma : (word begun l : List ℕ) (i : ℕ) → i < length l → get_or l i 0 ≡ 44 → place_from word begun (drop i l) ≡ choose (same_bytes word begun) 0 (suc (place_from word [] (drop (i + 1) l)))
-unfolding place_from
-place_comma word begun l i h e = rw (drop-cons l i 0 h, add-one, place_from, eq-eqb (get_or l i 0) 44 e)
+-- the place of a name in the list of the digit counts
+pub count_place : (name : List ℕ) → place_from name [] count_names ≡ count_named name
+unfolding place_from count_named
+count_place name = go (same_bytes name minimum_integer_digits_name) (same_bytes name minimum_fraction_digits_name) (same_bytes name maximum_fraction_digits_name) (same_bytes name minimum_significant_digits_name) (same_bytes name maximum_significant_digits_name)
+  where
+    go : (a b c d e : Bool) → choose a 0 (suc (choose b 0 (suc (choose c 0 (suc (choose d 0 (suc (choose e 0 1)))))))) ≡ choose a 0 (choose b 1 (choose c 2 (choose d 3 (choose e 4 5))))
+    go true b c d e = refl
+    go false true c d e = refl
+    go false false true d e = refl
+    go false false false true e = refl
+    go false false false false true = refl
+    go false false false false false = refl
 
-pub place_other : (word begun l : List ℕ) (i : ℕ) → i < length l → (get_or l i 0 ≡ 44 → ⊥) → place_from word begun (drop i l) ≡ place_from word (begun ++ (get_or l i 0 ∷ [])) (drop (i + 1) l)
-unfolding place_from
-place_other word begun l i h f = rw (drop-cons l i 0 h, add-one, place_from, ne_eqb (get_or l i 0) 44 f)
+-- and in that of the text options
+pub text_place : (name s : List ℕ) (o : Options) → merge_text name s o ≡ merge_at (place_from name [] text_names) s o
+unfolding place_from merge_text merge_at
+text_place name s o = go (same_bytes name type_name) (same_bytes name style_name) (same_bytes name currency_name) (same_bytes name currency_display_name) (same_bytes name use_grouping_name)
+  where
+    go : (a b c d e : Bool) → pick_options a (with_kind (kind_of s) o) (pick_options b (with_style (style_of s) o) (pick_options c (with_currency (some s) o) (pick_options d (with_currency_display (display_of s) o) (pick_options e (with_use_grouping (not (same_bytes s false_word)) o) o)))) ≡ merge_at (choose a 0 (suc (choose b 0 (suc (choose c 0 (suc (choose d 0 (suc (choose e 0 1))))))))) s o
+    go true b c d e = refl
+    go false true c d e = refl
+    go false false true d e = refl
+    go false false false true e = refl
+    go false false false false true = refl
+    go false false false false false = refl
 
-pub place_end : (word begun l : List ℕ) (i : ℕ) → length l ≤ i → place_from word begun (drop i l) ≡ 0
-unfolding place_from
-place_end word begun l i h = rw (drop_of_length-le l h)
+-- only the name of the fraction's minimum names the second place
+pub named_fraction : (name : List ℕ) → eqb (count_named name) 1 ≡ same_bytes name minimum_fraction_digits_name
+unfolding count_named same_bytes
+named_fraction name = go (same_bytes name minimum_integer_digits_name) refl (same_bytes name minimum_fraction_digits_name) refl (same_bytes name maximum_fraction_digits_name) (same_bytes name minimum_significant_digits_name) (same_bytes name maximum_significant_digits_name)
+  where
+    go : (a : Bool) → same_bytes name minimum_integer_digits_name ≡ a → (b : Bool) → same_bytes name minimum_fraction_digits_name ≡ b → (c d e : Bool) → eqb (choose a 0 (choose b 1 (choose c 2 (choose d 3 (choose e 4 5))))) 1 ≡ b
+    go true p b q c d e = sym (ap (λ (n : List ℕ). same_bytes n minimum_fraction_digits_name) (same_eq name minimum_integer_digits_name p)) ∙ q
+    go false p true q c d e = refl
+    go false p false q true d e = refl
+    go false p false q false true e = refl
+    go false p false q false false true = refl
+    go false p false q false false false = refl
 
--- a word that is read one byte further
-longer : (l : List ℕ) (from i : ℕ) → from ≤ i → i < length l → take (i - from) (drop from l) ++ (get_or l i 0 ∷ []) ≡ take (i + 1 - from) (drop from l)
-longer l from i a h =
-    let n : suc (i - from) ≡ i + 1 - from = omega arith in
-    let p : from + (i - from) ≡ i = omega arith in
-    let g : get_or (drop from l) (i - from) 0 ≡ get_or l i 0 = get_or-drop from l (i - from) 0 ∙ ap (λ (k : ℕ). get_or l k 0) p in
-    let m : length (drop from l) ≡ length l - from = length-drop from l in
-    let t : take (suc (i - from)) (drop from l) ≡ take (i - from) (drop from l) ++ (get_or (drop from l) (i - from) 0 ∷ []) = take-suc (drop from l) (i - from) 0 (omega (arith, m)) in
-    sym (sym (ap (λ (k : ℕ). take k (drop from l)) n) ∙ t ∙ ap (λ (k : ℕ). take (i - from) (drop from l) ++ (k ∷ [])) g)
+pub long_named : (name : List ℕ) (n : Number) → eqb (count_named name) 1 && ltb fraction_limit (to_count n) ≡ too_long name (numeric n)
+unfolding too_long
+long_named name n = ap (λ (t : Bool). t && ltb fraction_limit (to_count n)) (named_fraction name)
 
--- a turn of the loop, where n words are past and the present one stands from `from`
-module _ (word l : List ℕ) (n from i : ℕ) {x : ℕ} (a : from ≤ i) (h : i < length l) (inv : n + place_from word (take (i - from) (drop from l)) (drop i l) ≡ x) where
-  pub turn_other : (get_or l i 0 ≡ 44 → ⊥) → n + place_from word (take (i + 1 - from) (drop from l)) (drop (i + 1) l) ≡ x
-  turn_other f =
-      sym (ap (λ (k : ℕ). n + k) (place_other word (take (i - from) (drop from l)) l i h f ∙ ap (λ (w : List ℕ). place_from word w (drop (i + 1) l)) (longer l from i a h))) ∙ inv
+-- a digit count set at its place is the definition's merge
+by_place : (a b c d e : Bool) (k : ℕ) (o : CodeOptions.Options) → set_count (choose a 0 (choose b 1 (choose c 2 (choose d 3 (choose e 4 5))))) k o ≡ shown_options (pick_options a (with_minimum_integer_digits (some k) (told_options o)) (pick_options b (with_minimum_fraction_digits (some k) (told_options o)) (pick_options c (with_maximum_fraction_digits (some k) (told_options o)) (pick_options d (with_minimum_significant_digits (some k) (told_options o)) (pick_options e (with_maximum_significant_digits (some k) (told_options o)) (told_options o))))))
+unfolding set_count shown_count with_minimum_integer_digits with_minimum_fraction_digits with_maximum_fraction_digits with_minimum_significant_digits with_maximum_significant_digits
+by_place true b c d e k o = simp (count_back, text_back)
+by_place false true c d e k o = simp (count_back, text_back)
+by_place false false true d e k o = simp (count_back, text_back)
+by_place false false false true e k o = simp (count_back, text_back)
+by_place false false false false true k o = simp (count_back, text_back)
+by_place false false false false false k o = simp (count_back, text_back)
 
-  pub turn_comma : get_or l i 0 ≡ 44 → same_bytes word (take (i - from) (drop from l)) ≡ false → n + 1 + place_from word (take (i + 1 - (i + 1)) (drop (i + 1) l)) (drop (i + 1) l) ≡ x
-  turn_comma e d =
-      let z : i + 1 - (i + 1) ≡ 0 = omega arith in
-      let s : place_from word (take (i - from) (drop from l)) (drop i l) ≡ suc (place_from word [] (drop (i + 1) l)) = place_comma word (take (i - from) (drop from l)) l i h e ∙ ap (λ (t : Bool). choose t 0 (suc (place_from word [] (drop (i + 1) l)))) d in
-      ap (λ (k : ℕ). n + 1 + place_from word (take k (drop (i + 1) l)) (drop (i + 1) l)) z ∙ omega (arith, s, inv)
-
-  pub turn_found : get_or l i 0 ≡ 44 → same_bytes word (take (i - from) (drop from l)) ≡ true → n ≡ x
-  turn_found e d =
-      let s : place_from word (take (i - from) (drop from l)) (drop i l) ≡ 0 = place_comma word (take (i - from) (drop from l)) l i h e ∙ ap (λ (t : Bool). choose t 0 (suc (place_from word [] (drop (i + 1) l)))) d in
-      omega (arith, s, inv)
-
--- its end
-pub turn_none : (word begun l : List ℕ) (n i : ℕ) {x : ℕ} → length l ≤ i → n + place_from word begun (drop i l) ≡ x → n ≡ x
-turn_none word begun l n i h inv = let s = place_end word begun l i h in omega (arith, s, inv)
+pub merge_named : (name : List ℕ) (k : ℕ) (o : CodeOptions.Options) → set_count (count_named name) k o ≡ shown_options (merge_count name k (told_options o))
+unfolding count_named merge_count
+merge_named name k o = by_place (same_bytes name minimum_integer_digits_name) (same_bytes name minimum_fraction_digits_name) (same_bytes name maximum_fraction_digits_name) (same_bytes name minimum_significant_digits_name) (same_bytes name maximum_significant_digits_name) k o

@@ -3,4 +3,3 @@
 
 pub mod equal;
 pub mod merge;
-pub mod words;

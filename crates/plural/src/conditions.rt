@@ -2,7 +2,6 @@
 ghost use Rattle.std.specs.Prelude.{◌≡◌, ◌≤◌};
 ghost use Rattle.plural.specs.Plural.{Operands, en_cardinal, da_cardinal, ru_whole, ru_cardinal, cy_whole, cy_cardinal, en_place, en_ordinal, cy_place, cy_ordinal, rule_of, category_number};
 ghost use Rattle.plural.specs.Relations.Shown.{Shows};
-ghost use Rattle.decimals.specs.declared.types.Kind.TheVariants.{Cardinal, Ordinal};
 
 use crate::types::Category;
 use decimals::types::Kind;
@@ -15,64 +14,48 @@ pub struct Seen {
     pub no_fraction: bool,
 }
 
+#[tactic(auto, using(std::proofs::lemmas::Bool::Decides::nat_tests), unfolding(crate::specs::Plural::en_cardinal))]
 fn en_cardinal(o: Seen) -> Category
     ensures { (x : Operands) → Shows x o → category_number result ≡ en_cardinal x }
 {
-    if o.i == 1 {
-        if o.no_digits {
-            return Category::One;
-        }
+    if o.i == 1 && o.no_digits {
+        Category::One
+    } else {
+        Category::Other
     }
-    Category::Other
 }
 
+#[tactic(auto, using(std::proofs::lemmas::Bool::Decides::nat_tests), unfolding(crate::specs::Plural::da_cardinal))]
 fn da_cardinal(o: Seen) -> Category
     ensures { (x : Operands) → Shows x o → category_number result ≡ da_cardinal x }
 {
-    if o.no_fraction {
-        if o.i == 1 {
-            return Category::One;
-        }
-        return Category::Other;
+    match o.i {
+        1 => Category::One,
+        0 if !o.no_fraction => Category::One,
+        _ => Category::Other,
     }
-    if o.i <= 1 {
-        return Category::One;
-    }
-    Category::Other
 }
 
+#[tactic(auto, using(std::proofs::lemmas::Bool::Decides::nat_tests), unfolding(crate::specs::Plural::ru_whole))]
 fn ru_whole(ten: u64, hundred: u64) -> Category
     ensures { category_number result ≡ ru_whole ten hundred }
 {
-    if ten == 1 {
-        if hundred == 11 {
-            return Category::Many;
-        }
-        return Category::One;
+    match ten {
+        1 if hundred != 11 => Category::One,
+        2..=4 if !matches!(hundred, 12..=14) => Category::Few,
+        _ => Category::Many,
     }
-    if ten < 2 {
-        return Category::Many;
-    }
-    if 4 < ten {
-        return Category::Many;
-    }
-    if hundred < 12 {
-        return Category::Few;
-    }
-    if 14 < hundred {
-        return Category::Few;
-    }
-    Category::Many
 }
 
+#[tactic(auto, using(std::proofs::lemmas::Bool::Decides::nat_tests), unfolding(crate::specs::Plural::ru_cardinal))]
 fn ru_cardinal(o: Seen) -> Category
     ensures { (x : Operands) → Shows x o → category_number result ≡ ru_cardinal x }
 {
     if o.no_digits {
-        let i = o.i;
-        return ru_whole(i % 10, i % 100);
+        ru_whole(o.i % 10, o.i % 100)
+    } else {
+        Category::Other
     }
-    Category::Other
 }
 
 // The category of a number up to 5.
@@ -80,136 +63,95 @@ pub fn numbered(n: u64) -> Category
     requires { n ≤ 5 }
     ensures { category_number result ≡ n }
 {
-    if n < 1 {
-        return Category::Zero;
+    match n {
+        0 => Category::Zero,
+        1 => Category::One,
+        2 => Category::Two,
+        3 => Category::Few,
+        4 => Category::Many,
+        _ => Category::Other,
     }
-    if n < 2 {
-        return Category::One;
-    }
-    if n < 3 {
-        return Category::Two;
-    }
-    if n < 4 {
-        return Category::Few;
-    }
-    if n < 5 {
-        return Category::Many;
-    }
-    Category::Other
 }
 
+#[tactic(auto, using(std::proofs::lemmas::Bool::Decides::nat_tests), unfolding(crate::specs::Plural::cy_whole))]
 fn cy_whole(n: u64) -> Category
     ensures { category_number result ≡ cy_whole n }
 {
-    if n <= 3 {
-        return numbered(n);
+    match n {
+        0..=3 => numbered(n),
+        6 => Category::Many,
+        _ => Category::Other,
     }
-    if n == 6 {
-        return Category::Many;
-    }
-    Category::Other
 }
 
+#[tactic(auto, using(std::proofs::lemmas::Bool::Decides::nat_tests), unfolding(crate::specs::Plural::cy_cardinal))]
 fn cy_cardinal(o: Seen) -> Category
     ensures { (x : Operands) → Shows x o → category_number result ≡ cy_cardinal x }
 {
     if o.no_fraction {
-        return cy_whole(o.i);
+        cy_whole(o.i)
+    } else {
+        Category::Other
     }
-    Category::Other
 }
 
+#[tactic(auto, using(std::proofs::lemmas::Bool::Decides::nat_tests), unfolding(crate::specs::Plural::en_place))]
 fn en_place(ten: u64, hundred: u64) -> Category
     ensures { category_number result ≡ en_place ten hundred }
 {
-    if ten < 1 {
-        return Category::Other;
+    match ten {
+        1..=3 if !matches!(hundred, 11..=13) => numbered(ten),
+        _ => Category::Other,
     }
-    if 3 < ten {
-        return Category::Other;
-    }
-    if hundred < 11 {
-        return numbered(ten);
-    }
-    if 13 < hundred {
-        return numbered(ten);
-    }
-    Category::Other
 }
 
+#[tactic(auto, using(std::proofs::lemmas::Bool::Decides::nat_tests), unfolding(crate::specs::Plural::en_ordinal))]
 fn en_ordinal(o: Seen) -> Category
     ensures { (x : Operands) → Shows x o → category_number result ≡ en_ordinal x }
 {
     if o.no_fraction {
-        let i = o.i;
-        return en_place(i % 10, i % 100);
+        en_place(o.i % 10, o.i % 100)
+    } else {
+        Category::Other
     }
-    Category::Other
 }
 
+#[tactic(auto, using(std::proofs::lemmas::Bool::Decides::nat_tests), unfolding(crate::specs::Plural::cy_place))]
 fn cy_place(n: u64) -> Category
     ensures { category_number result ≡ cy_place n }
 {
-    if n <= 2 {
-        return numbered(n);
+    match n {
+        0 | 7..=9 => Category::Zero,
+        1 | 2 => numbered(n),
+        3 | 4 => Category::Few,
+        5 | 6 => Category::Many,
+        _ => Category::Other,
     }
-    if n <= 4 {
-        return Category::Few;
-    }
-    if n <= 6 {
-        return Category::Many;
-    }
-    if n <= 9 {
-        return Category::Zero;
-    }
-    Category::Other
 }
 
+#[tactic(auto, using(std::proofs::lemmas::Bool::Decides::nat_tests), unfolding(crate::specs::Plural::cy_ordinal))]
 fn cy_ordinal(o: Seen) -> Category
     ensures { (x : Operands) → Shows x o → category_number result ≡ cy_ordinal x }
 {
     if o.no_fraction {
-        return cy_place(o.i);
+        cy_place(o.i)
+    } else {
+        Category::Other
     }
-    Category::Other
-}
-
-fn cardinal(locale: u8, o: Seen) -> Category
-    ensures { (x : Operands) → Shows x o → category_number result ≡ rule_of Cardinal locale x }
-{
-    if locale == 0 {
-        return en_cardinal(o);
-    }
-    if locale == 1 {
-        return da_cardinal(o);
-    }
-    if locale == 2 {
-        return ru_cardinal(o);
-    }
-    if locale == 3 {
-        return cy_cardinal(o);
-    }
-    Category::Other
-}
-
-fn ordinal(locale: u8, o: Seen) -> Category
-    ensures { (x : Operands) → Shows x o → category_number result ≡ rule_of Ordinal locale x }
-{
-    if locale == 0 {
-        return en_ordinal(o);
-    }
-    if locale == 3 {
-        return cy_ordinal(o);
-    }
-    Category::Other
 }
 
 // The category by the rule of a kind in a locale: 0 en, 1 da, 2 ru, 3 cy.
+#[tactic(auto, using(std::proofs::lemmas::Bool::Decides::nat_tests), unfolding(crate::specs::Plural::rule_of))]
 pub fn conditions(locale: u8, kind: Kind, o: Seen) -> Category
     ensures { (x : Operands) → Shows x o → category_number result ≡ rule_of kind locale x }
 {
-    match kind {
-        Kind::Cardinal => cardinal(locale, o),
-        Kind::Ordinal => ordinal(locale, o),
+    match (kind, locale) {
+        (Kind::Cardinal, 0) => en_cardinal(o),
+        (Kind::Cardinal, 1) => da_cardinal(o),
+        (Kind::Cardinal, 2) => ru_cardinal(o),
+        (Kind::Cardinal, 3) => cy_cardinal(o),
+        (Kind::Ordinal, 0) => en_ordinal(o),
+        (Kind::Ordinal, 3) => cy_ordinal(o),
+        _ => Category::Other,
     }
 }

@@ -1,9 +1,8 @@
 // Plural categories.
-ghost use Rattle.std.specs.Prelude.{◌≡◌, eqb};
+ghost use Rattle.std.specs.Prelude.{◌≡◌};
 ghost use Rattle.decimals.specs.Bytes.{same_bytes};
-ghost use Rattle.decimals.specs.Decimal.{or_zero};
 ghost use Rattle.plural.specs.Plural.{operands, whole_operands, rule_of, category as categoryOf, category_number, keyword};
-ghost use Rattle.decimals.specs.Relations.Shown.{told, told_count};
+ghost use Rattle.decimals.specs.Relations.Shown.{told};
 ghost use Rattle.plural.specs.Relations.Shown.{Shows};
 
 use crate::conditions::{Seen, conditions, numbered};
@@ -11,35 +10,17 @@ use crate::types::Category;
 use categories::digit;
 use decimals::bytes::same_bytes;
 use decimals::text::{shortest, whole};
-use decimals::types::{Count, Kind, Number, kind_number};
-
-fn is_zero(m: Count) -> bool
-    ensures { result ≡ eqb (or_zero (told_count m)) 0 }
-{
-    match m {
-        Count::Unset => true,
-        Count::Set(k) => k == 0,
-    }
-}
+use decimals::types::{Kind, Number, kind_number};
 
 fn operands_of(n: Number) -> Seen
     ensures { Shows (operands (told n)) result }
 {
     let q = shortest(n.digits, n.scale);
-    let o = n.options;
-    let m = o.minimum_fraction_digits;
-    let i = whole(q.digits, q.scale);
-    if q.scale == 0 {
-        return Seen {
-            i: i,
-            no_digits: is_zero(m),
-            no_fraction: true,
-        };
-    }
+    let no_fraction = q.scale == 0;
     Seen {
-        i: i,
-        no_digits: false,
-        no_fraction: false,
+        i: whole(q.digits, q.scale),
+        no_digits: no_fraction && n.options.minimum_fraction_digits.unwrap_or(0) == 0,
+        no_fraction,
     }
 }
 
@@ -62,33 +43,40 @@ pub fn by_conditions(locale: u8, kind: Kind, n: u64) -> Category
 fn by_table(locale: u8, kind: Kind, n: u64) -> Category
     ensures { category_number result ≡ rule_of kind locale (whole_operands n) }
 {
-    let rule = (locale as usize) * 2 + (kind_number(kind) as usize);
-    numbered((digit(rule, n) - b'0') as u64)
+    let rule = usize::from(locale) * 2 + usize::from(kind_number(kind));
+    numbered(u64::from(digit(rule, n) - b'0'))
 }
 
 // The category of a number in a locale: 0 en, 1 da, 2 ru, 3 cy.
 pub fn category(locale: u8, n: Number) -> Category
     ensures { category_number result ≡ categoryOf locale (told n) }
 {
-    let options = n.options;
-    let kind = options.kind;
     let o = operands_of(n);
     if o.no_digits {
-        return by_table(locale, kind, o.i);
+        by_table(locale, n.options.kind, o.i)
+    } else {
+        conditions(locale, n.options.kind, o)
     }
-    conditions(locale, kind, o)
+}
+
+// The word of a category.
+#[tactic(auto, unfolding(crate::specs::Plural::keyword))]
+fn keyword(c: Category) -> &'static [u8]
+    ensures { result.now ≡ keyword (category_number c) }
+{
+    match c {
+        Category::Zero => b"zero",
+        Category::One => b"one",
+        Category::Two => b"two",
+        Category::Few => b"few",
+        Category::Many => b"many",
+        Category::Other => b"other",
+    }
 }
 
 // Does a word name a category.
 pub fn matches_category(word: &[u8], c: Category) -> bool
     ensures { result ≡ same_bytes word.now (keyword (category_number c)) }
 {
-    match c {
-        Category::Zero => same_bytes(word, b"zero"),
-        Category::One => same_bytes(word, b"one"),
-        Category::Two => same_bytes(word, b"two"),
-        Category::Few => same_bytes(word, b"few"),
-        Category::Many => same_bytes(word, b"many"),
-        Category::Other => same_bytes(word, b"other"),
-    }
+    same_bytes(word, keyword(c))
 }

@@ -1,2 +1,1 @@
 -- Laws of the buffer that is filled.
-pub mod Filled

@@ -16,9 +16,10 @@ fn kind_of(rule: u8) -> Kind
     ensures { kind_number result ≡ rule % 2 }
 {
     if rule % 2 == 0 {
-        return Kind::Cardinal;
+        Kind::Cardinal
+    } else {
+        Kind::Ordinal
     }
-    Kind::Ordinal
 }
 
 // The digit of a number in a line, by the written conditions.
@@ -34,24 +35,17 @@ fn printed_at(at: usize) -> u8
     requires { at < 1608 }
     ensures { result ≡ get_or printed at 0 }
 {
-    let n = at % 201;
-    if n == 200 {
-        return b'\n';
+    match at % 201 {
+        200 => b'\n',
+        n => digit_in_line((at / 201) as u8, n as u64),
     }
-    digit_in_line((at / 201) as u8, n as u64)
 }
 
 // A buffer that holds the printed table.
 fn make_table() -> [u8; 1608]
     ensures { result ≡ printed }
 {
-    let mut out = [0u8; 1608];
-    let mut at = 0usize;
-    while at < 1608 {
-        out[at] = printed_at(at);
-        at += 1;
-    }
-    out
+    std::array::from_fn(|at| printed_at(at))
 }
 
 fn main(rt: HostRuntime) -> io::Result<()> {

@@ -1,14 +1,13 @@
 -- A resource image and an arguments image, by their head and their end.
+use Rattle.records.specs.Relations.Answer.{Next}
+use Rattle.std.specs.Prelude.{Option, Some, None}
 use mathlib.Core.Path.{◌≡◌, refl, ap, sym, ◌∙◌}
 use mathlib.Core.Bool.{Bool, true, false}
 use mathlib.Core.List.{List, [], ◌∷◌}
 use Prim.Native.Nat.{ℕ, ◌+◌, ◌≤◌, ◌<◌}
 use lib.Dec.{eqb, leb}
 use borrow.Author.Tests.{le-leb, lt-leb}
-use Rattle.records.specs.declared.Next.{Next}
-use Rattle.records.specs.declared.Next.TheVariants as next
 use Rattle.records.specs.declared.Head.{Head}
-use Rattle.records.specs.declared.Head.TheVariants as head
 use Rattle.records.specs.Got.{Got, got, bad, Parser, after, test}
 use Rattle.records.specs.Relations.Answer.{next_of}
 use Rattle.records.specs.Relations.Head.{head_at, head_of}
@@ -17,42 +16,43 @@ use Rattle.records.specs.Decode.{many}
 use Rattle.records.specs.Images.{max_image, one_at}
 use Rattle.records.proofs.Laws.{next_step, next_stop}
 
+-- a head that was read
+abbrev pub head_some : ℕ → ℕ → ℕ → Option Head
+head_some n k e = Some (record { size = n; count = k; from = e })
+
 -- the head, part by part
 module _ (s : List ℕ) (at : ℕ) where
-  pub head_short : number_at 4 s at ≡ bad → head.Bad ≡ head_of (head_at s at)
+  pub head_short : number_at 4 s at ≡ bad → None ≡ head_of (head_at s at)
   unfolding head_of head_at after
   head_short h = rw h
 
   module _ {n p : ℕ} (hn : number_at 4 s at ≡ got n p) where
-    pub head_long : max_image < n → head.Bad ≡ head_of (head_at s at)
+    pub head_long : max_image < n → None ≡ head_of (head_at s at)
     unfolding head_of head_at after test
     head_long h = rw (hn, lt-leb n max_image h)
 
     module _ (l : n ≤ max_image) where
-      pub head_other : one_at s p ≡ bad → head.Bad ≡ head_of (head_at s at)
+      pub head_other : one_at s p ≡ bad → None ≡ head_of (head_at s at)
       unfolding head_of head_at after test
       head_other h = rw (hn, le-leb n max_image l, h)
 
-      pub head_uncounted : {v q : ℕ} → one_at s p ≡ got v q → number_at 2 s q ≡ bad → head.Bad ≡ head_of (head_at s at)
+      pub head_uncounted : {v q : ℕ} → one_at s p ≡ got v q → number_at 2 s q ≡ bad → None ≡ head_of (head_at s at)
       unfolding head_of head_at after test
       head_uncounted h k = rw (hn, le-leb n max_image l, h, k)
 
-      pub head_read : {v q k r : ℕ} → one_at s p ≡ got v q → number_at 2 s q ≡ got k r → head.At n k r ≡ head_of (head_at s at)
+      pub head_read : {v q k r : ℕ} → one_at s p ≡ got v q → number_at 2 s q ≡ got k r → head_some n k r ≡ head_of (head_at s at)
       unfolding head_of head_at after test
       head_read h k = rw (hn, le-leb n max_image l, h, k)
 
 -- what the code's answer says of the head
-pub head_is : (g : Got (ℕ × ℕ)) {r : Head} {n k e : ℕ} → r ≡ head_of g → r ≡ head.At n k e → g ≡ got (n, k) e
+pub head_is : (g : Got (ℕ × ℕ)) {r : Option Head} {n k e : ℕ} → r ≡ head_of g → r ≡ head_some n k e → g ≡ got (n, k) e
 unfolding head_of
 head_is (got h f) {n = n} {k} {e} p q =
-    let w : head.At h.0 h.1 f ≡ head.At n k e = sym p ∙ q in
-    let wn : h.0 ≡ n = cc in
-    let wk : h.1 ≡ k = cc in
-    let we : f ≡ e = cc in
-    ap (λ (i : ℕ). got (i, h.1) f) wn ∙ ap (λ (i : ℕ). got (n, i) f) wk ∙ ap (λ (i : ℕ). got (n, k) i) we
-head_is bad {n = n} {k} {e} p q = let w : head.Bad ≡ head.At n k e = sym p ∙ q in cc
+    let w : ◌≡◌ {A = Head} (record { size = h.0; count = h.1; from = f }) (record { size = n; count = k; from = e }) = cc (sym p ∙ q) in
+    ap (λ (x : Head). got (x.size, x.count) x.from) w
+head_is bad {n = n} {k} {e} p q = let w : ◌≡◌ {A = Option Head} None (head_some n k e) = sym p ∙ q in cc
 
-head_none : (g : Got (ℕ × ℕ)) {r : Head} → r ≡ head_of g → r ≡ head.Bad → g ≡ bad
+head_none : (g : Got (ℕ × ℕ)) {r : Option Head} → r ≡ head_of g → r ≡ None → g ≡ bad
 unfolding head_of
 head_none (got h f) p q = cc
 head_none bad p q = refl
@@ -97,20 +97,20 @@ module _ {A : Type 0} (elem : Parser A) (s : List ℕ) (at : ℕ) where
       go (got n p) = size n p (leb n max_image)
       go bad = refl
 
-  module _ {r : Head} (is : r ≡ head_of (head_at s at)) where
-    pub image_bad : r ≡ head.Bad → next.Bad ≡ next_of image
+  module _ {r : Option Head} (is : r ≡ head_of (head_at s at)) where
+    pub image_bad : r ≡ None → None ≡ next_of image
     unfolding next_of after
     image_bad h = ap next_of (sym (by_head ∙ ap (λ (g : Got (ℕ × ℕ)). after g rest) (head_none (head_at s at) is h)))
 
-    module _ {n k f : ℕ} (h : r ≡ head.At n k f) {x : Next} (all : x ≡ next_of (many [] ◌∷◌ k elem s f)) where
+    module _ {n k f : ℕ} (h : r ≡ head_some n k f) {x : Next} (all : x ≡ next_of (many [] ◌∷◌ k elem s f)) where
       headed : image ≡ rest (n, k) f
       unfolding after
       headed = by_head ∙ ap (λ (g : Got (ℕ × ℕ)). after g rest) (head_is (head_at s at) is h)
 
-      pub image_stop : x ≡ next.Bad → next.Bad ≡ next_of image
+      pub image_stop : x ≡ None → None ≡ next_of image
       unfolding rest
       image_stop w = next_stop _ _ all w ∙ ap next_of (sym headed)
 
-      pub image_end : {e : ℕ} {y : Next} → x ≡ next.At e → y ≡ next_of (test (eqb e (at + n)) (got e e)) → y ≡ next_of image
+      pub image_end : {e : ℕ} {y : Next} → x ≡ Some e → y ≡ next_of (test (eqb e (at + n)) (got e e)) → y ≡ next_of image
       unfolding rest
       image_end {e} w z = next_step _ _ all w (λ es. z ∙ ends_alike (eqb e (at + n)) e es e) ∙ ap next_of (sym headed)

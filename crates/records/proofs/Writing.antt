@@ -1,12 +1,12 @@
 -- Laws of writing numbers and bytes.
 use mathlib.Core.Path.{◌≡◌, refl, ap, sym, ◌∙◌}
-use mathlib.Core.List.{List}
+use mathlib.Core.List.{List, append_assoc, ◌++◌}
 use Prim.Native.Nat.{ℕ, ◌+◌, ◌-◌, ◌*◌, ◌/◌, ◌%◌, ◌≤◌, ◌<◌}
 use native.Mathlib.Omega.{arith}
 use native.Mathlib.Numerals.{add-two}
 use mathlib.Core.Bool.{Bool, true, false}
-use lib.ListN.{length}
-use lib.Seq.{sets, paste, sets-eq, length-sets, take-length}
+use lib.ListN.{drop, length, take}
+use lib.Seq.{sets, paste, drop-drop, sets-eq, length-sets, take-length}
 use lib.Dec.{leb}
 use borrow.Author.Tests.{le-leb, lt-leb, leb-true, leb-false}
 use Rattle.records.specs.Bytes.{be, to_be}
@@ -30,6 +30,10 @@ module _ (d : List ℕ) (at : ℕ) (bs : List ℕ) where
   pub fits_paste : at + length bs ≤ length d → over_fit d at bs ≡ paste d at bs (length bs)
   unfolding over
   fits_paste h = fits_over h ∙ rw (take-length bs)
+
+  pub fits_between : at + length bs ≤ length d → over_fit d at bs ≡ take at d ++ (bs ++ drop (length bs) (drop at d))
+  unfolding over
+  fits_between h = fits_over h ∙ append_assoc (take at d) bs (drop (at + length bs) d) ∙ rw (drop-drop (length bs) at d)
 
   -- as the code's test says it
   module _ {t : Bool} (is : t ≡ leb (at + length bs) (length d)) where

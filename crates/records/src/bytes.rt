@@ -3,17 +3,16 @@ ghost use Rattle.std.specs.Prelude.{◌≡◌, ◌+◌, ◌≤◌, ◌<◌, leng
 ghost use Rattle.records.specs.Relations.Answer.{next_of, num_of};
 ghost use Rattle.records.specs.Bytes.{be, part, byte_at, number_at, span_at, str_at, bytes_at};
 
-use crate::{Next, Num};
 use decimals::bytes::wide;
 
 // A byte as a number, and the position past it.
-pub fn read_byte(s: &[u8], at: usize) -> Num
+pub fn read_byte(s: &[u8], at: usize) -> Option<(usize, usize)>
     ensures { result ≡ num_of (byte_at s.now at) }
 {
     if at < s.len() {
-        Num::At(wide(s[at]), at + 1)
+        Some((wide(s[at]), at + 1))
     } else {
-        Num::Bad
+        None
     }
 }
 
@@ -48,66 +47,60 @@ pub fn has_bytes(size: usize, at: usize, n: usize) -> bool
 }
 
 // A u16, the high byte first.
-pub fn read_u16(s: &[u8], at: usize) -> Num
+pub fn read_u16(s: &[u8], at: usize) -> Option<(usize, usize)>
     ensures { result ≡ num_of (number_at 2 s.now at) }
 {
     if has_bytes(s.len(), at, 2) {
-        return Num::At(two(s, at), at + 2);
+        return Some((two(s, at), at + 2));
     }
-    Num::Bad
+    None
 }
 
 // A u32, the high byte first.
-pub fn read_u32(s: &[u8], at: usize) -> Num
+pub fn read_u32(s: &[u8], at: usize) -> Option<(usize, usize)>
     ensures { result ≡ num_of (number_at 4 s.now at) }
 {
     if has_bytes(s.len(), at, 4) {
-        return Num::At(four(s, at), at + 4);
+        return Some((four(s, at), at + 4));
     }
-    Num::Bad
+    None
 }
 
 // A u64, the high byte first.
-pub fn read_u64(s: &[u8], at: usize) -> Num
+pub fn read_u64(s: &[u8], at: usize) -> Option<(usize, usize)>
     ensures { result ≡ num_of (number_at 8 s.now at) }
 {
     if has_bytes(s.len(), at, 8) {
         let high = four(s, at);
         let low = four(s, at + 4);
-        return Num::At(high * 4294967296 + low, at + 8);
+        return Some((high * 4294967296 + low, at + 8));
     }
-    Num::Bad
+    None
 }
 
 // Past n bytes.
-pub fn skip_bytes(s: &[u8], at: usize, n: usize) -> Next
+pub fn skip_bytes(s: &[u8], at: usize, n: usize) -> Option<usize>
     ensures { result ≡ next_of (bytes_at n s.now at) }
 {
     if has_bytes(s.len(), at, n) {
-        return Next::At(at + n);
+        return Some(at + n);
     }
-    Next::Bad
+    None
 }
 
 // Where the bytes of a Str start, and the position past them.
-pub fn read_str(s: &[u8], at: usize) -> Num
+pub fn read_str(s: &[u8], at: usize) -> Option<(usize, usize)>
     ensures { result ≡ num_of (span_at s.now at) }
 {
-    let Num::At(n, p) = read_u16(s, at) else {
-        return Num::Bad;
-    };
-    let Next::At(e) = skip_bytes(s, p, n) else {
-        return Num::Bad;
-    };
-    Num::At(p, e)
+    let (n, p) = read_u16(s, at)?;
+    let e = skip_bytes(s, p, n)?;
+    Some((p, e))
 }
 
 // Past a Str.
-pub fn skip_str(s: &[u8], at: usize) -> Next
+pub fn skip_str(s: &[u8], at: usize) -> Option<usize>
     ensures { result ≡ next_of (str_at s.now at) }
 {
-    let Num::At(_, e) = read_str(s, at) else {
-        return Next::Bad;
-    };
-    Next::At(e)
+    let (_, e) = read_str(s, at)?;
+    Some(e)
 }

@@ -9,41 +9,31 @@ ghost use Rattle.records.specs.Decode.{literal_at, named_at, named_arguments_at,
 
 use crate::bytes::{read_byte, read_str, skip_str};
 use crate::literal::{check_id, check_literal};
-use crate::{Next, Num};
 
 // A named argument: Id, then a literal.
-fn check_named(s: &[u8], at: usize) -> Next
+fn check_named(s: &[u8], at: usize) -> Option<usize>
     ensures { result ≡ next_of (named_at s.now at) }
 {
-    let Next::At(e) = check_id(s, at) else {
-        return Next::Bad;
-    };
+    let e = check_id(s, at)?;
     check_literal(s, e)
 }
 
 // `count` named arguments.
-fn check_all_named(s: &[u8], from: usize, count: usize) -> Next
+fn check_all_named(s: &[u8], from: usize, count: usize) -> Option<usize>
     ensures { result ≡ next_of (many [] ◌∷◌ count named_at s.now from) }
 {
     let mut at = from;
-    let mut left = count;
-    while 0 < left {
-        let Next::At(e) = check_named(s, at) else {
-            return Next::Bad;
-        };
-        at = e;
-        left -= 1;
+    for _ in 0..count {
+        at = check_named(s, at)?;
     }
-    Next::At(at)
+    Some(at)
 }
 
 // Past a literal that was checked: its tag and its Str, whose bytes are not looked at again.
-fn skip_literal(s: &[u8], at: usize) -> Next
-    ensures { (x : Literal) (e : ℕ) → literal_at s.now at ≡ got x e → result ≡ Next.At e }
+fn skip_literal(s: &[u8], at: usize) -> Option<usize>
+    ensures { (x : Literal) (e : ℕ) → literal_at s.now at ≡ got x e → result ≡ Some e }
 {
-    let Num::At(_, e) = read_byte(s, at) else {
-        return Next::Bad;
-    };
+    let (_, e) = read_byte(s, at)?;
     skip_str(s, e)
 }
 
@@ -53,19 +43,17 @@ fn name_among(s: &[u8], from: usize, count: usize, p: usize, e: usize) -> bool
     ensures { (l : List (List ℕ × Literal)) (f : ℕ) → many [] ◌∷◌ count named_at s.now from ≡ got l f → result ≡ among (part s.now p (e - p)) l }
 {
     let mut at = from;
-    let mut left = count;
-    while 0 < left {
-        let Num::At(q, f) = read_str(s, at) else {
+    for _ in 0..count {
+        let Some((q, f)) = read_str(s, at) else {
             return false;
         };
         if decimals::bytes::same_bytes(&s[p..e], &s[q..f]) {
             return true;
         }
-        let Next::At(g) = skip_literal(s, f) else {
+        let Some(g) = skip_literal(s, f) else {
             return false;
         };
         at = g;
-        left -= 1;
     }
     false
 }
@@ -75,34 +63,30 @@ fn names_distinct(s: &[u8], from: usize, count: usize) -> bool
     ensures { (l : List (List ℕ × Literal)) (f : ℕ) → many [] ◌∷◌ count named_at s.now from ≡ got l f → result ≡ distinct l }
 {
     let mut at = from;
-    let mut left = count;
-    while 0 < left {
-        let Num::At(q, f) = read_str(s, at) else {
+    for left in (0..count).rev() {
+        let Some((q, f)) = read_str(s, at) else {
             return false;
         };
-        let Next::At(g) = skip_literal(s, f) else {
+        let Some(g) = skip_literal(s, f) else {
             return false;
         };
-        if name_among(s, g, left - 1, q, f) {
+        if name_among(s, g, left, q, f) {
             return false;
         }
         at = g;
-        left -= 1;
     }
     true
 }
 
 // The named arguments of a call, no name twice. The names are compared pairwise: with m arguments a name is compared with m - 1 others, and byte by byte
 // only with those of its length.
-pub fn check_named_arguments(s: &[u8], from: usize, count: usize) -> Next
+pub fn check_named_arguments(s: &[u8], from: usize, count: usize) -> Option<usize>
     ensures { result ≡ next_of (named_arguments_at count s.now from) }
 {
-    let Next::At(t) = check_all_named(s, from, count) else {
-        return Next::Bad;
-    };
+    let t = check_all_named(s, from, count)?;
     if names_distinct(s, from, count) {
-        Next::At(t)
+        Some(t)
     } else {
-        Next::Bad
+        None
     }
 }

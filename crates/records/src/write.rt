@@ -30,10 +30,6 @@ pub fn write_bytes(d: &mut [u8], at: usize, src: &[u8])
     ensures { d.new ≡ over_fit d.old at src.now }
 {
     if has_bytes(d.len(), at, src.len()) {
-        let mut i = 0usize;
-        while i < src.len() {
-            d[at + i] = src[i];
-            i += 1;
-        }
+        d[at..at + src.len()].copy_from_slice(src);
     }
 }

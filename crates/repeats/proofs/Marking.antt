@@ -1,4 +1,6 @@
 -- Entries that repeat an id: what the marks say.
+use Rattle.records.specs.Relations.Answer.{Next}
+use Rattle.std.specs.Prelude.{Some, None}
 use mathlib.Core.Path.{◌≡◌, refl, ap, sym, subst, ◌∙◌}
 use mathlib.Core.Bool.{Bool, true, false, ◌||◌}
 use mathlib.Core.List.{List, [], ◌∷◌, ◌++◌}
@@ -8,9 +10,8 @@ use native.Mathlib.Omega.{arith}
 use lib.ListN.{length, get_or, set}
 use lib.Seq.{get_or-set_same, get_or-set_other}
 use lib.Dec.{eqb}
+use mir.Val.{bool_byte}
 use borrow.Author.Tests.{eq-eqb, ne_eqb}
-use Rattle.records.specs.declared.Next.{Next}
-use Rattle.records.specs.declared.Next.TheVariants as next
 use Rattle.records.specs.Got.{got, bad, Parser}
 use Rattle.records.specs.Relations.Answer.{next_of}
 use Rattle.records.specs.Bytes.{part, number_at, span_at}
@@ -47,13 +48,18 @@ module _ (find : Find) (pre : List Entry) (i : List ℕ) where
   pub mark_among : true ≡ is_some (first_entry i pre) → eqb 1 1 ≡ is_held find (seen_after [] pre) i
   mark_among h = eq-eqb 1 1 refl ∙ ap (λ (b : Bool). b || is_held find [] i) h ∙ sym (held_after find [] pre i)
 
-  pub mark_held : false ≡ is_some (first_entry i pre) → true ≡ is_some (find i) → eqb 1 1 ≡ is_held find (seen_after [] pre) i
+  mark_held : false ≡ is_some (first_entry i pre) → true ≡ is_some (find i) → eqb 1 1 ≡ is_held find (seen_after [] pre) i
   unfolding is_held
   mark_held h k = eq-eqb 1 1 refl ∙ k ∙ ap (λ (b : Bool). b || is_some (find i)) h ∙ sym (held_after find [] pre i)
 
-  pub mark_free : false ≡ is_some (first_entry i pre) → false ≡ is_some (find i) → eqb 0 1 ≡ is_held find (seen_after [] pre) i
+  mark_free : false ≡ is_some (first_entry i pre) → false ≡ is_some (find i) → eqb 0 1 ≡ is_held find (seen_after [] pre) i
   unfolding is_held
   mark_free h k = ne_eqb 0 1 (λ z. omega arith) ∙ k ∙ ap (λ (b : Bool). b || is_some (find i)) h ∙ sym (held_after find [] pre i)
+
+  -- the same, as the code has it
+  pub mark_else : false ≡ is_some (first_entry i pre) → {t : Bool} → t ≡ is_some (find i) → eqb (bool_byte t) 1 ≡ is_held find (seen_after [] pre) i
+  mark_else h {t = true} k = mark_held h k
+  mark_else h {t = false} k = mark_free h k
 
 -- one read more at the end
 pub many_snoc : {A : Type 0} (p : Parser A) (s : List ℕ) (k at : ℕ) {l : List A} {i : ℕ} {x : A} {e : ℕ} → many [] ◌∷◌ k p s at ≡ got l i → p s i ≡ got x e → many [] ◌∷◌ (suc k) p s at ≡ got (l ++ (x ∷ [])) e
@@ -85,14 +91,14 @@ module _ (s image : List ℕ) (start : ℕ) (R : Store → Type 0) where
   pub marks_bad : (n k at : ℕ) (marks out : List ℕ) → 0 < n → behind 1 span_at image at ≡ bad → MarkFrom n k at marks out
   marks_bad n k at marks out z h st u hs rs pre hp es f q = first_unread image n at z q h
 
-  pub marks_stuck : (n k at : ℕ) (marks out : List ℕ) {r : Next} → 0 < n → r ≡ next_of (entry_outline image at) → r ≡ next.Bad → MarkFrom n k at marks out
+  pub marks_stuck : (n k at : ℕ) (marks out : List ℕ) {r : Next} → 0 < n → r ≡ next_of (entry_outline image at) → r ≡ None → MarkFrom n k at marks out
   marks_stuck n k at marks out z is b st u hs rs pre hp es f q = first_endless image n at z q is b
 
   abbrev pub Marks : ℕ → ℕ → ℕ → ℕ → ℕ → Type 0
   Marks m k at a e = (st : Store) (f : ℕ) (pre : List Entry) → store_of s ≡ got st f → R st → many [] ◌∷◌ k entry_at image start ≡ got pre at → eqb m 1 ≡ is_held (find_in st.items) (seen_after [] pre) (part image a (e - a))
 
   pub marks_next : (count k at : ℕ) (marks : List ℕ) (m : ℕ) (marks' out : List ℕ) {a e i : ℕ} {r : Next} → k < count → k < length marks → behind 1 span_at image at ≡ got a e → Marks m k at a e → marks' ≡ set marks k m
-      → r ≡ next_of (entry_outline image at) → r ≡ next.At i → MarkFrom (count - (k + 1)) (k + 1) i marks' out → MarkFrom (count - k) k at marks out
+      → r ≡ next_of (entry_outline image at) → r ≡ Some i → MarkFrom (count - (k + 1)) (k + 1) i marks' out → MarkFrom (count - k) k at marks out
   unfolding marked repeats_from
   marks_next count k at marks m marks' out {a} {e} {i} lt lm h hm hs' is w rest st u hs rs pre hp es f q =
       turn_ends image count k at lt q is w (λ x es' hx hl el.

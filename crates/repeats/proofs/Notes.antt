@@ -1,4 +1,6 @@
 -- Steps of the table of held ids: what is noted of an id, of entries, of an item and of a store; and the mark of an entry by its slot.
+use Rattle.records.specs.Relations.Answer.{Next}
+use Rattle.std.specs.Prelude.{Some, None}
 use mathlib.Core.Path.{◌≡◌, refl, ap, sym, subst, ◌∙◌}
 use mathlib.Core.Bool.{Bool, true, false, ◌||◌}
 use mathlib.Core.List.{List, [], ◌∷◌}
@@ -9,8 +11,6 @@ use lib.ListN.{length, get_or, set, length-set, replicate, length-replicate}
 use lib.Seq.{get_or-set_same, get_or-set_other}
 use lib.Dec.{eqb}
 use borrow.Author.Tests.{eq-eqb, ne_eqb, eqb-true, eqb-false}
-use Rattle.records.specs.declared.Next.{Next}
-use Rattle.records.specs.declared.Next.TheVariants as next
 use Rattle.records.specs.Got.{got, bad}
 use Rattle.records.specs.Relations.Answer.{next_of}
 use Rattle.records.specs.Bytes.{part, byte_at, number_at, span_at}
@@ -156,11 +156,11 @@ module _ (s image places : List ℕ) where
   pub entries_bad : {n at : ℕ} {held out : List ℕ} → 0 < n → behind 1 span_at s at ≡ bad → NotesEntries s image places n at held out
   entries_bad {n} {at} z h = record { says = λ es f q. first_unread s n at z q h }
 
-  pub entries_stuck : {n at : ℕ} {held out : List ℕ} {r : Next} → 0 < n → r ≡ next_of (entry_outline s at) → r ≡ next.Bad → NotesEntries s image places n at held out
+  pub entries_stuck : {n at : ℕ} {held out : List ℕ} {r : Next} → 0 < n → r ≡ next_of (entry_outline s at) → r ≡ None → NotesEntries s image places n at held out
   entries_stuck {n} {at} z is b = record { says = λ es f q. first_endless s n at z q is b }
 
   pub entries_next : {n at a e i : ℕ} {held mid out : List ℕ} {r : Next} → 0 < n → behind 1 span_at s at ≡ got a e → Notes image places held (same_bytes (part s a (e - a))) mid
-      → r ≡ next_of (entry_outline s at) → r ≡ next.At i → NotesEntries s image places (n - 1) i mid out → NotesEntries s image places n at held out
+      → r ≡ next_of (entry_outline s at) → r ≡ Some i → NotesEntries s image places (n - 1) i mid out → NotesEntries s image places n at held out
   entries_next {n} {at} {a} {e} {i} {held} {mid} {out} z h one is w rest = record {
     says = λ es f q.
         first_ends s n at z q is w (λ x es' hx hl el.
@@ -224,10 +224,10 @@ module _ (s image places : List ℕ) where
   unfolding find_from is_some
   items_none {n} {at} {held} z = record { says = λ es f q. many_nil [] ◌∷◌ item_at s n at z q (λ el _. rw el (notes_nothing image places held)) }
 
-  pub items_stuck : {n at : ℕ} {held out : List ℕ} → 0 < n → Passes (item_at s at) next.Bad → NotesItems n at held out
+  pub items_stuck : {n at : ℕ} {held out : List ℕ} → 0 < n → Passes (item_at s at) None → NotesItems n at held out
   items_stuck {n} {at} z w = record { says = λ es f q. many_cons [] ◌∷◌ item_at s n at z q (λ x e r hx _ _. not_read w x e hx) }
 
-  pub items_next : {n at i : ℕ} {held mid out : List ℕ} → 0 < n → NotesItem s image places at held mid → Passes (item_at s at) (next.At i) → NotesItems (n - 1) i mid out → NotesItems n at held out
+  pub items_next : {n at i : ℕ} {held mid out : List ℕ} → 0 < n → NotesItem s image places at held mid → Passes (item_at s at) (Some i) → NotesItems (n - 1) i mid out → NotesItems n at held out
   items_next {n} {at} {i} {held} {mid} {out} z one w rest = record {
     says = λ es f q.
         many_cons [] ◌∷◌ item_at s n at z q (λ x j es' hx hl el.

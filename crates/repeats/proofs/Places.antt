@@ -1,4 +1,6 @@
 -- Steps of the table of positions: an id of the entries that has a slot has the position of its first entry there.
+use Rattle.records.specs.Relations.Answer.{Next}
+use Rattle.std.specs.Prelude.{Some, None}
 use mathlib.Core.Path.{◌≡◌, refl, ap, sym, subst, ◌∙◌}
 use mathlib.Core.Bool.{Bool, true, false, ◌||◌}
 use mathlib.Core.List.{List, [], ◌∷◌, ◌++◌}
@@ -10,8 +12,6 @@ use lib.ListN.{length, get_or, set, length-set, replicate, length-replicate}
 use lib.Seq.{get_or-set_same, get_or-set_other, set_out}
 use lib.Dec.{eqb, ltb, leb}
 use borrow.Author.Tests.{eqb-true, eqb-false, ltb-true, ltb-false, leb-true, leb-false}
-use Rattle.records.specs.declared.Next.{Next}
-use Rattle.records.specs.declared.Next.TheVariants as next
 use Rattle.records.specs.Got.{got, bad}
 use Rattle.records.specs.Relations.Answer.{next_of}
 use Rattle.records.specs.Bytes.{part, number_at, span_at}
@@ -197,11 +197,11 @@ module _ (image : List ℕ) (start : ℕ) where
   pub place_bad : {n k at : ℕ} {places out : List ℕ} → 0 < n → behind 1 span_at image at ≡ bad → PlaceFrom image start n k at places out
   place_bad {n} {k} {at} z h = record { says = λ pre hp es f q _ _ _ _ _ _. first_unread image n at z q h }
 
-  pub place_stuck : {n k at : ℕ} {places out : List ℕ} {r : Next} → 0 < n → r ≡ next_of (entry_outline image at) → r ≡ next.Bad → PlaceFrom image start n k at places out
+  pub place_stuck : {n k at : ℕ} {places out : List ℕ} {r : Next} → 0 < n → r ≡ next_of (entry_outline image at) → r ≡ None → PlaceFrom image start n k at places out
   place_stuck {n} {k} {at} z is b = record { says = λ pre hp es f q _ _ _ _ _ _. first_endless image n at z q is b }
 
   pub place_next : (count : ℕ) {k at a e i : ℕ} {places places' out : List ℕ} {r : Next} → k < count → behind 1 span_at image at ≡ got a e
-      → places' ≡ placed places (seek_of image places (part image a (e - a))) (at % 65536) → r ≡ next_of (entry_outline image at) → r ≡ next.At i
+      → places' ≡ placed places (seek_of image places (part image a (e - a))) (at % 65536) → r ≡ next_of (entry_outline image at) → r ≡ Some i
       → PlaceFrom image start (count - (k + 1)) (k + 1) i places' out → PlaceFrom image start (count - k) k at places out
   place_next count {k} {at} {a} {e} {i} {places} {places'} {out} lt hi ep is w rest = record {
     says = λ pre hp es f q li len za ends below p.

@@ -1,20 +1,21 @@
 -- An id's slot: where it is sought, and that it stays where slots that are taken stay as they are.
 use mathlib.Core.Path.{◌≡◌, refl, ap, sym, ◌∙◌}
-use mathlib.Core.Bool.{Bool, true, false, ◌||◌}
+use mathlib.Core.Bool.{Bool, true, false, cond, ◌||◌}
 use mathlib.Core.List.{List, [], ◌∷◌}
 use Prim.Native.Nat.{ℕ, zero, suc, ◌+◌, ◌-◌, ◌≤◌, ◌<◌}
 use native.Mathlib.Numerals.{add-one}
 use native.Mathlib.Omega.{arith}
 use lib.ListN.{get_or}
-use lib.Dec.{eqb}
-use borrow.Author.Tests.{eq-eqb, ne_eqb, eqb-false}
+use lib.Dec.{eqb, ltb}
+use borrow.Author.Tests.{eq-eqb, ne_eqb, eqb-false, lt-ltb, le-ltb, ltb-true, ltb-false}
 use Rattle.records.specs.Got.{Got, got, bad}
 use Rattle.records.specs.Bytes.{part, span_at}
 use Rattle.decimals.specs.Bytes.{same_bytes}
 use Rattle.decimals.proofs.Same.{same_eq}
 use Rattle.entries.specs.Outline.{behind}
 use Rattle.repeats.proofs.Marking.{or_true}
-use Rattle.repeats.specs.Relations.Slots.{mixed, slot_of, span_is, has_id, suits, either, seek_from, seek_of, slotted, Stands}
+use Rattle.repeats.specs.Relations.Slots.{mixed, slot_of, span_is, has_id, suits, either, seek_from, seek_of, if_slot, slotted, Stands}
+use Rattle.std.specs.Prelude.{Option, Some, None}
 
 -- equal bytes
 pub same_refl : (a : List ℕ) → same_bytes a a ≡ true
@@ -75,8 +76,30 @@ module _ (image x : List ℕ) where
   unfolding span_is
   has_span p h = ap (span_is image x) h
 
-  pub suited_at : (p : ℕ) {q : ℕ} {r b : Bool} → q ≡ p → r ≡ suits image x q → r ≡ b → suits image x p ≡ b
-  suited_at p eq is t = ap (suits image x) (sym eq) ∙ sym is ∙ t
+-- a slot of the table, and what the code's answer says of it
+pub slot_there : {h : ℕ} → h < 8200 → Some h ≡ if_slot h
+unfolding if_slot
+slot_there {h} l = rw (lt-ltb h 8200 l)
+
+slot_none : (h : ℕ) → 8200 ≤ h → None ≡ if_slot h
+unfolding if_slot
+slot_none h l = rw (le-ltb h 8200 l)
+
+pub slot_is : {r : Option ℕ} (h : ℕ) {j : ℕ} → r ≡ if_slot h → r ≡ Some j → (j ≡ h) × (j < 8200)
+unfolding if_slot
+slot_is {r} h {j} p q = go (ltb h 8200) refl (sym q ∙ p)
+  where
+    go : (b : Bool) → ltb h 8200 ≡ b → Some j ≡ cond b (Some h) None → (j ≡ h) × (j < 8200)
+    go true e w = let i : j ≡ h = cc in let l = ltb-true h 8200 e in (i, omega arith)
+    go false e w = let z : ◌≡◌ {A = ℕ} 0 1 = cc in absurd (omega arith)
+
+pub slot_not : {r : Option ℕ} (h : ℕ) → r ≡ if_slot h → r ≡ None → 8200 ≤ h
+unfolding if_slot
+slot_not {r} h p q = go (ltb h 8200) refl (sym q ∙ p)
+  where
+    go : (b : Bool) → ltb h 8200 ≡ b → None ≡ cond b (Some h) None → 8200 ≤ h
+    go true e w = let z : ◌≡◌ {A = ℕ} 0 1 = cc in absurd (omega arith)
+    go false e w = ltb-false h 8200 e
 
 -- steps of seeking
 module _ (image places x : List ℕ) where
@@ -98,23 +121,15 @@ module _ (image places x : List ℕ) where
       let f : j + 1 ≡ suc j = add-one j in
       ap (λ (b : Bool). either b j (seek_from image places x n (suc j))) h ∙ ap (λ (m : ℕ). seek_from image places x m (suc j)) (sym e) ∙ ap (λ (i : ℕ). seek_from image places x (suc n - 1) i) (sym f)
 
-  -- the loop of seek: h + j is the slot that it looks at, and 8 - j are left
-  pub seek_starts : {h : ℕ} → h ≡ slot_of x → seek_from image places x (8 - 0) (h + 0) ≡ seek_of image places x
-  unfolding seek_of
-  seek_starts {h} e = let z : h + 0 ≡ slot_of x = omega arith in ap (seek_from image places x 8) z
+  -- the loop of seek, with n slots left, from j on: the first that suits, and none
+  pub seek_found : (n j : ℕ) → 0 < n → j < 8200 → suits image x (get_or places j 0) ≡ true → seek_from image places x n j ≡ seek_of image places x → Some j ≡ if_slot (seek_of image places x)
+  seek_found n j z l t e = slot_there l ∙ ap if_slot (sym (seek_here n j z t) ∙ e)
 
-  pub seek_found : (h : ℕ) {j : ℕ} → j < 8 → suits image x (get_or places (h + j) 0) ≡ true → seek_from image places x (8 - j) (h + j) ≡ seek_of image places x → h + j ≡ seek_of image places x
-  seek_found h {j} l t e = sym (seek_here (8 - j) (h + j) (omega arith) t) ∙ e
+  pub seek_turn : (n j : ℕ) → 0 < n → suits image x (get_or places j 0) ≡ false → seek_from image places x n j ≡ seek_of image places x → seek_from image places x (n - 1) (j + 1) ≡ seek_of image places x
+  seek_turn n j z t e = sym (seek_on n j z t) ∙ e
 
-  pub seek_turn : (h : ℕ) {j : ℕ} → j < 8 → suits image x (get_or places (h + j) 0) ≡ false → seek_from image places x (8 - j) (h + j) ≡ seek_of image places x
-      → seek_from image places x (8 - (j + 1)) (h + (j + 1)) ≡ seek_of image places x
-  seek_turn h {j} l t e =
-      let a : 8 - (j + 1) ≡ 8 - j - 1 = omega arith in
-      let b : h + (j + 1) ≡ h + j + 1 = omega arith in
-      ap (λ (n : ℕ). seek_from image places x n (h + (j + 1))) a ∙ ap (seek_from image places x (8 - j - 1)) b ∙ sym (seek_on (8 - j) (h + j) (omega arith) t) ∙ e
-
-  pub seek_ended : (h : ℕ) {j : ℕ} → 8 ≤ j → seek_from image places x (8 - j) (h + j) ≡ seek_of image places x → 8200 ≡ seek_of image places x
-  seek_ended h {j} l e = sym (seek_none (8 - j) (h + j) (omega arith)) ∙ e
+  pub seek_ended : (n j : ℕ) → n ≤ 0 → seek_from image places x n j ≡ seek_of image places x → None ≡ if_slot (seek_of image places x)
+  seek_ended n j z e = slot_none (seek_of image places x) (let h = seek_none n j z in let e' : seek_of image places x ≡ 8200 = sym e ∙ h in omega arith)
 
   -- what is found suits the id
   suits_from : (n j : ℕ) → seek_from image places x n j < 8200 → suits image x (get_or places (seek_from image places x n j) 0) ≡ true

@@ -1,8 +1,6 @@
 // Numbers and options in a case.
-ghost use Rattle.std.specs.Prelude.{◌<◌};
-
-use decimals::types::{Count, Display, Kind, Number, Options, Style};
-use vectors::{byte, flag, tail, u32_at, u64_at};
+use decimals::types::{Display, Kind, Number, Options, Style};
+use vectors::{byte, flag, past, tail, u32_at, u64_at};
 
 pub(crate) fn kind(b: u8) -> Kind {
     match b {
@@ -27,22 +25,14 @@ fn display(b: u8) -> Display {
     }
 }
 
-fn count_of(set: bool, n: u64) -> Count {
-    if set { Count::Set(n) } else { Count::Unset }
-}
-
 // Flag set, u32 count.
-fn count(s: &[u8], at: usize) -> Count
-    requires { at < 30 }
-{
-    count_of(flag(s, at), u32_at(s, at + 1))
+fn count(s: &[u8], at: usize) -> Option<u64> {
+    flag(s, at).then_some(u32_at(s, past(s, at, 1)))
 }
 
 // Flag set, u8 count.
-pub(crate) fn minimum(s: &[u8], at: usize) -> Count
-    requires { at < 30 }
-{
-    count_of(flag(s, at), byte(s, at + 1) as u64)
+pub(crate) fn minimum(s: &[u8], at: usize) -> Option<u64> {
+    flag(s, at).then_some(u64::from(byte(s, past(s, at, 1))))
 }
 
 // 30 bytes.
@@ -62,32 +52,25 @@ pub(crate) fn options(s: &[u8]) -> Options {
 }
 
 // Options of a kind and a minimum, the others not set.
-pub(crate) fn plain(k: Kind, m: Count) -> Options {
+pub(crate) fn plain(kind: Kind, minimum: Option<u64>) -> Options {
     Options {
-        kind: k,
-        style: Style::Decimal,
-        currency: false,
-        currency_display: Display::Symbol,
-        use_grouping: true,
-        minimum_integer_digits: Count::Unset,
-        minimum_fraction_digits: m,
-        maximum_fraction_digits: Count::Unset,
-        minimum_significant_digits: Count::Unset,
-        maximum_significant_digits: Count::Unset,
+        kind,
+        minimum_fraction_digits: minimum,
+        ..Options::default()
     }
 }
 
 // A Decimal, 10 bytes: Flag, u64 digits, u8 scale.
-pub(crate) fn decimal(s: &[u8], o: Options) -> Number {
+pub(crate) fn decimal(s: &[u8], options: Options) -> Number {
     Number {
         negative: flag(s, 0),
         digits: u64_at(s, 1),
         scale: byte(s, 9),
-        options: o,
+        options,
     }
 }
 
 // A Decimal and a Minimum.
-pub(crate) fn number(s: &[u8], k: Kind) -> Number {
-    decimal(s, plain(k, minimum(s, 10)))
+pub(crate) fn number(s: &[u8], kind: Kind) -> Number {
+    decimal(s, plain(kind, minimum(s, 10)))
 }

@@ -1,10 +1,10 @@
 -- The limits of an arguments image's length.
 use mathlib.Core.Path.{◌≡◌, refl}
 use mathlib.Core.Bool.{Bool, true, false, ◌&&◌}
-use Prim.Native.Nat.{ℕ, ◌≤◌, ◌<◌}
+use Prim.Native.Nat.{ℕ, ◌≤◌}
 use native.Mathlib.Omega.{arith}
 use lib.Dec.{leb}
-use borrow.Author.Tests.{le-leb, lt-leb, leb-true}
+use borrow.Author.Tests.{le-leb, leb-true}
 use Rattle.records.specs.Images.{max_image}
 use Rattle.requests.specs.Image.{min_arguments}
 
@@ -14,16 +14,6 @@ length_ok n = leb min_arguments n && leb n max_image
 
 pub length_ok_law : (n : ℕ) → min_arguments ≤ n → n ≤ max_image → length_ok n ≡ true
 length_ok_law n h k = rw (le-leb min_arguments n h, le-leb n max_image k)
-
-pub length_short : (n : ℕ) → n < min_arguments → length_ok n ≡ false
-length_short n h = rw (lt-leb min_arguments n h)
-
-pub length_long : (n : ℕ) → max_image < n → length_ok n ≡ false
-length_long n h = go (leb min_arguments n)
-  where
-    go : (t : Bool) → t && leb n max_image ≡ false
-    go true = rw (lt-leb n max_image h)
-    go false = refl
 
 -- and back
 pub length_limits : (n : ℕ) → length_ok n ≡ true → (min_arguments ≤ n) × (n ≤ max_image)

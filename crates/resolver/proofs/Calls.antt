@@ -1,4 +1,7 @@
 -- The arguments of a call, positional and named; and the call itself.
+use Rattle.state.specs.Progress.{refused_of}
+use Rattle.records.specs.Relations.Answer.{Next}
+use Rattle.std.specs.Prelude.{Some, None}
 use mathlib.Core.Path.{◌≡◌, refl, ap, sym, subst, ◌∙◌}
 use mathlib.Core.List.{List, [], ◌∷◌}
 use mathlib.Core.Bool.{Bool, true, false}
@@ -6,8 +9,6 @@ use mathlib.Core.Option.{Option, none, some}
 use Prim.Native.Nat.{ℕ, zero, suc, ◌-◌, ◌≤◌, ◌<◌}
 use native.Mathlib.Omega.{arith}
 use Rattle.numbers.specs.Value.{Value, number_function}
-use Rattle.records.specs.declared.Next.{Next}
-use Rattle.records.specs.declared.Next.TheVariants as next
 use Rattle.records.specs.Got.{got, bad}
 use Rattle.records.specs.Bytes.{part, number_at, span_at}
 use Rattle.records.specs.Tree.{Named, Inline, Inlines, no_inline, and}
@@ -16,12 +17,13 @@ use Rattle.records.specs.Images.{Entry, Store, store_of}
 use Rattle.records.proofs.Views.{both, never, id_elim, many_cons, many_nil, arguments_elim, named_arguments_elim}
 use Rattle.entries.specs.Lookup.{Holder, find_in}
 use Rattle.entries.specs.Relations.Meets.{HolderAt}
-use Rattle.entries.specs.declared.Found.{Found}
-use Rattle.entries.specs.declared.Found.TheVariants as found
+use Rattle.entries.specs.declared.Holder.{Holder as Held}
+use Rattle.std.specs.Prelude as rust
+use Rattle.entries.specs.declared.Holder.TheVariants as found
 use Rattle.resolution.specs.Effect.{Bytes, unfound, State, M, ret, ◌>>=◌, ◌>>◌, emit, release}
 use Rattle.resolution.specs.Exec.{Machine, Limits}
 use Rattle.resolution.specs.Resolve.{Trail, named_values, Given, call, call_function, resolve_inline, get_arguments}
-use Rattle.state.specs.Progress.{Progress}
+use Rattle.state.specs.declared.Progress.{Progress}
 use Rattle.values.specs.declared.Value as CodeValue
 use Rattle.values.specs.declared.Value.TheVariants as val
 use Rattle.resolver.specs.Relations.Meets.{World, world, Live, Ended, ended, stopped, Runs, Kept, Acts, NamedIn, named_texts, Holds, in_store, in_args, in_work, a_number, is_nothing, a_wrong, Env, Setup, setting_of, find_of, cross_of}
@@ -36,10 +38,10 @@ use Rattle.resolver.proofs.Single.Values.{named_value}
 use Rattle.resolver.proofs.References.{known_message, known_term, known_function, known_nothing}
 
 -- what was refused stays so: where a later state is not, an earlier one was not
-kept_go : {w v : World} → Kept w v → v.st.refused ≡ 0 → w.st.refused ≡ 0
-kept_go {w} {v} k z = go w.st.refused refl
+kept_go : {w v : World} → Kept w v → (refused_of v.st) ≡ 0 → (refused_of w.st) ≡ 0
+kept_go {w} {v} k z = go (refused_of w.st) refl
   where
-    go : (n : ℕ) → w.st.refused ≡ n → w.st.refused ≡ 0
+    go : (n : ℕ) → (refused_of w.st) ≡ n → (refused_of w.st) ≡ 0
     go zero e = e
     go (suc n) e = let q = k.over (λ o. omega arith) in absurd (omega arith)
 
@@ -60,8 +62,8 @@ module _ (e : Env) (left : ℕ) where
     ends = λ xs f h. many_nil no_inline and (inline left) e.store i p z h (λ _ ef. sym ef);
   }
 
-  module _ (i p : ℕ) {r : Next} {w u : World} {c : CodeValue.Value} (z : 0 < i) (h : ValueAt e left p w u c) (past : (a : Inline) (f : ℕ) → inline left e.store p ≡ got a f → r ≡ next.At f) where
-    pub inlines_more : {q : ℕ} → r ≡ next.At q → (v : World) (end : ℕ) → InlinesAt e left (i - 1) q u v end → InlinesAt e left i p w v end
+  module _ (i p : ℕ) {r : Next} {w u : World} {c : CodeValue.Value} (z : 0 < i) (h : ValueAt e left p w u c) (past : (a : Inline) (f : ℕ) → inline left e.store p ≡ got a f → r ≡ Some f) where
+    pub inlines_more : {q : ℕ} → r ≡ Some q → (v : World) (end : ℕ) → InlinesAt e left (i - 1) q u v end → InlinesAt e left i p w v end
     unfolding inlines_at positional_values
     inlines_more {q} er v end g = record {
       kept = kept_then h.kept g.kept;
@@ -81,7 +83,7 @@ module _ (e : Env) (left : ℕ) where
     }
 
     -- nothing stands there: never, where the arguments were read
-    pub inlines_stop : r ≡ next.Bad → (end : ℕ) → InlinesAt e left i p w u end
+    pub inlines_stop : r ≡ None → (end : ℕ) → InlinesAt e left i p w u end
     unfolding inlines_at
     inlines_stop er end = record {
       kept = h.kept;
@@ -137,7 +139,7 @@ module _ (e : Env) (left at : ℕ) where
       at_start hx ek ec = rw (ek, ec) hx
 
       go : Taken e left n start w i p first v → (u : Setup e) (xs : Inlines) (f : ℕ) → inlines_at (inline left) n e.store start ≡ got xs f → (m : ℕ) (t : Trail) → Here e w 0 m t
-          → (L : Limits) (s : State) (o : Machine) → Live L w s o → v.st.refused ≡ 0 → FirstIs first (positional_values (setting_of e u) (find_of e u) (cross_of e u m) t xs s).value
+          → (L : Limits) (s : State) (o : Machine) → Live L w s o → (refused_of v.st) ≡ 0 → FirstIs first (positional_values (setting_of e u) (find_of e u) (cross_of e u m) t xs s).value
       go (none_yet ei _ _ ef) u xs f hx m t here L s o lv z = many_nil no_inline and (inline left) e.store n start (empty ei) hx (λ el _.
           first_none (ap (λ (b : Inlines). (positional_values (setting_of e u) (find_of e u) (cross_of e u m) t b s).value) el) ef)
       go (one_is lt u1 h kp) u xs f hx m t here L s o lv z = many_cons no_inline and (inline left) e.store n start (omega arith) hx (λ a j l ha hl el.
@@ -155,7 +157,7 @@ module _ (e : Env) (left at : ℕ) (w u1 : World) (first : CodeValue.Value) (end
       c k p q m r hk (rw ex hx) (subst (λ (j : ℕ). number_at 2 e.store j ≡ got m r) (sym (pos.ends k p xs' q hk hx)) hm) (rw en hr')))
 
   -- refused while they were resolved
-  pub arguments_stopped : {B : Type 0} (F : Given → M B) → (u1.st.refused ≡ 0 → ⊥) → (u : Setup e) (xs : Inlines) (ns : Named) (f : ℕ) → arguments_at (inline left) e.store at ≡ got (xs, ns) f
+  pub arguments_stopped : {B : Type 0} (F : Given → M B) → ((refused_of u1.st) ≡ 0 → ⊥) → (u : Setup e) (xs : Inlines) (ns : Named) (f : ℕ) → arguments_at (inline left) e.store at ≡ got (xs, ns) f
       → (n : ℕ) (t : Trail) → Here e w 0 n t → Runs (get_arguments (setting_of e u) (find_of e u) (cross_of e u n) t xs ns >>= F) w u1
   arguments_stopped F z u xs ns f h n t here = args_elim h (λ k c q m r hk hx hm hr.
       runs_as (arguments_then (setting_of e u) (find_of e u) (cross_of e u n) t ns F xs) (runs_stopped _ _ z (pos.runs u k c xs q hk hx n t here)))
@@ -200,7 +202,7 @@ module _ (e : Env) (left at : ℕ) (w : World) (x l w1 t : List ℕ) (s1 : Progr
         (here_stays (here_stays here pos.kept (stays mv1)) (nm.kept x l t) (stays mv2)))))))
 
     -- the value that it gives
-    pub arguments_value : {C : Type 0} (L : Limits) (s : State) (o : Machine) → Live L w s o → s1.refused ≡ 0 → s2.refused ≡ 0
+    pub arguments_value : {C : Type 0} (L : Limits) (s : State) (o : Machine) → Live L w s o → (refused_of s1) ≡ 0 → (refused_of s2) ≡ 0
         → ((vs : List Value) (q : State) → ((get_arguments (setting_of e u) (find_of e u) (cross_of e u n) tr xs ns >>= F) s).value ≡ (F (given vs (named_texts ns)) q).value
         → FirstIs first vs → NamedIn w2 s2.back s1.back ns → many [] ◌∷◌ m named_at e.store named ≡ got ns f → C) → C
     unfolding P ◌>>=◌
@@ -234,7 +236,7 @@ module _ (e : Env) (left at : ℕ) where
     at_id ep h = rw ep h
 
     module _ (w : World) {u1 : World} {first : CodeValue.Value} {end : ℕ} (pos : PositionalAt e left p w u1 first end) where
-      pub called_stopped : (b : Bool) (c : CodeValue.Value) → (u1.st.refused ≡ 0 → ⊥) → CalledAt e left at w u1 b c
+      pub called_stopped : (b : Bool) (c : CodeValue.Value) → ((refused_of u1.st) ≡ 0 → ⊥) → CalledAt e left at w u1 b c
       called_stopped b c z = record {
         kept = pos.kept;
         runs = λ u i q xs ns f hi ha n t here. call_id hi (λ ei ep.
@@ -254,7 +256,7 @@ module _ (e : Env) (left at : ℕ) where
       abbrev known : World
       known = world e.store x l w2 t s2
 
-      pub called_halted : (b : Bool) (c : CodeValue.Value) → (s2.refused ≡ 0 → ⊥) → CalledAt e left at w known b c
+      pub called_halted : (b : Bool) (c : CodeValue.Value) → ((refused_of s2) ≡ 0 → ⊥) → CalledAt e left at w known b c
       called_halted b c z = record {
         kept = kept_named e left p w x l w1 t s1 first end pos m named hm w2 s2 nm;
         runs = λ u i q xs ns f hi ha n tr here. call_id hi (λ ei ep.
@@ -263,7 +265,7 @@ module _ (e : Env) (left at : ℕ) where
         result = λ u i q xs ns f hi ha n tr here L s k lv r. absurd (z r);
       }
 
-      module _ (z1 : s1.refused ≡ 0) (z2 : s2.refused ≡ 0) {h : Found}
+      module _ (z1 : (refused_of s1) ≡ 0) (z2 : (refused_of s2) ≡ 0) {h : rust.Option Held}
           (hold : (st : Store) (f : ℕ) → store_of e.store ≡ got st f → HolderAt e.store (find_in st.items (part e.store a (p - a))) h) where
         holder_of_law : (u : Setup e) {i : Bytes} → i ≡ id_of → HolderAt e.store (find_of e u i) h
         holder_of_law u ei = rw ei (hold u.held u.used u.held_at)
@@ -273,13 +275,13 @@ module _ (e : Env) (left at : ℕ) where
             → ((u : Setup e) (i : Bytes) (ns : Named) (f : ℕ) → i ≡ id_of → (vs : List Value) (L : Limits) (s : State) (k : Machine) → Live L known s k → FirstIs first vs → NamedIn w2 s2.back s1.back ns
             → many [] ◌∷◌ m named_at e.store named ≡ got ns f → Ended L known (world e.store x l w2 t s3) (call_function (find_of e u) i (given vs (named_texts ns)) s) k)
             → ((u : Setup e) (i : Bytes) (ns : Named) (f : ℕ) → i ≡ id_of → (vs : List Value) (q : State) → FirstIs first vs → NamedIn w2 s2.back s1.back ns
-            → many [] ◌∷◌ m named_at e.store named ≡ got ns f → s3.refused ≡ 0 → ResultIs e.store e.given.args w2 r.back b c (call_function (find_of e u) i (given vs (named_texts ns)) q).value)
+            → many [] ◌∷◌ m named_at e.store named ≡ got ns f → (refused_of s3) ≡ 0 → ResultIs e.store e.given.args w2 r.back b c (call_function (find_of e u) i (given vs (named_texts ns)) q).value)
             → CalledAt e left at w (world e.store x l w2 t r) b c
         unfolding release
         called_by {s3} {r} {b} {c} er kp go val =
             let kw = kept_then (kept_named e left p w x l w1 t s1 first end pos m named hm w2 s2 nm) kp in
             record {
-              kept = record { begun = (let o = kw.begun in let o2 = ap (λ (q : Progress). q.begun) er in omega arith); over = λ f. ap (λ (q : Progress). q.refused) er ∙ kw.over f };
+              kept = record { begun = (let o = kw.begun in let o2 = ap (λ (q : Progress). q.begun) er in omega arith); over = λ f. ap (λ (q : Progress). (refused_of q)) er ∙ kw.over f };
               runs = λ u i q xs ns f hi ha n tr here. call_id hi (λ ei ep.
                   release_back w (world e.store x l w2 t s3) _ er
                   (arguments_runs e left p w x l w1 t s1 first end pos m named hm w2 s2 nm (λ g. call_function (find_of e u) i g) kp u xs ns f (at_id ep ha) n tr here
@@ -288,11 +290,11 @@ module _ (e : Env) (left at : ℕ) where
                   arguments_value e left p w x l w1 t s1 first end pos m named hm w2 s2 nm (λ g. call_function (find_of e u) i g) kp u xs ns f (at_id ep ha) n tr here L s k lv z1 z2
                   (λ vs q ev fi ni hr.
                   subst (λ (o : Option Value). ResultIs e.store e.given.args w2 r.back b c o) (sym ev)
-                  (val u i ns f ei vs q fi ni hr (sym (ap (λ (o : Progress). o.refused) er) ∙ z))));
+                  (val u i ns f ei vs q fi ni hr (sym (ap (λ (o : Progress). (refused_of o)) er) ∙ z))));
             }
 
         -- the one function
-        pub called_function : {s3 r : Progress} {c : CodeValue.Value} → h ≡ found.Function → NumberAt e.store w2 s2 named m s1.back first s3 c → r ≡ back_s w.st.back s3
+        pub called_function : {s3 r : Progress} {c : CodeValue.Value} → h ≡ rust.Some found.Function → NumberAt e.store w2 s2 named m s1.back first s3 c → r ≡ back_s w.st.back s3
             → CalledAt e left at w (world e.store x l w2 t r) true c
         unfolding call_function call ◌>>◌ ◌>>=◌ ret
         called_function {s3} {r} {c} eh nb er = called_by er (nb.kept x l t)
@@ -316,14 +318,14 @@ module _ (e : Env) (left at : ℕ) where
             let y = is u i ei in
             is_no_function refl refl (ap (λ (o : M (Option Value)). (o q).value) (look_found (find_of e u) i (λ o. call (given vs (named_texts ns)) o) (Holder.entry y.0) y.1)))
 
-        pub called_message : {r : Progress} {q : ℕ} → h ≡ found.Message q → r ≡ back_s w.st.back s2 → CalledAt e left at w (world e.store x l w2 t r) false val.Wrong
+        pub called_message : {r : Progress} {q : ℕ} → h ≡ rust.Some (found.Message q) → r ≡ back_s w.st.back s2 → CalledAt e left at w (world e.store x l w2 t r) false val.Wrong
         called_message eh er = called_other er (λ u i ei. known_message (holder_of_law u ei) eh (λ y f eo ek hy. (y, eo)))
 
-        pub called_term : {r : Progress} {q : ℕ} → h ≡ found.Term q → r ≡ back_s w.st.back s2 → CalledAt e left at w (world e.store x l w2 t r) false val.Wrong
+        pub called_term : {r : Progress} {q : ℕ} → h ≡ rust.Some (found.Term q) → r ≡ back_s w.st.back s2 → CalledAt e left at w (world e.store x l w2 t r) false val.Wrong
         called_term eh er = called_other er (λ u i ei. known_term (holder_of_law u ei) eh (λ y f eo ek hy. (y, eo)))
 
         -- nothing has the Id
-        pub called_lost : {s3 r : Progress} → h ≡ found.Nothing → ((i x l w t : List ℕ) → Acts (emit unfound) (world i x l w t s2) (world i x l w t s3)) → r ≡ back_s w.st.back s3
+        pub called_lost : {s3 r : Progress} → h ≡ rust.None → ((i x l w t : List ℕ) → Acts (emit unfound) (world i x l w t s2) (world i x l w t s3)) → r ≡ back_s w.st.back s3
             → CalledAt e left at w (world e.store x l w2 t r) false val.Wrong
         unfolding call_function call ret ◌>>◌ ◌>>=◌
         called_lost {s3} {r} eh c er =

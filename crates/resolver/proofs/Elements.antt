@@ -1,4 +1,7 @@
 -- Elements of a pattern: one after the other, and a placeable that is entered.
+use Rattle.state.specs.Progress.{refused_of}
+use Rattle.records.specs.Relations.Answer.{Next}
+use Rattle.std.specs.Prelude.{Some, None}
 use mathlib.Core.Path.{◌≡◌, refl, ap, sym, subst, ◌∙◌}
 use mathlib.Core.List.{List, [], ◌∷◌, ◌++◌}
 use mathlib.Core.Bool.{Bool, true, false, ◌&&◌, not, true≢false}
@@ -6,8 +9,6 @@ use Prim.Native.Nat.{ℕ, zero, suc, ◌+◌, ◌-◌, ◌≤◌, ◌<◌}
 use native.Mathlib.Omega.{arith}
 use lib.Dec.{ltb}
 use borrow.Author.Tests.{lt-ltb, le-ltb}
-use Rattle.records.specs.declared.Next.{Next}
-use Rattle.records.specs.declared.Next.TheVariants as next
 use Rattle.records.specs.Got.{got, bad, Parser}
 use Rattle.records.specs.Bytes.{byte_at, number_at, str_at}
 use Rattle.records.specs.Tree.{Pattern, Elements, no_more, more, Element, Expression}
@@ -18,7 +19,7 @@ use Rattle.records.proofs.Views.{both, never, many_cons, many_nil, element_elim,
 use Rattle.resolution.specs.Effect.{Bytes, Effect, report, begin, expand, State, Out, M, Done, ◌>>=◌, ◌>>◌, emit, write, max_placeables, enter_if, enter, only_if, entered}
 use Rattle.resolution.specs.Exec.{Machine, Limits, ran, exec, and_then, step}
 use Rattle.resolution.specs.Resolve.{braced, bare, fsi, pdi, mark, cut_short, error_of, several_of, write_pattern, write_elements, write_element, write_expression}
-use Rattle.state.specs.Progress.{Progress}
+use Rattle.state.specs.declared.Progress.{Progress}
 use Rattle.resolver.specs.Relations.Meets.{World, world, Live, LocalsStay, locals_same, locals_cleared, Moved, Ended, ended, stopped, Runs, Kept, Acts, trail_of, Env, setting_of, find_of, cross_of}
 use Rattle.resolver.specs.Relations.Leaves.{TooMany, CutAt}
 use Rattle.resolver.specs.Relations.Members.{Here, PatternAt, ElementsAt, ElementAt, ExpressionAt}
@@ -50,8 +51,8 @@ module _ (e : Env) (left : ℕ) (iso : Bool) where
         runs_as (ap (λ (l : Elements). write_elements (setting_of e u) (find_of e u) (cross_of e u n) t l iso) el) (runs_ret tt w));
   }
 
-  module _ (i p : ℕ) {r : Next} {w u : World} (z : 0 < i) (h : ElementAt e left iso p w u) (past : (a : Element) (f : ℕ) → element_at (expression left) e.store p ≡ got a f → r ≡ next.At f) where
-    pub elements_more : {q : ℕ} → r ≡ next.At q → (v : World) → ElementsAt e left iso (i - 1) q u v → ElementsAt e left iso i p w v
+  module _ (i p : ℕ) {r : Next} {w u : World} (z : 0 < i) (h : ElementAt e left iso p w u) (past : (a : Element) (f : ℕ) → element_at (expression left) e.store p ≡ got a f → r ≡ Some f) where
+    pub elements_more : {q : ℕ} → r ≡ Some q → (v : World) → ElementsAt e left iso (i - 1) q u v → ElementsAt e left iso i p w v
     unfolding elements_at write_elements
     elements_more {q} er v g = record {
       kept = kept_then h.kept g.kept;
@@ -64,7 +65,7 @@ module _ (e : Env) (left : ℕ) (iso : Bool) where
     }
 
     -- nothing stands there: never, where the elements were read
-    pub elements_stop : r ≡ next.Bad → ElementsAt e left iso i p w u
+    pub elements_stop : r ≡ None → ElementsAt e left iso i p w u
     unfolding elements_at
     elements_stop er = record {
       kept = h.kept;
@@ -237,7 +238,7 @@ module _ (i x l w t : List ℕ) (st : Progress) where
 
 -- an element
 module _ (e : Env) (left : ℕ) (iso : Bool) (at : ℕ) where
-  pub element_over : (w : World) → (w.st.refused ≡ 0 → ⊥) → ElementAt e left iso at w w
+  pub element_over : (w : World) → ((refused_of w.st) ≡ 0 → ⊥) → ElementAt e left iso at w w
   element_over w h = record { kept = kept_same w; runs = λ u y f k n t here. runs_over _ w h }
 
   pub element_none : (w : World) → byte_at e.store at ≡ bad → ElementAt e left iso at w w
@@ -275,7 +276,7 @@ module _ (e : Env) (left : ℕ) (iso : Bool) (at : ℕ) where
     pub element_far : (w : World) → w.st.dirty ≡ false → 100 < w.st.begun → ElementAt e left iso at w w
     element_far w dn h = record { kept = kept_same w; runs = λ u y f k n tr here L s m lv. absurd (let a = lv.few (lv.dirty ∙ dn) in let b = lv.begun in omega arith) }
 
-    module _ (x l w t : List ℕ) (st : Progress) (n1 : tag ≡ 1 → ⊥) (z : st.refused ≡ 0) (dn : st.dirty ≡ false) where
+    module _ (x l w t : List ℕ) (st : Progress) (n1 : tag ≡ 1 → ⊥) (z : (refused_of st) ≡ 0) (dn : st.dirty ≡ false) where
       pub element_full : {l' : List ℕ} {r : Progress} → st.begun ≡ 100 → TooMany l st l' r → ElementAt e left iso at (world e.store x l w t st) (world e.store x l' w t r)
       unfolding write_element
       element_full full a = record {

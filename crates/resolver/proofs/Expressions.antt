@@ -1,4 +1,5 @@
 -- An expression: a select, or an inline one.
+use Rattle.state.specs.Progress.{refused_of}
 use mathlib.Core.Path.{◌≡◌, ap, sym, subst, ◌∙◌}
 use Prim.Native.Nat.{ℕ, ◌-◌}
 use native.Mathlib.Omega.{arith}
@@ -14,7 +15,7 @@ use Rattle.resolver.proofs.Single.Laws.{kept_same}
 use Rattle.resolver.proofs.Single.Steps.{runs_as, runs_over}
 
 module _ (e : Env) (left at : ℕ) where
-  pub expression_over : (w : World) → (w.st.refused ≡ 0 → ⊥) → ExpressionAt e left at w w
+  pub expression_over : (w : World) → ((refused_of w.st) ≡ 0 → ⊥) → ExpressionAt e left at w w
   expression_over w h = record { kept = kept_same w; runs = λ u y f k n t here. runs_over _ w h }
 
   pub expression_deep : (w : World) → left ≡ 0 → ExpressionAt e left at w w

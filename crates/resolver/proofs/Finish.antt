@@ -2,9 +2,8 @@
 use mathlib.Core.Path.{◌≡◌, refl, ap, sym, subst, ◌∙◌}
 use mathlib.Core.Bool.{false}
 use mathlib.Core.List.{List, ◌++◌}
-use Prim.Native.Nat.{ℕ, ◌+◌, ◌-◌, ◌≤◌, ◌<◌, ◌%◌, min}
+use Prim.Native.Nat.{ℕ, ◌+◌, ◌-◌, ◌≤◌, ◌<◌, min}
 use native.Mathlib.Omega.{arith}
-use native.Mathlib.Nat.{mod-eq_of_lt}
 use lib.Dec.{eqb}
 use lib.ListN.{length, take, drop, replicate, take-append-drop, length-drop}
 use lib.Seq.{drop-drop, length-take-le}
@@ -20,10 +19,15 @@ use Rattle.growth.specs.Items.{at_front}
 use Rattle.resolution.specs.Effect.{Bytes}
 use Rattle.resolution.specs.Exec.{Ran}
 use Rattle.resolution.specs.Format.{Answer, finished, refused_running, Formatted, zeros, ended}
-use Rattle.state.specs.Progress.{Progress}
+use Rattle.state.specs.declared.Progress.{Progress}
 use Rattle.state.specs.Setters.{max_unfound}
 use Rattle.resolver.proofs.Single.Puts.{errors_length}
-use Rattle.resolver.specs.declared.format.Answer.TheVariants as ans
+use Rattle.refusals.specs.declared.Refusal.{Refusal}
+use Rattle.refusals.specs.Numbers.{number_of}
+use Rattle.refusals.proofs.Numbers.{positive}
+use Rattle.state.specs.Progress.{number_or_0, refused_of}
+use Rattle.std.specs.Prelude.{Option, Some, None, Ok, Err}
+use Rattle.resolver.specs.declared.format.Failure.TheVariants as failure
 use Rattle.resolver.specs.Formats.{answer_of, gave}
 use Rattle.resolver.specs.Relations.Runs.{stopped, stopped_of, RanAs, ran_as, refused_as, closed_if, closed}
 use Rattle.resolver.proofs.Whole.{buffers}
@@ -75,18 +79,22 @@ module _ (x l w : Bytes) (p : Progress) (x₁ l₁ w₁ : Bytes) (sc : Progress)
       let lp : length (part l₁ 5 (sc.list_at - 5)) ≡ sc.list_at - 5 = length-take-le (sc.list_at - 5) (drop 5 l₁) (let y = length-drop 5 l₁ in omega arith) in
       let en : sc.list_at ≡ length (enc_errors m.errors) = omega (arith, errors_length m.errors, ap length r.listed, lp) in
       let answer : finished sc.text_at sc.errors n sc.unfound sc.high ≡ finished (length m.written) (length m.errors) m.begun (min m.unfounds max_unfound) m.high = rw (tl, r.errors, bs, r.unfounds, r.high) refl in
-      rw (eq-eqb sc.refused 0 r.go, eq) (same_formatted answer (front_is x x₁ m.written sc.text_at (sym tl) (sym r.written) g.text_rest) (list_is m.errors l l₁ sc.list_at en r.list_u32 li (sym r.listed) g.list_rest) (zeroed w₁ w lw))
+      rw (eq-eqb (refused_of sc) 0 r.go, eq) (same_formatted answer (front_is x x₁ m.written sc.text_at (sym tl) (sym r.written) g.text_rest) (list_is m.errors l l₁ sc.list_at en r.list_u32 li (sym r.listed) g.list_rest) (zeroed w₁ w lw))
   closes o (refused_as c eq z few en) =
-      let nz : eqb sc.refused 0 ≡ false = ne_eqb sc.refused 0 (λ k. z (sym en ∙ k)) in
-      rw (nz, eq) (same_formatted (ap refused_running (ap (λ (k : ℕ). k % 256) en ∙ mod-eq_of_lt few)) (zeroed x₁ x lx) (zeroed l₁ l ll) (zeroed w₁ w lw))
+      let nz : eqb (refused_of sc) 0 ≡ false = ne_eqb (refused_of sc) 0 (λ k. z (sym en ∙ k)) in
+      rw (nz, eq) (same_formatted (ap refused_running en) (zeroed x₁ x lx) (zeroed l₁ l ll) (zeroed w₁ w lw))
 
 -- the two ways in which the code ends
 module _ (sc : Progress) (n : ℕ) (x₁ l₁ w₁ : Bytes) {x₂ l₂ w₂ : Bytes} where
-  pub closed_cleared : {c : ℕ} → (sc.refused ≡ 0 → ⊥) → x₂ ≡ replicate (length x₁) 0 → l₂ ≡ replicate (length l₁) 0 → w₂ ≡ replicate (length w₁) 0 → c ≡ sc.refused % 256 → gave (ans.Cleared c) x₂ l₂ w₂ ≡ closed sc n (buffers x₁ l₁ w₁)
+  pub closed_cleared : {why : Refusal} → sc.refused ≡ Some why → x₂ ≡ replicate (length x₁) 0 → l₂ ≡ replicate (length l₁) 0 → w₂ ≡ replicate (length w₁) 0
+      → gave (Err (failure.Cleared why)) x₂ l₂ w₂ ≡ closed sc n (buffers x₁ l₁ w₁)
   unfolding gave answer_of closed closed_if zeros
-  closed_cleared z ex el ew ec = rw (ne_eqb sc.refused 0 z) (same_formatted (ap refused_running ec) ex el ew)
+  closed_cleared {why} e ex el ew =
+      let en : refused_of sc ≡ number_of why = ap number_or_0 e in
+      let z : refused_of sc ≡ 0 → ⊥ = λ k. let h = positive why in omega (arith, en, k) in
+      rw (ne_eqb (refused_of sc) 0 z) (same_formatted (ap refused_running (sym en)) ex el ew)
 
-  pub closed_finished : {u : ℕ} → sc.refused ≡ 0 → x₂ ≡ x₁ → l₂ ≡ headed l₁ sc.list_at → w₂ ≡ replicate (length w₁) 0 → u ≡ sc.unfound
-      → gave (ans.Finished (record { text = sc.text_at; errors = sc.errors; begun = n; unfound = u; work = sc.high })) x₂ l₂ w₂ ≡ closed sc n (buffers x₁ l₁ w₁)
+  pub closed_finished : {u : ℕ} → sc.refused ≡ None → x₂ ≡ x₁ → l₂ ≡ headed l₁ sc.list_at → w₂ ≡ replicate (length w₁) 0 → u ≡ sc.unfound
+      → gave (Ok (record { text = sc.text_at; errors = sc.errors; begun = n; unfound = u; work = sc.high })) x₂ l₂ w₂ ≡ closed sc n (buffers x₁ l₁ w₁)
   unfolding gave answer_of closed closed_if zeros
-  closed_finished z ex el ew eu = rw (eq-eqb sc.refused 0 z) (same_formatted (ap (λ (j : ℕ). finished sc.text_at sc.errors n j sc.high) eu) ex el ew)
+  closed_finished e ex el ew eu = rw (eq-eqb (refused_of sc) 0 (ap number_or_0 e)) (same_formatted (ap (λ (j : ℕ). finished sc.text_at sc.errors n j sc.high) eu) ex el ew)

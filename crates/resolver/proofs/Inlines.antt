@@ -1,4 +1,7 @@
 -- An inline expression, written: one step for each tag.
+use Rattle.state.specs.Progress.{refused_of}
+use Rattle.records.specs.Relations.Answer.{Num}
+use Rattle.std.specs.Prelude.{Some}
 use mathlib.Core.Path.{◌≡◌, refl, ap, sym, subst, ◌∙◌}
 use mathlib.Core.List.{List}
 use mathlib.Core.Bool.{Bool, true}
@@ -10,8 +13,6 @@ use Rattle.numbers.specs.Number.{is_number, literal}
 use Rattle.numbers.specs.Value.{Value, numeric, value_text}
 use Rattle.decimals.specs.Relations.Shown.{shown}
 use Rattle.unescape.specs.Unescape.{unescape}
-use Rattle.records.specs.declared.Num.{Num}
-use Rattle.records.specs.declared.Num.TheVariants as num
 use Rattle.records.specs.Got.{got, bad}
 use Rattle.records.specs.Relations.Answer.{num_of}
 use Rattle.records.specs.Bytes.{part, byte_at, span_at, str_at}
@@ -49,7 +50,7 @@ module _ (e : Env) (left at : ℕ) where
   is_it : (u : Setup e) (n : ℕ) (t : Trail) {w v : World} {y x : Inline} → y ≡ x → Writes u n t w v x → Writes u n t w v y
   is_it u n t {w} {v} ey h = subst (λ (j : Inline). Writes u n t w v j) (sym ey) h
 
-  pub inline_over : (w : World) → (w.st.refused ≡ 0 → ⊥) → InlineAt e left at w w
+  pub inline_over : (w : World) → ((refused_of w.st) ≡ 0 → ⊥) → InlineAt e left at w w
   inline_over w h = record { kept = kept_same w; runs = λ u y f k n t here. runs_over _ w h }
 
   pub inline_deep : (w : World) → left ≡ 0 → InlineAt e left at w w
@@ -87,7 +88,7 @@ module _ (e : Env) (left at : ℕ) where
     pub inline_worse : (w : World) → (tag ≡ 7 → ⊥) → (tag ≡ 4 → ⊥) → (tag ≡ 5 → ⊥) → str_at e.store p ≡ bad → InlineAt e left at w w
     inline_worse w n7 n4 n5 h = record { kept = kept_same w; runs = λ u y f k. str_body e.store at tag p hb left k n4 n5 n7 h }
 
-    module _ {a b : ℕ} {r : Num} (is : r ≡ num_of (span_at e.store p)) (ha : r ≡ num.At a b) where
+    module _ {a b : ℕ} {r : Num} (is : r ≡ num_of (span_at e.store p)) (ha : r ≡ Some (a, b)) where
       abbrev name : Bytes
       name = part e.store a (b - a)
 
@@ -150,7 +151,7 @@ module _ (e : Env) (left at : ℕ) where
     pub inline_uncalled : {found : Bool} {c : CodeValue.Value} {w v : World} → tag ≡ 3 → str_at e.store p ≡ bad → CalledAt e (left - 1) p w v found c → InlineAt e left at w v
     inline_uncalled h b g = record { kept = g.kept; runs = λ u y f k. str_body e.store at tag p hb left k (λ o. omega arith) (λ o. omega arith) (λ o. omega arith) b }
 
-    module _ {a b : ℕ} {r : Num} (is : r ≡ num_of (span_at e.store p)) (ha : r ≡ num.At a b) where
+    module _ {a b : ℕ} {r : Num} (is : r ≡ num_of (span_at e.store p)) (ha : r ≡ Some (a, b)) where
       -- a call, and then its result, written
       pub inline_called : {found : Bool} {c : CodeValue.Value} {w u1 v : World} → tag ≡ 3 → CalledAt e (left - 1) p w u1 found c → ResultAt e a b found c u1 v → InlineAt e left at w v
       inline_called h g k = inline_function is ha (λ o. omega arith) (λ o. omega arith) (λ o. omega arith) (λ o. omega arith) (λ o. omega arith) (λ o. omega arith) g k

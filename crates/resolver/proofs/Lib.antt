@@ -18,4 +18,5 @@ pub mod Patterns
 pub mod Finish
 pub mod Targets
 pub mod Answers
+pub mod Attributes
 pub mod Parts

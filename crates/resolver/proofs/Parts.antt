@@ -1,4 +1,7 @@
 -- What the writers that call each other make of the parts that stand outside of them; and arguments whose values are not kept.
+use Rattle.state.specs.Progress.{refused_of}
+use Rattle.records.specs.Relations.Answer.{Num}
+use Rattle.std.specs.Prelude.{Some, None}
 use mathlib.Core.Path.{◌≡◌, ap, sym, subst, ◌∙◌}
 use mathlib.Core.List.{List}
 use mathlib.Core.Bool.{true, false}
@@ -6,16 +9,13 @@ use Prim.Native.Nat.{ℕ, suc, ◌+◌, ◌-◌, ◌<◌}
 use native.Mathlib.Omega.{arith}
 use Rattle.records.specs.Got.{got}
 use Rattle.records.specs.Bytes.{byte_at, number_at}
-use Rattle.records.specs.declared.Num.{Num}
-use Rattle.records.specs.declared.Num.TheVariants as num
 use Rattle.records.proofs.Views.{both, inline_elim}
 use Rattle.heads.specs.Tags.{text_tag}
 use Rattle.heads.proofs.Heads.{no_text_tag}
-use Rattle.state.specs.Progress.{Progress}
+use Rattle.state.specs.declared.Progress.{Progress}
 use Rattle.state.specs.Setters.{aside_s}
-use Rattle.state.specs.declared.Reference.{Reference}
+use Rattle.std.specs.Prelude as rust
 use Rattle.state.specs.declared.Referring.{Referring}
-use Rattle.state.specs.declared.Reference.TheVariants as ref
 use Rattle.values.specs.declared.Value as CodeValue
 use Rattle.resolver.specs.Relations.Meets.{Lent, World, world, Env, env}
 use Rattle.resolver.specs.Relations.Leaves.{ReferenceIs}
@@ -31,22 +31,24 @@ pub lone_other : (tag : ℕ) → (tag ≡ 3 → ⊥) → text_tag tag ≡ false 
 lone_other tag n3 h = let no = no_text_tag tag h in record { no_call = n3; no_message = no.0; no_term = no.1; no_nested = no.2 }
 
 -- the Flag of a term reference's arguments, and where there is none
-pub flag_is : {C : Type 0} {s : List ℕ} {at : ℕ} {r : Num} {flag p : ℕ} → TermFlag s at r → r ≡ num.At flag p
-    → ((q : Reference) (y : Referring) → ReferenceIs s (at + 1) q → q ≡ ref.Is y → byte_at s y.end ≡ got flag p → C) → C
+pub flag_is : {C : Type 0} {s : List ℕ} {at : ℕ} {r : Num} {flag p : ℕ} → TermFlag s at r → r ≡ Some (flag, p)
+    → ((q : rust.Option Referring) (y : Referring) → ReferenceIs s (at + 1) q → q ≡ rust.Some y → byte_at s y.end ≡ got flag p → C) → C
 flag_is {flag = flag} {p = p} (flagged f o q y e rd er hb) er' c =
-    let ef : f ≡ flag = (let h = sym e ∙ er' in cc) in
-    let eo : o ≡ p = (let h = sym e ∙ er' in cc) in
+    let h : ◌≡◌ {A = Num} (Some (f, o)) (Some (flag, p)) = sym e ∙ er' in
+    let pair : ◌≡◌ {A = ℕ × ℕ} (f, o) (flag, p) = cc in
+    let ef : f ≡ flag = ap (λ (x : ℕ × ℕ). x.0) pair in
+    let eo : o ≡ p = ap (λ (x : ℕ × ℕ). x.1) pair in
     c q y rd er (hb ∙ ap (λ (j : ℕ). got j o) ef ∙ ap (λ (j : ℕ). got flag j) eo)
 flag_is (unflagged e h) er' c = let z : ◌≡◌ {A = ℕ} 0 1 = cc in absurd (omega arith)
 
-pub flag_none : {s : List ℕ} {at : ℕ} {r : Num} → TermFlag s at r → r ≡ num.Bad → (image : Lent) (left : ℕ) (w : World) → TermAt (env s image) left at w w
+pub flag_none : {s : List ℕ} {at : ℕ} {r : Num} → TermFlag s at r → r ≡ None → (image : Lent) (left : ℕ) (w : World) → TermAt (env s image) left at w w
 flag_none (flagged f o q y e rd er hb) er' = let z : ◌≡◌ {A = ℕ} 0 1 = cc in absurd (omega arith)
 flag_none (unflagged e h) er' = h
 
 -- nothing stands so deep
 pub text_deep : (e : Env) (left at : ℕ) (x l w t : List ℕ) (st : Progress) {s1 : Progress} (c : CodeValue.Value) → s1 ≡ aside_s true st → left ≡ 0 → TextValueAt e left at (world e.store x l w t st) (world e.store x l w t s1) c
 text_deep e left at x l w t st c es h = record {
-  kept = record { begun = (let o = ap (λ (q : Progress). q.begun) es in omega arith); over = λ f. ap (λ (q : Progress). q.refused) es };
+  kept = record { begun = (let o = ap (λ (q : Progress). q.begun) es in omega arith); over = λ f. ap (λ (q : Progress). (refused_of q)) es };
   runs = λ u y f k. inline_elim e.store at left k (λ tag p hb z b. absurd (omega arith));
   holds = λ u y f k n t here L s m lv z. inline_elim e.store at left k (λ tag p hb z b. absurd (omega arith));
 }

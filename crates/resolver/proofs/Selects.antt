@@ -1,11 +1,12 @@
 -- A select: its selector's text is freed, then the variant that was chosen is written, or MissingDefault is listed.
+use Rattle.state.specs.Progress.{refused_of}
+use Rattle.records.specs.Relations.Answer.{Next}
+use Rattle.std.specs.Prelude.{Some, None}
 use mathlib.Core.Path.{◌≡◌, refl, ap, sym, subst, ◌∙◌}
 use mathlib.Core.Option.{Option, none, some}
 use Prim.Native.Nat.{ℕ, zero, suc}
 use native.Mathlib.Omega.{arith}
 use Rattle.numbers.specs.Value.{Value}
-use Rattle.records.specs.declared.Next.{Next}
-use Rattle.records.specs.declared.Next.TheVariants as next
 use Rattle.records.specs.Got.{got}
 use Rattle.records.specs.Bytes.{number_at}
 use Rattle.records.specs.Tree.{Pattern, Expression, Inline, Variants, no_variant, or, variant}
@@ -16,7 +17,7 @@ use Rattle.records.proofs.Views.{select_elim}
 use Rattle.entries.specs.Lookup.{Find}
 use Rattle.resolution.specs.Effect.{report, M, Done, emit, release}
 use Rattle.resolution.specs.Resolve.{Setting, Trail, chosen, write_pattern, write_expression, write_nth, write_variant, resolve_inline}
-use Rattle.state.specs.Progress.{Progress}
+use Rattle.state.specs.declared.Progress.{Progress}
 use Rattle.values.specs.declared.Value as CodeValue
 use Rattle.resolver.specs.Relations.Meets.{World, world, Runs, Kept, Acts, Holds, Env, Setup, setting_of, find_of, cross_of}
 use Rattle.variants.specs.Relations.Pick.{pattern_of, nth_of, Pick, picked, no_pick, PickAt}
@@ -40,12 +41,12 @@ module _ (st : Setting) (find : Find) (cross : Pattern → Trail → M Done) (t 
   nth_some (or (variant k d q) vs) (suc i) h = nth_some vs i h
 
 module _ (e : Env) (left at : ℕ) where
-  pub select_over : (w : World) → (w.st.refused ≡ 0 → ⊥) → SelectAt e left at w w
+  pub select_over : (w : World) → ((refused_of w.st) ≡ 0 → ⊥) → SelectAt e left at w w
   select_over w h = record { kept = kept_same w; runs = λ u y f k n t here. runs_over _ w h }
 
   module _ (w u1 : World) (c : CodeValue.Value) (val : ValueAt e left at w u1 c) where
     -- refused while the selector was resolved
-    pub select_stopped : (u1.st.refused ≡ 0 → ⊥) → SelectAt e left at w u1
+    pub select_stopped : ((refused_of u1.st) ≡ 0 → ⊥) → SelectAt e left at w u1
     unfolding write_expression
     select_stopped z = record {
       kept = val.kept;
@@ -54,19 +55,19 @@ module _ (e : Env) (left at : ℕ) where
           (runs_stopped _ _ z (release_over w u1 _ z (val.runs u i p hi n t here))));
     }
 
-    module _ {s2 : Progress} (es : s2 ≡ back_s w.st.back u1.st) {rn : Next} (past : (y : Inline) (f : ℕ) → inline left e.store at ≡ got y f → rn ≡ next.At f) where
+    module _ {s2 : Progress} (es : s2 ≡ back_s w.st.back u1.st) {rn : Next} (past : (y : Inline) (f : ℕ) → inline left e.store at ≡ got y f → rn ≡ Some f) where
       abbrev after : World
       after = world u1.store u1.text u1.list u1.work u1.trail s2
 
       -- no selector stands there: never
-      pub select_never : rn ≡ next.Bad → SelectAt e left at w after
+      pub select_never : rn ≡ None → SelectAt e left at w after
       select_never en = record {
         kept = subst (λ (o : Progress). Kept w (world u1.store u1.text u1.list u1.work u1.trail o)) (sym es) (kept_freed w u1 val.kept);
         runs = λ u y f k. select_elim (expression left) (inline left) e.store at k (λ i p k' q vs hi hk zk hv ey.
             let o = past i p hi in let z : ◌≡◌ {A = ℕ} 0 1 = cc in absurd (omega arith));
       }
 
-      module _ (q : ℕ) (en : rn ≡ next.At q) {rc : Next}
+      module _ (q : ℕ) (en : rn ≡ Some q) {rc : Next}
           (ch : (v : Value) (low : ℕ) (st : Store) (f : ℕ) → Holds e.store e.given.args u1.work low c v → store_of e.store ≡ got st f → PickAt e.store q (chosen st.locale v) rc) where
         -- what comes after the choice
         after_choice : {v : World} → Kept (freed w u1) v
@@ -87,7 +88,7 @@ module _ (e : Env) (left at : ℕ) where
               go u vs (chosen u.held.locale (r s).value vs) pk n t (here_stays here (kept_freed w u1 val.kept) (stays mv)) L (r s).state m' l')));
         }
 
-        pub select_chosen : {to : ℕ} {v : World} → rc ≡ next.At to → PatternAt e left to after v → SelectAt e left at w v
+        pub select_chosen : {to : ℕ} {v : World} → rc ≡ Some to → PatternAt e left to after v → SelectAt e left at w v
         select_chosen {to} {v} ec h =
             let h2 : PatternAt e left to (freed w u1) v = subst (λ (o : Progress). PatternAt e left to (world u1.store u1.text u1.list u1.work u1.trail o) v) es h in
             after_choice h2.kept (λ u vs o pk n t here. go u vs o n t here h2 pk)
@@ -101,7 +102,7 @@ module _ (e : Env) (left at : ℕ) where
                 (record { on = here.on; fuel = (let a = here.fuel in omega arith); room = (let a = here.room in omega arith); same = here.same }))
             go u vs o n t here h2 (no_pick er eo) = let z : ◌≡◌ {A = ℕ} 0 1 = cc in absurd (omega arith)
 
-        pub select_default : {v : World} → rc ≡ next.Bad → Acts (emit (report missing_default)) after v → SelectAt e left at w v
+        pub select_default : {v : World} → rc ≡ None → Acts (emit (report missing_default)) after v → SelectAt e left at w v
         select_default {v} ec h =
             let h2 : Acts (emit (report missing_default)) (freed w u1) v = subst (λ (o : Progress). Acts (emit (report missing_default)) (world u1.store u1.text u1.list u1.work u1.trail o) v) es h in
             after_choice h2.kept (λ u vs o pk n t here. go u vs o n t h2 pk)

@@ -1,4 +1,5 @@
 -- A term reference: its arguments are the local ones while it is written, and there are none after it.
+use Rattle.state.specs.Progress.{refused_of}
 use mathlib.Core.Path.{◌≡◌, refl, ap, sym, subst, ◌∙◌}
 use mathlib.Core.List.{List, [], ◌++◌}
 use mathlib.Core.Option.{Option, none, some}
@@ -15,11 +16,10 @@ use Rattle.entries.specs.Lookup.{Find}
 use Rattle.resolution.specs.Effect.{Bytes, Trace, Locals, State, Out, M, Done, ◌>>=◌, ◌>>◌, set_locals, release}
 use Rattle.resolution.specs.Exec.{Machine, Limits}
 use Rattle.resolution.specs.Resolve.{Trail, look_up, as_term, term_found, write_term, term_arguments, get_arguments}
-use Rattle.state.specs.Progress.{Progress}
+use Rattle.state.specs.declared.Progress.{Progress}
 use Rattle.values.specs.declared.Value as CodeValue
-use Rattle.state.specs.declared.Reference.{Reference}
+use Rattle.std.specs.Prelude as rust
 use Rattle.state.specs.declared.Referring.{Referring}
-use Rattle.state.specs.declared.Reference.TheVariants as ref
 use Rattle.resolver.specs.Relations.Meets.{World, world, Live, LocalsAt, no_locals, some_locals, named_none, named_texts, locals_cleared, Ended, ended, stopped, Runs, Kept, Env, Setup, setting_of, find_of, cross_of}
 use Rattle.resolver.specs.Relations.Leaves.{NamedAt, ReferenceIs}
 use Rattle.resolver.specs.Relations.Members.{Here, PositionalAt, FoundTermAt, TermAt}
@@ -145,19 +145,19 @@ unfolding many named_texts
 bare_locals i x l w t st h = some_locals [] 0 st.back refl refl refl (omega arith) (named_none {base = st.back} (omega arith) h)
 
 module _ (e : Env) (left at : ℕ) where
-  pub term_over : (w : World) → (w.st.refused ≡ 0 → ⊥) → TermAt e left at w w
+  pub term_over : (w : World) → ((refused_of w.st) ≡ 0 → ⊥) → TermAt e left at w w
   term_over w h = record { kept = kept_same w; runs = λ u i a r f k n t here. runs_over _ w h }
 
-  module _ {r : Reference} (rd : ReferenceIs e.store (at + 1) r) where
-    pub term_unread : (w : World) → r ≡ ref.Bad → TermAt e left at w w
+  module _ {r : rust.Option Referring} (rd : ReferenceIs e.store (at + 1) r) where
+    pub term_unread : (w : World) → r ≡ rust.None → TermAt e left at w w
     term_unread w er = record { kept = kept_same w; runs = λ u i a q f k n t here. term_read e.store at (suc left) k (λ p g hn ha hr. reference_none e.store (at + 1) rd er hn ha) }
 
-    module _ (y : Referring) (er : r ≡ ref.Is y) where
+    module _ (y : Referring) (er : r ≡ rust.Some y) where
       -- what stands past the reference: no arguments, or those of a call
       arguments_at_law : {C : Type 0} {i : Bytes} {a : Option Bytes} {q : Arguments} {f : ℕ} → inline (suc left) e.store at ≡ got (Inline.term i a q) f → (term_arguments_at (inline left) e.store y.end ≡ got q f → C) → C
       arguments_at_law {q = q} {f = f} k c = term_read e.store at (suc left) k (λ p g hn ha hr.
           let d : suc left - 1 ≡ left = omega arith in
-          let eg = (reference_is e.store (at + 1) rd y er hn ha).4 in
+          let eg = (reference_is e.store (at + 1) rd y er hn ha).3 in
           c (subst (λ (j : ℕ). term_arguments_at (inline left) e.store j ≡ got q f) (sym eg) (subst (λ (j : ℕ). term_arguments_at (inline j) e.store g ≡ got q f) d hr)))
 
       pub term_unflagged : (w : World) → byte_at e.store y.end ≡ bad → TermAt e left at w w
@@ -173,7 +173,7 @@ module _ (e : Env) (left at : ℕ) where
             c b.0 b.1 (subst (λ (j : ℕ). arguments_at (inline left) e.store j ≡ got (b.0, b.1) f) (sym ep) hx) eq))
 
         -- without arguments
-        pub term_bare : (x l w t : List ℕ) (st : Progress) {s1 s2 : Progress} {u4 : World} → st.refused ≡ 0 → flag ≡ 0 → s1 ≡ locals_s 0 0 st.back st → FoundTermAt e at (world e.store x l w t s1) u4 → s2 ≡ clear_s u4.st
+        pub term_bare : (x l w t : List ℕ) (st : Progress) {s1 s2 : Progress} {u4 : World} → (refused_of st) ≡ 0 → flag ≡ 0 → s1 ≡ locals_s 0 0 st.back st → FoundTermAt e at (world e.store x l w t s1) u4 → s2 ≡ clear_s u4.st
             → TermAt e left at (world e.store x l w t st) (world u4.store u4.text u4.list u4.work u4.trail s2)
         unfolding term_arguments cleared
         term_bare x l w t st {s1} {s2} {u4} z zf e1 h e2 =
@@ -214,7 +214,7 @@ module _ (e : Env) (left at : ℕ) where
                 (go u i a q f xs ns k ha n t here)));
           }
 
-          pub term_stopped : {u1 : World} {first : CodeValue.Value} {end : ℕ} → PositionalAt e left p w u1 first end → (u1.st.refused ≡ 0 → ⊥) → TermAt e left at w u1
+          pub term_stopped : {u1 : World} {first : CodeValue.Value} {end : ℕ} → PositionalAt e left p w u1 first end → ((refused_of u1.st) ≡ 0 → ⊥) → TermAt e left at w u1
           term_stopped {u1} {first} {end} pos z = term_by u1 pos.kept (λ u i a q f xs ns k ha n t here.
               release_over w u1 _ z (arguments_stopped e left p w u1 first end pos _ z u xs ns f ha n t here))
 
@@ -250,14 +250,14 @@ module _ (e : Env) (left at : ℕ) where
                 (found_it.runs u (suc left) i a q f k n tr (record { on = here2.on; fuel = here2.fuel; room = here2.room; same = here2.same }) L (within (some (named_texts ns)) s) o
                 (live_inside e.store x l w2 t s2 named m s1.back (some_locals ns f s2.back refl hr refl (omega arith) ni) lv))))
 
-            pub term_refused : (s5.refused ≡ 0 → ⊥) → TermAt e left at w (last s5)
+            pub term_refused : ((refused_of s5) ≡ 0 → ⊥) → TermAt e left at w (last s5)
             term_refused z = subst (λ (s : Progress). TermAt e left at w (last s)) (sym e5)
                 (term_by (last (clear_s u4.st)) kept_whole (λ u i a q f xs ns k ha n tr here.
-                release_over w (last (clear_s u4.st)) _ (λ o. z (ap (λ (s : Progress). s.refused) e5 ∙ o)) (term_runs u i a q f xs ns k ha n tr here)))
+                release_over w (last (clear_s u4.st)) _ (λ o. z (ap (λ (s : Progress). (refused_of s)) e5 ∙ o)) (term_runs u i a q f xs ns k ha n tr here)))
 
             pub term_freed : {s6 : Progress} → s6 ≡ back_s w.st.back s5 → TermAt e left at w (last s6)
             term_freed {s6} e6 =
                 let e7 : s6 ≡ back_s w.st.back (clear_s u4.st) = e6 ∙ ap (λ (s : Progress). back_s w.st.back s) e5 in
                 term_by (last s6)
-                (record { begun = (let o = kept_whole.begun in let o2 = ap (λ (s : Progress). s.begun) e7 in omega arith); over = λ f. ap (λ (s : Progress). s.refused) e7 ∙ kept_whole.over f })
+                (record { begun = (let o = kept_whole.begun in let o2 = ap (λ (s : Progress). s.begun) e7 in omega arith); over = λ f. ap (λ (s : Progress). (refused_of s)) e7 ∙ kept_whole.over f })
                 (λ u i a q f xs ns k ha n tr here. release_back w (last (clear_s u4.st)) _ e7 (term_runs u i a q f xs ns k ha n tr here))

@@ -1,4 +1,5 @@
 -- `track`: a pattern that is being resolved already is Cyclic; any other is written under a longer trail.
+use Rattle.state.specs.Progress.{refused_of}
 use mathlib.Core.Path.{◌≡◌, refl, ap, sym, subst, ◌∙◌}
 use mathlib.Core.List.{List, ◌∷◌}
 use mathlib.Core.Bool.{Bool, true, false}
@@ -20,7 +21,7 @@ use Rattle.trail.proofs.Trail.{bytes_at_law}
 use Rattle.resolution.specs.Effect.{report, State, Out, M, Done, emit}
 use Rattle.resolution.specs.Exec.{Machine, Limits}
 use Rattle.resolution.specs.Resolve.{Setting, Trail, on_trail, bytes_of, error_text, write_ref_error, track_if, track, write_pattern, resolve}
-use Rattle.state.specs.Progress.{Progress}
+use Rattle.state.specs.declared.Progress.{Progress}
 use Rattle.resolver.specs.Relations.Meets.{World, world, Live, LocalsStay, locals_same, locals_cleared, Ended, ended, stopped, Acts, trail_of, pattern_bytes, Env, setting_of, find_of, cross_of}
 use Rattle.resolver.specs.Relations.Leaves.{ErrorAt}
 use Rattle.resolver.specs.Relations.Members.{Here, PatternAt, TrackAt}
@@ -138,7 +139,7 @@ bytes_of_law s at {p} {f} h = pattern_elim (expression max_depth) s at h (λ n a
     ap bytes_of ep ∙ ap (λ (j : ℕ). part s at j) m ∙ sym (bytes_at_law s at hn))
 
 module _ (e : Env) (at q : ℕ) where
-  pub track_over : (w : World) → (w.st.refused ≡ 0 → ⊥) → TrackAt e at q w w
+  pub track_over : (w : World) → ((refused_of w.st) ≡ 0 → ⊥) → TrackAt e at q w w
   track_over w h = record { kept = kept_same w; runs = λ u d y f k p g hp n t here. runs_over _ w h }
 
   -- more patterns than there may be: never
@@ -162,7 +163,7 @@ module _ (e : Env) (at q : ℕ) where
           runs = λ u d y f k p g hp n tr here. rw (on_it here p g hp, met) (runs_then a1.runs (b.kept l1 t) (λ _. b.runs l1 t d y f k));
         }
 
-    pub track_cross : {s1 s2 : Progress} {v : World} → st.refused ≡ 0 → on ≡ false → st.depth < 102 → s1 ≡ depth_s (st.depth + 1) st
+    pub track_cross : {s1 s2 : Progress} {v : World} → (refused_of st) ≡ 0 → on ≡ false → st.depth < 102 → s1 ≡ depth_s (st.depth + 1) st
         → PatternAt e 32 q (world e.store x l w (set t st.depth q) s1) v → s2 ≡ depth_s st.depth v.st
         → TrackAt e at q from (world v.store v.text v.list v.work v.trail s2)
     unfolding track track_if entry_pattern_at max_depth

@@ -1,4 +1,5 @@
 -- The value of an inline expression: a literal, a variable, a call's result, or a text of its own.
+use Rattle.state.specs.Progress.{refused_of}
 use mathlib.Core.Path.{◌≡◌, refl, ap, sym, subst, ◌∙◌}
 use mathlib.Core.List.{List}
 use mathlib.Core.Bool.{Bool, true}
@@ -7,7 +8,6 @@ use Prim.Native.Nat.{ℕ, ◌-◌, ◌≤◌}
 use native.Mathlib.Omega.{arith}
 use lib.ListN.{length, drop, length-drop}
 use lib.Seq.{length-take-le}
-use lib.Dec.{eqb}
 use Rattle.numbers.specs.Number.{is_number, literal}
 use Rattle.numbers.specs.Value.{Value, textual, numeric, wrong}
 use Rattle.decimals.specs.Relations.Shown.{shown}
@@ -21,7 +21,7 @@ use Rattle.buffers.proofs.Place.{moved_keeps}
 use Rattle.resolution.specs.Effect.{Bytes, State, M, ret, ◌>>=◌, capture, release}
 use Rattle.resolution.specs.Exec.{Machine, Limits}
 use Rattle.resolution.specs.Resolve.{Trail, held, or_wrong, call_function, get_arguments, write_inline, resolve_inline}
-use Rattle.state.specs.Progress.{Progress}
+use Rattle.state.specs.declared.Progress.{Progress}
 use Rattle.values.specs.declared.Value as CodeValue
 use Rattle.values.specs.declared.Value.TheVariants as val
 use Rattle.resolver.specs.Relations.Meets.{World, world, Live, Ended, Runs, Kept, Holds, a_number as holds-number, a_wrong, Env, Setup, setting_of, find_of, cross_of}
@@ -46,7 +46,7 @@ runs_or none w = runs_ret wrong w
 runs_or (some v) w = runs_ret v w
 
 module _ (e : Env) (left at : ℕ) where
-  pub value_over : (w : World) (c : CodeValue.Value) → (w.st.refused ≡ 0 → ⊥) → ValueAt e left at w w c
+  pub value_over : (w : World) (c : CodeValue.Value) → ((refused_of w.st) ≡ 0 → ⊥) → ValueAt e left at w w c
   value_over w c h = record { kept = kept_same w; runs = λ u y f k n t here. runs_over _ w h; holds = λ u y f k n t here L s m lv z. absurd (h z) }
 
   pub value_deep : (w : World) (c : CodeValue.Value) → left ≡ 0 → ValueAt e left at w w c
@@ -189,7 +189,7 @@ module _ (e : Env) (left at : ℕ) (x l w t : List ℕ) (st : Progress) {s1 : Pr
   ran_it p y f h n tr here L s k lv =
       aside.runs p y f h n tr (record { on = here.on; fuel = here.fuel; room = here.room; same = here.same }) L s (opened e.store x l w t st u k) (live_opened e.store x l w t st u lv)
 
-  pub text_stopped : (c : CodeValue.Value) → (u.st.refused ≡ 0 → ⊥) → TextValueAt e left at before u c
+  pub text_stopped : (c : CodeValue.Value) → ((refused_of u.st) ≡ 0 → ⊥) → TextValueAt e left at before u c
   text_stopped c f = record {
     kept = kept_all;
     runs = λ p y j h n tr here L s k lv.
@@ -199,7 +199,7 @@ module _ (e : Env) (left at : ℕ) (x l w t : List ℕ) (st : Progress) {s1 : Pr
   }
 
   -- a text that does not lie as it should: never
-  pub text_never : (c : CodeValue.Value) → u.st.refused ≡ 0 → (st.front ≤ u.st.front → u.st.front ≤ u.st.back → u.st.back ≤ length u.work → ⊥) → TextValueAt e left at before u c
+  pub text_never : (c : CodeValue.Value) → (refused_of u.st) ≡ 0 → (st.front ≤ u.st.front → u.st.front ≤ u.st.back → u.st.back ≤ length u.work → ⊥) → TextValueAt e left at before u c
   text_never c r f = record {
     kept = kept_all;
     runs = λ p y j h n tr here L s k lv.
@@ -208,14 +208,14 @@ module _ (e : Env) (left at : ℕ) (x l w t : List ℕ) (st : Progress) {s1 : Pr
         let q = capture_lies e.store x l w t st u (write_inline (setting_of e p) (find_of e p) (cross_of e p n) tr y) L s k r lv (ran_it p y j h n tr here L s k lv) in absurd (f q.0 q.1 q.2);
   }
 
-  pub text_made : (w3 : List ℕ) (n to : ℕ) {s3 : Progress} → u.st.refused ≡ 0 → st.front ≤ u.st.front → u.st.front ≤ u.st.back → u.st.back ≤ length u.work
+  pub text_made : (w3 : List ℕ) (n to : ℕ) {s3 : Progress} → (refused_of u.st) ≡ 0 → st.front ≤ u.st.front → u.st.front ≤ u.st.back → u.st.back ≤ length u.work
       → n ≡ u.st.front - st.front → to ≡ u.st.back - n → w3 ≡ moved_back u.work st.front n to → s3 ≡ kept_s st.front to st.aside u.st
       → TextValueAt e left at before (world u.store u.text u.list w3 u.trail s3) (val.Work to u.st.back)
   unfolding held capture ret ◌>>=◌
   text_made w3 n to {s3} r le₁ le₂ le₃ en et ew e3 =
       let kp : Keeps u.work st.front to n w3 = subst (λ (q : List ℕ). Keeps u.work st.front to n q) (sym ew) (moved_keeps u.work st.front n to (omega arith) (omega arith)) in
       record {
-        kept = record { begun = (let a = aside.kept.begun in let b = ap (λ (q : Progress). q.begun) e3 in omega arith); over = λ f. ap (λ (q : Progress). q.refused) e3 ∙ aside.kept.over f };
+        kept = record { begun = (let a = aside.kept.begun in let b = ap (λ (q : Progress). q.begun) e3 in omega arith); over = λ f. ap (λ (q : Progress). (refused_of q)) e3 ∙ aside.kept.over f };
         runs = λ p y j h n' tr here L s k lv.
             let m = write_inline (setting_of e p) (find_of e p) (cross_of e p n') tr y in
             subst (λ (q : Progress). Ended L before (world u.store u.text u.list w3 u.trail q) (held (capture m) s) k) (sym e3)
@@ -227,23 +227,23 @@ module _ (e : Env) (left at : ℕ) (x l w t : List ℕ) (st : Progress) {s1 : Pr
       }
 
 -- what is left to do once a text of its own was written
-module _ (start was : ℕ) (w : List ℕ) (st : Progress) where
+module _ (start : ℕ) (was : Bool) (w : List ℕ) (st : Progress) where
   -- it was refused
-  pub kept_stopped : (c : CodeValue.Value) → (st.refused ≡ 0 → ⊥) → TextKept start was w st w st c
+  pub kept_stopped : (c : CodeValue.Value) → ((refused_of st) ≡ 0 → ⊥) → TextKept start was w st w st c
   kept_stopped c f = record { kept = λ e left at x l w₀ t s₀ es i x₁ l₁ t₁ g ef ea. text_stopped e left at x l w₀ t s₀ es _ g c f }
 
   -- it does not lie as it should: never
-  pub kept_never : (c : CodeValue.Value) → st.refused ≡ 0 → (start ≤ st.front → st.front ≤ st.back → st.back ≤ length w → ⊥) → TextKept start was w st w st c
+  pub kept_never : (c : CodeValue.Value) → (refused_of st) ≡ 0 → (start ≤ st.front → st.front ≤ st.back → st.back ≤ length w → ⊥) → TextKept start was w st w st c
   kept_never c r f = record { kept = λ e left at x l w₀ t s₀ es i x₁ l₁ t₁ g ef ea. text_never e left at x l w₀ t s₀ es _ g c r (λ p. f (subst (λ (j : ℕ). j ≤ st.front) (sym ef) p)) }
 
   -- it was moved to the back, and is the value
-  pub kept_made : {w' : List ℕ} (n to : ℕ) {r : Progress} {c : CodeValue.Value} → st.refused ≡ 0 → start ≤ st.front → st.front ≤ st.back → st.back ≤ length w
-      → n ≡ st.front - start → to ≡ st.back - n → w' ≡ moved_back w start n to → r ≡ kept_s start to (eqb was 1) st → c ≡ val.Work to st.back → TextKept start was w st w' r c
+  pub kept_made : {w' : List ℕ} (n to : ℕ) {r : Progress} {c : CodeValue.Value} → (refused_of st) ≡ 0 → start ≤ st.front → st.front ≤ st.back → st.back ≤ length w
+      → n ≡ st.front - start → to ≡ st.back - n → w' ≡ moved_back w start n to → r ≡ kept_s start to was st → c ≡ val.Work to st.back → TextKept start was w st w' r c
   kept_made {w'} n to {r} {c} z le₁ le₂ le₃ en et ew er ec = record {
     kept = λ e left at x l w₀ t s₀ es i x₁ l₁ t₁ g ef ea.
         subst (λ (q : CodeValue.Value). TextValueAt e left at (world e.store x l w₀ t s₀) (world i x₁ l₁ w' t₁ r) q) (sym ec)
         (text_made e left at x l w₀ t s₀ es _ g w' n to z (omega arith) le₂ le₃ (omega arith) et
-        (ew ∙ ap (λ (j : ℕ). moved_back w j n to) ef) (er ∙ ap (λ (j : ℕ). kept_s j to (eqb was 1) st) ef ∙ ap (λ (b : Bool). kept_s s₀.front to b st) ea));
+        (ew ∙ ap (λ (j : ℕ). moved_back w j n to) ef) (er ∙ ap (λ (j : ℕ). kept_s j to was st) ef ∙ ap (λ (b : Bool). kept_s s₀.front to b st) ea));
   }
 
 -- the same value, under another name

@@ -1,4 +1,5 @@
 -- The run of a pattern, from where text, list and counts stand.
+use Rattle.state.specs.Progress.{refused_of}
 use mathlib.Core.Path.{◌≡◌, refl, ap, sym, subst, ◌∙◌}
 use mathlib.Core.List.{List, [], ◌∷◌}
 use Prim.Native.Nat.{ℕ, ◌+◌, ◌-◌, ◌≤◌}
@@ -20,7 +21,8 @@ use Rattle.theorems.specs.Finished.{trace_of}
 use Rattle.theorems.proofs.Net.{inward, Netted, netted}
 use Rattle.theorems.proofs.Kept.{keeps_none}
 use Rattle.trail.specs.Relations.Trail.{prefixed, pattern_bytes, trail_of}
-use Rattle.state.specs.Progress.{Progress, scope_of, scoped_s}
+use Rattle.state.specs.Progress.{scope_of, scoped_s}
+use Rattle.state.specs.declared.Progress.{Progress}
 use Rattle.resolver.specs.Relations.Meets.{World, world, Live, no_locals, Ended, ended, stopped, Env, Setup, setting_of, find_of}
 use Rattle.resolver.specs.Relations.Members.{PatternAt}
 use Rattle.state.specs.Setters.{depth_s, new_s}
@@ -98,7 +100,7 @@ module _ (e : Env) (q : ℕ) (x l w : List ℕ) (p : Progress) (t : List ℕ) (t
           let used : m.used ≡ k.used + inward 0 out.text + out.kept = subst (λ (i : ℕ). m.used ≡ k.used + inward i out.text + out.kept) z n.used in
           (n.level ∙ z, omega (arith, used, r.used, keeps_none (setting_of e u) (find_of e u) max_patterns y (bytes_of y ∷ []) fresh))
 
-      ended_as : Ended (limits_of (buffers x l w)) (world e.store x l w t (entered p)) v out k → RanAs (exec (limits_of (buffers x l w)) out.trace k) x l p v.text v.list v.work v.st v.st.begun × (v.st.refused ≡ 0 → v.st.begun ≤ 101)
+      ended_as : Ended (limits_of (buffers x l w)) (world e.store x l w t (entered p)) v out k → RanAs (exec (limits_of (buffers x l w)) out.trace k) x l p v.text v.list v.work v.st v.st.begun × ((refused_of v.st) ≡ 0 → v.st.begun ≤ 101)
       unfolding limits_of
       ended_as (ended m eq lv n mv) =
           let z = free_again m eq in (
@@ -124,7 +126,7 @@ module _ (e : Env) (q : ℕ) (x l w : List ℕ) (p : Progress) (t : List ℕ) (t
       ended_as (stopped n eq z g) = (refused_as n eq z (refused_small (limits_of (buffers x l w)) out.trace k n eq) g, λ o. absurd (z (sym g ∙ o)))
 
       pub run_on : (f : ℕ) → entry_pattern_at e.store q ≡ got y f
-          → RanAs (exec (limits_of (buffers x l w)) (trace_of (setting_of e u) (find_of e u) y) k) x l p v.text v.list v.work v.st v.st.begun × (v.st.refused ≡ 0 → v.st.begun ≤ 101)
+          → RanAs (exec (limits_of (buffers x l w)) (trace_of (setting_of e u) (find_of e u) y) k) x l p v.text v.list v.work v.st v.st.begun × ((refused_of v.st) ≡ 0 → v.st.begun ≤ 101)
       unfolding out
       run_on f hp = ended_as (run f hp)
 

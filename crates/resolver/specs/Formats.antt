@@ -1,15 +1,23 @@
 -- The answers of a formatting in the code, as those of document 01.
+use Rattle.std.specs.Prelude.{ℕ, Result, Ok, Err}
+use Rattle.refusals.specs.Numbers.{number_of}
 use Rattle.resolution.specs.Effect.{Bytes}
 use Rattle.resolution.specs.Format.{Answer, finished, refused_before, refused_running, Formatted}
-use Rattle.resolver.specs.declared.format.Answer as CodeAnswer
-use Rattle.resolver.specs.declared.format.Answer.TheVariants as ans
+use Rattle.resolver.specs.declared.format.Figures.{Figures}
+use Rattle.resolver.specs.declared.format.Failure.{Failure}
+use Rattle.resolver.specs.declared.format.Failure.TheVariants as failure
 
 -- document 01's numbers and values for each answer
-unfoldable pub answer_of : CodeAnswer.Answer → Answer
-answer_of (ans.Finished f) = finished f.text f.errors f.begun f.unfound f.work
-answer_of (ans.Refused n) = refused_before n
-answer_of (ans.Cleared n) = refused_running n
+unfoldable pub answer_of : Result Figures Failure → Answer
+answer_of (Ok f) = finished f.text f.errors f.begun f.unfound f.work
+answer_of (Err (failure.Refused why)) = refused_before (number_of why)
+answer_of (Err (failure.Cleared why)) = refused_running (number_of why)
 
 -- an answer, with what text, list and workspace hold then
-unfoldable pub gave : CodeAnswer.Answer → Bytes → Bytes → Bytes → Formatted
+unfoldable pub gave : Result Figures Failure → Bytes → Bytes → Bytes → Formatted
 gave r x l w = record { answer = answer_of r; buffers = record { text = x; list = l; work = w } }
+
+-- "A refusal's result is its number."
+unfoldable pub failure_number : Failure → ℕ
+failure_number (failure.Refused why) = number_of why
+failure_number (failure.Cleared why) = number_of why

@@ -1,19 +1,17 @@
 // Calls: the positional arguments, and the function's result.
-ghost use Rattle.state.specs.Progress.{progress_of};
 ghost use Rattle.resolver.specs.Relations.Meets.{world, env, lent};
 ghost use Rattle.std.specs.Prelude.{◌≡◌};
-ghost use Rattle.values.specs.Stored.{value_of, found_in, end_of};
 ghost use Rattle.resolver.specs.Relations.Members.{PositionalAt, CalledAt};
 ghost use Rattle.resolver.specs.Relations.Answers.{AnswerAt, AppliedAt};
 
 use crate::inline;
 use crate::scope::call::number_function;
 use crate::scope::value::resolve_named;
-use entries::Found;
+use entries::Holder;
 use entries::entry::find_holder;
-use records::{Next, Num, read_str, read_u16};
-use state::{BACK, REFUSED, missing_function, set_back};
-use values::{END, held, hold, hold_missing, hold_wrong, set_end};
+use records::{read_str, read_u16};
+use state::Progress;
+use values::{Resolved, Value};
 use walks::skip_expression;
 
 // The positional arguments at `at`, each resolved in turn: the first value is kept.
@@ -26,35 +24,32 @@ pub(crate) fn each<'a>(
     list: &mut [u8],
     work: &mut [u8],
     trail: &mut [usize; 102],
-    st: &mut [usize; 16],
-    value: &mut [usize; 10],
+    st: &mut Progress,
+    value: &mut Resolved,
     left: usize,
     at: usize,
 )
-    ensures { PositionalAt (env store.now (lent args.now places.now)) left at (world store.now text.old list.old work.old trail.old (progress_of st.old)) (world store.now text.new list.new work.new trail.new (progress_of st.new)) (value_of value.new) (end_of value.new) }
+    ensures { PositionalAt (env store.now (lent args.now places.now)) left at (world store.now text.old list.old work.old trail.old st.old) (world store.now text.new list.new work.new trail.new st.new) value.new.value value.new.end }
 {
-    let Num::At(n, start) = read_u16(store, at) else {
+    let Some((n, start)) = read_u16(store, at) else {
         return;
     };
-    hold_wrong(value);
-    let mut first = *value;
+    let mut first = Value::Wrong;
     let mut p = start;
-    let mut i = n;
-    while 0 < i {
+    for i in 0..n {
         inline::resolve(
             store, args, places, text, list, work, trail, st, value, left, p,
         );
-        if i == n {
-            first = *value;
+        if i == 0 {
+            first = value.value;
         }
-        let Next::At(q) = skip_expression(store, p, left) else {
+        let Some(q) = skip_expression(store, p, left) else {
             return;
         };
         p = q;
-        i -= 1;
     }
-    *value = first;
-    set_end(value, p);
+    value.hold(first);
+    value.end = p;
 }
 
 // A call, its Id at `at`: its arguments are freed once its result, or that it is missing, is known.
@@ -67,17 +62,17 @@ pub(crate) fn function<'a>(
     list: &mut [u8],
     work: &mut [u8],
     trail: &mut [usize; 102],
-    st: &mut [usize; 16],
-    value: &mut [usize; 10],
+    st: &mut Progress,
+    value: &mut Resolved,
     left: usize,
     at: usize,
 )
-    ensures { CalledAt (env store.now (lent args.now places.now)) left at (world store.now text.old list.old work.old trail.old (progress_of st.old)) (world store.now text.new list.new work.new trail.new (progress_of st.new)) (found_in value.new) (value_of value.new) }
+    ensures { CalledAt (env store.now (lent args.now places.now)) left at (world store.now text.old list.old work.old trail.old st.old) (world store.now text.new list.new work.new trail.new st.new) value.new.found value.new.value }
 {
-    let Num::At(_, e) = read_str(store, at) else {
+    let Some((_, e)) = read_str(store, at) else {
         return;
     };
-    let old = st[BACK];
+    let old = st.back;
     each(
         store, args, places, text, list, work, trail, st, value, left, e,
     );
@@ -88,25 +83,25 @@ pub(crate) fn function<'a>(
 pub(crate) fn apply(
     store: &[u8],
     work: &mut [u8],
-    st: &mut [usize; 16],
-    value: &mut [usize; 10],
+    st: &mut Progress,
+    value: &mut Resolved,
     at: usize,
     old: usize,
 )
-    ensures { AppliedAt store.now at work.old (progress_of st.old) (value_of value.old) (end_of value.old) old work.new (progress_of st.new) (found_in value.new) (value_of value.new) }
+    ensures { AppliedAt store.now at work.old st.old value.old.value value.old.end old work.new st.new value.new.found value.new.value }
 {
-    if st[REFUSED] != 0 {
+    if st.is_refused() {
         return;
     }
-    let Num::At(a, e) = read_str(store, at) else {
+    let Some((a, e)) = read_str(store, at) else {
         return;
     };
-    let base = st[BACK];
-    let Num::At(m, named) = read_u16(store, value[END]) else {
+    let base = st.back;
+    let Some((m, named)) = read_u16(store, value.end) else {
         return;
     };
     resolve_named(store, work, st, named, m);
-    if st[REFUSED] != 0 {
+    if st.is_refused() {
         return;
     }
     answer(store, &*work, st, value, &store[a..e], named, m, base, old);
@@ -116,34 +111,34 @@ pub(crate) fn apply(
 fn answer(
     store: &[u8],
     work: &[u8],
-    st: &mut [usize; 16],
-    value: &mut [usize; 10],
+    st: &mut Progress,
+    value: &mut Resolved,
     id: &[u8],
     named: usize,
     count: usize,
     base: usize,
     old: usize,
 )
-    ensures { AnswerAt store.now work.now (progress_of st.old) id.now named count base (value_of value.old) old (progress_of st.new) (found_in value.new) (value_of value.new) }
+    ensures { AnswerAt store.now work.now st.old id.now named count base value.old.value old st.new value.new.found value.new.value }
 {
     match find_holder(store, id) {
-        Found::Function => {
-            let first = held(&*value);
+        Some(Holder::Function) => {
+            let first = value.value;
             let v = number_function(store, work, st, named, count, base, first);
-            set_back(st, old);
-            hold(value, v);
+            st.set_back(old);
+            value.hold(v);
         }
-        Found::Message(_) => {
-            set_back(st, old);
-            hold_missing(value);
+        Some(Holder::Message(_)) => {
+            st.set_back(old);
+            value.hold_missing();
         }
-        Found::Term(_) => {
-            set_back(st, old);
-            hold_missing(value);
+        Some(Holder::Term(_)) => {
+            st.set_back(old);
+            value.hold_missing();
         }
-        Found::Nothing => {
-            missing_function(st, old);
-            hold_missing(value);
+        None => {
+            st.missing_function(old);
+            value.hold_missing();
         }
     }
 }

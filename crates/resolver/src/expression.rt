@@ -1,13 +1,13 @@
 // Expressions, written: an inline expression, or a select.
-ghost use Rattle.state.specs.Progress.{progress_of};
 ghost use Rattle.resolver.specs.Relations.Meets.{world, env, lent};
 ghost use Rattle.resolver.specs.Relations.Members.{ExpressionAt, SelectAt};
 
 use crate::scope::select::choose;
 use crate::{inline, pattern};
-use records::{Next, Num, read_byte};
-use state::{BACK, REFUSED, set_back};
+use records::read_byte;
+use state::Progress;
 use texts::Plain;
+use values::Resolved;
 use walks::skip_expression;
 use writes::list::list_plain;
 
@@ -21,20 +21,20 @@ pub(crate) fn write<'a>(
     list: &mut [u8],
     work: &mut [u8],
     trail: &mut [usize; 102],
-    st: &mut [usize; 16],
-    value: &mut [usize; 10],
+    st: &mut Progress,
+    value: &mut Resolved,
     left: usize,
     at: usize,
 )
-    ensures { ExpressionAt (env store.now (lent args.now places.now)) left at (world store.now text.old list.old work.old trail.old (progress_of st.old)) (world store.now text.new list.new work.new trail.new (progress_of st.new)) }
+    ensures { ExpressionAt (env store.now (lent args.now places.now)) left at (world store.now text.old list.old work.old trail.old st.old) (world store.now text.new list.new work.new trail.new st.new) }
 {
-    if st[REFUSED] != 0 {
+    if st.is_refused() {
         return;
     }
     if left == 0 {
         return;
     }
-    let Num::At(tag, p) = read_byte(store, at) else {
+    let Some((tag, p)) = read_byte(store, at) else {
         return;
     };
     if tag == 8 {
@@ -68,28 +68,28 @@ pub(crate) fn select<'a>(
     list: &mut [u8],
     work: &mut [u8],
     trail: &mut [usize; 102],
-    st: &mut [usize; 16],
-    value: &mut [usize; 10],
+    st: &mut Progress,
+    value: &mut Resolved,
     left: usize,
     at: usize,
 )
-    ensures { SelectAt (env store.now (lent args.now places.now)) left at (world store.now text.old list.old work.old trail.old (progress_of st.old)) (world store.now text.new list.new work.new trail.new (progress_of st.new)) }
+    ensures { SelectAt (env store.now (lent args.now places.now)) left at (world store.now text.old list.old work.old trail.old st.old) (world store.now text.new list.new work.new trail.new st.new) }
 {
-    if st[REFUSED] != 0 {
+    if st.is_refused() {
         return;
     }
-    let old = st[BACK];
+    let old = st.back;
     inline::resolve(
         store, args, places, text, list, work, trail, st, value, left, at,
     );
-    if st[REFUSED] != 0 {
+    if st.is_refused() {
         return;
     }
-    set_back(st, old);
-    let Next::At(q) = skip_expression(store, at, left) else {
+    st.set_back(old);
+    let Some(q) = skip_expression(store, at, left) else {
         return;
     };
-    let Next::At(to) = choose(store, args, &*work, &*value, q) else {
+    let Some(to) = choose(store, args, &*work, &*value, q) else {
         list_plain(list, st, Plain::MissingDefault);
         return;
     };

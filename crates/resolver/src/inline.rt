@@ -1,7 +1,5 @@
 // Inline expressions (the Rust's inline_expression.rs): written, or resolved to a value.
-ghost use Rattle.state.specs.Progress.{progress_of};
 ghost use Rattle.resolver.specs.Relations.Meets.{world, env, lent};
-ghost use Rattle.values.specs.Stored.{value_of};
 ghost use Rattle.resolver.specs.Relations.Members.{InlineAt, MessageAt, ValueAt, TextAt};
 
 use crate::reference::{Target, count_if, target_of};
@@ -10,9 +8,10 @@ use crate::scope::put::put_error;
 use crate::scope::reference::ref_error;
 use crate::{call, expression, pattern, term};
 use heads::gives_text;
-use records::{Num, read_byte};
-use state::{ASIDE, FRONT, REFUSED, set_aside};
+use records::read_byte;
+use state::Progress;
 use texts::Referred;
+use values::Resolved;
 use writes::list::list_no_value;
 
 // `InlineExpression::write`
@@ -25,20 +24,20 @@ pub(crate) fn write<'a>(
     list: &mut [u8],
     work: &mut [u8],
     trail: &mut [usize; 102],
-    st: &mut [usize; 16],
-    value: &mut [usize; 10],
+    st: &mut Progress,
+    value: &mut Resolved,
     left: usize,
     at: usize,
 )
-    ensures { InlineAt (env store.now (lent args.now places.now)) left at (world store.now text.old list.old work.old trail.old (progress_of st.old)) (world store.now text.new list.new work.new trail.new (progress_of st.new)) }
+    ensures { InlineAt (env store.now (lent args.now places.now)) left at (world store.now text.old list.old work.old trail.old st.old) (world store.now text.new list.new work.new trail.new st.new) }
 {
-    if st[REFUSED] != 0 {
+    if st.is_refused() {
         return;
     }
     if left == 0 {
         return;
     }
-    let Num::At(tag, p) = read_byte(store, at) else {
+    let Some((tag, p)) = read_byte(store, at) else {
         return;
     };
     if tag == 7 {
@@ -107,13 +106,13 @@ pub(crate) fn message<'a>(
     list: &mut [u8],
     work: &mut [u8],
     trail: &mut [usize; 102],
-    st: &mut [usize; 16],
-    value: &mut [usize; 10],
+    st: &mut Progress,
+    value: &mut Resolved,
     at: usize,
 )
-    ensures { MessageAt (env store.now (lent args.now places.now)) at (world store.now text.old list.old work.old trail.old (progress_of st.old)) (world store.now text.new list.new work.new trail.new (progress_of st.new)) }
+    ensures { MessageAt (env store.now (lent args.now places.now)) at (world store.now text.old list.old work.old trail.old st.old) (world store.now text.new list.new work.new trail.new st.new) }
 {
-    if st[REFUSED] != 0 {
+    if st.is_refused() {
         return;
     }
     match target_of(store, at, false) {
@@ -142,20 +141,20 @@ pub(crate) fn resolve<'a>(
     list: &mut [u8],
     work: &mut [u8],
     trail: &mut [usize; 102],
-    st: &mut [usize; 16],
-    value: &mut [usize; 10],
+    st: &mut Progress,
+    value: &mut Resolved,
     left: usize,
     at: usize,
 )
-    ensures { ValueAt (env store.now (lent args.now places.now)) left at (world store.now text.old list.old work.old trail.old (progress_of st.old)) (world store.now text.new list.new work.new trail.new (progress_of st.new)) (value_of value.new) }
+    ensures { ValueAt (env store.now (lent args.now places.now)) left at (world store.now text.old list.old work.old trail.old st.old) (world store.now text.new list.new work.new trail.new st.new) value.new.value }
 {
-    if st[REFUSED] != 0 {
+    if st.is_refused() {
         return;
     }
     if left == 0 {
         return;
     }
-    let Num::At(tag, p) = read_byte(store, at) else {
+    let Some((tag, p)) = read_byte(store, at) else {
         return;
     };
     if tag == 6 {
@@ -197,18 +196,18 @@ pub(crate) fn as_text<'a>(
     list: &mut [u8],
     work: &mut [u8],
     trail: &mut [usize; 102],
-    st: &mut [usize; 16],
-    value: &mut [usize; 10],
+    st: &mut Progress,
+    value: &mut Resolved,
     left: usize,
     at: usize,
     tag: usize,
     p: usize,
 )
-    ensures { TextAt (env store.now (lent args.now places.now)) left at tag p (world store.now text.old list.old work.old trail.old (progress_of st.old)) (world store.now text.new list.new work.new trail.new (progress_of st.new)) (value_of value.new) }
+    ensures { TextAt (env store.now (lent args.now places.now)) left at tag p (world store.now text.old list.old work.old trail.old st.old) (world store.now text.new list.new work.new trail.new st.new) value.new.value }
 {
-    let was = st[ASIDE];
-    let start = st[FRONT];
-    set_aside(st);
+    let was = st.aside;
+    let start = st.front;
+    st.set_aside();
     if tag == 4 {
         message(store, args, places, text, list, work, trail, st, value, at);
         keep_text(work, st, value, start, was);

@@ -1,14 +1,14 @@
-// The scope is lent down the whole formatting: a few thin functions over one that takes it by value and hands it back. Under that one its numbers stand among
-// those that are lent beside it, so that no frame of a formatting holds a copy.
-// The functions that are lent the scope, or lend it, are proved by hand.
+// The scope is lent down the whole formatting: a few thin functions over one that takes it by value and hands it back. Under that one its parts stand
+// among those of `Progress`, which is lent beside it, so that no frame of a formatting holds a copy.
 ghost use Rattle.std.specs.Prelude.{◌≡◌};
-ghost use Rattle.state.specs.Progress.{progress_of, scope_of, scoped_s};
+ghost use Rattle.state.specs.Progress.{scope_of, scoped_s};
 ghost use Rattle.state.specs.Setters.{new_s};
 ghost use Rattle.resolver.specs.Relations.Meets.{world, env, lent};
 ghost use Rattle.resolver.specs.Relations.Members.{PatternAt};
 
 use crate::pattern;
-use state::{Scope, new, scope_in, set_scope};
+use state::{Progress, Scope};
+use values::Resolved;
 
 // `Pattern::write`, by value.
 pub(crate) fn write_by_value<'a>(
@@ -19,19 +19,19 @@ pub(crate) fn write_by_value<'a>(
     list: &mut [u8],
     work: &mut [u8],
     trail: &mut [usize; 102],
-    st: &mut [usize; 16],
-    value: &mut [usize; 10],
+    st: &mut Progress,
+    value: &mut Resolved,
     scope: Scope,
     left: usize,
     at: usize,
 ) -> Scope
-    ensures { PatternAt (env store.now (lent args.now places.now)) left at (world store.now text.old list.old work.old trail.old (scoped_s scope (progress_of st.old))) (world store.now text.new list.new work.new trail.new (progress_of st.new)) × (result ≡ scope_of (progress_of st.new)) }
+    ensures { PatternAt (env store.now (lent args.now places.now)) left at (world store.now text.old list.old work.old trail.old (scoped_s scope st.old)) (world store.now text.new list.new work.new trail.new st.new) × (result ≡ scope_of st.new) }
 {
-    set_scope(st, scope);
+    st.set_scope(scope);
     pattern::write(
         store, args, places, text, list, work, trail, st, value, left, at,
     );
-    scope_in(&*st)
+    st.scope()
 }
 
 // `Pattern::write`
@@ -43,13 +43,13 @@ pub(crate) fn write<'a>(
     list: &mut [u8],
     work: &mut [u8],
     trail: &mut [usize; 102],
-    st: &mut [usize; 16],
-    value: &mut [usize; 10],
+    st: &mut Progress,
+    value: &mut Resolved,
     scope: &mut Scope,
     left: usize,
     at: usize,
 )
-    ensures { PatternAt (env store.now (lent args.now places.now)) left at (world store.now text.old list.old work.old trail.old (scoped_s scope.old (progress_of st.old))) (world store.now text.new list.new work.new trail.new (progress_of st.new)) × (scope.new ≡ scope_of (progress_of st.new)) }
+    ensures { PatternAt (env store.now (lent args.now places.now)) left at (world store.now text.old list.old work.old trail.old (scoped_s scope.old st.old)) (world store.now text.new list.new work.new trail.new st.new) × (scope.new ≡ scope_of st.new) }
 {
     *scope = write_by_value(
         store, args, places, text, list, work, trail, st, value, *scope, left, at,
@@ -65,13 +65,13 @@ pub(crate) fn resolve<'a>(
     list: &mut [u8],
     work: &mut [u8],
     trail: &mut [usize; 102],
-    st: &mut [usize; 16],
-    value: &mut [usize; 10],
+    st: &mut Progress,
+    value: &mut Resolved,
     q: usize,
 ) -> Scope
-    ensures { PatternAt (env store.now (lent args.now places.now)) 32 q (world store.now text.old list.old work.old trail.old (scoped_s (scope_of (new_s 0)) (progress_of st.old))) (world store.now text.new list.new work.new trail.new (progress_of st.new)) × (result ≡ scope_of (progress_of st.new)) }
+    ensures { PatternAt (env store.now (lent args.now places.now)) 32 q (world store.now text.old list.old work.old trail.old (scoped_s (scope_of (new_s 0)) st.old)) (world store.now text.new list.new work.new trail.new st.new) × (result ≡ scope_of st.new) }
 {
-    let mut scope = new();
+    let mut scope = Scope::new();
     write(
         store, args, places, text, list, work, trail, st, value, &mut scope, 32, q,
     );

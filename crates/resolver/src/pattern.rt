@@ -1,16 +1,16 @@
 // Patterns, written: the elements in turn, the placeables begun, and the pattern that a reference leads to.
 // Patterns, expressions and inline expressions write each other. What falls at each call: placeables left, then nesting, then stage.
-ghost use Rattle.state.specs.Progress.{progress_of};
 ghost use Rattle.resolver.specs.Relations.Meets.{world, env, lent};
 ghost use Rattle.resolver.specs.Relations.Members.{PatternAt, ElementAt, TrackAt};
 
 use crate::expression;
 use crate::scope::put::{put_cut, put_error};
 use heads::{has_marks, isolates};
-use records::{Next, Num, read_byte, read_str, read_u16, read_u32};
-use state::{BEGUN, DEPTH, DIRTY, REFUSED, begin, may_begin, set_depth};
+use records::{read_byte, read_str, read_u16, read_u32};
+use state::Progress;
 use texts::Plain;
 use trail::on_trail;
+use values::Resolved;
 use walks::skip_element;
 use writes::list::{list_plain, list_too_many};
 use writes::put::{put, put_fsi, put_pdi};
@@ -25,31 +25,29 @@ pub(crate) fn write<'a>(
     list: &mut [u8],
     work: &mut [u8],
     trail: &mut [usize; 102],
-    st: &mut [usize; 16],
-    value: &mut [usize; 10],
+    st: &mut Progress,
+    value: &mut Resolved,
     left: usize,
     at: usize,
 )
-    ensures { PatternAt (env store.now (lent args.now places.now)) left at (world store.now text.old list.old work.old trail.old (progress_of st.old)) (world store.now text.new list.new work.new trail.new (progress_of st.new)) }
+    ensures { PatternAt (env store.now (lent args.now places.now)) left at (world store.now text.old list.old work.old trail.old st.old) (world store.now text.new list.new work.new trail.new st.new) }
 {
-    let Num::At(_, a) = read_u32(store, at) else {
+    let Some((_, a)) = read_u32(store, at) else {
         return;
     };
-    let Num::At(n, start) = read_u16(store, a) else {
+    let Some((n, start)) = read_u16(store, a) else {
         return;
     };
     let iso = isolates(store, n);
     let mut p = start;
-    let mut i = n;
-    while 0 < i {
+    for _ in 0..n {
         element(
             store, args, places, text, list, work, trail, st, value, left, iso, p,
         );
-        let Next::At(q) = skip_element(store, p, left) else {
+        let Some(q) = skip_element(store, p, left) else {
             return;
         };
         p = q;
-        i -= 1;
     }
 }
 
@@ -63,38 +61,38 @@ pub(crate) fn element<'a>(
     list: &mut [u8],
     work: &mut [u8],
     trail: &mut [usize; 102],
-    st: &mut [usize; 16],
-    value: &mut [usize; 10],
+    st: &mut Progress,
+    value: &mut Resolved,
     left: usize,
     iso: bool,
     at: usize,
 )
-    ensures { ElementAt (env store.now (lent args.now places.now)) left iso at (world store.now text.old list.old work.old trail.old (progress_of st.old)) (world store.now text.new list.new work.new trail.new (progress_of st.new)) }
+    ensures { ElementAt (env store.now (lent args.now places.now)) left iso at (world store.now text.old list.old work.old trail.old st.old) (world store.now text.new list.new work.new trail.new st.new) }
 {
-    if st[REFUSED] != 0 {
+    if st.is_refused() {
         return;
     }
-    if st[DIRTY] == 1 {
+    if st.dirty {
         return;
     }
-    let Num::At(tag, p) = read_byte(store, at) else {
+    let Some((tag, p)) = read_byte(store, at) else {
         return;
     };
     if tag == 1 {
-        let Num::At(a, e) = read_str(store, p) else {
+        let Some((a, e)) = read_str(store, p) else {
             return;
         };
         put(text, work, st, &store[a..e]);
         return;
     }
-    if !may_begin(&*st) {
-        if 100 < st[BEGUN] {
+    if !st.may_begin() {
+        if 100 < st.begun {
             return;
         }
         list_too_many(list, st);
         return;
     }
-    begin(st);
+    st.begin();
     let marks = has_marks(store, iso, p);
     put_fsi(text, work, st, marks);
     expression::write(
@@ -114,17 +112,17 @@ pub(crate) fn track<'a>(
     list: &mut [u8],
     work: &mut [u8],
     trail: &mut [usize; 102],
-    st: &mut [usize; 16],
-    value: &mut [usize; 10],
+    st: &mut Progress,
+    value: &mut Resolved,
     at: usize,
     q: usize,
 )
-    ensures { TrackAt (env store.now (lent args.now places.now)) at q (world store.now text.old list.old work.old trail.old (progress_of st.old)) (world store.now text.new list.new work.new trail.new (progress_of st.new)) }
+    ensures { TrackAt (env store.now (lent args.now places.now)) at q (world store.now text.old list.old work.old trail.old st.old) (world store.now text.new list.new work.new trail.new st.new) }
 {
-    if st[REFUSED] != 0 {
+    if st.is_refused() {
         return;
     }
-    let d = st[DEPTH];
+    let d = st.depth;
     if 102 <= d {
         return;
     }
@@ -134,9 +132,9 @@ pub(crate) fn track<'a>(
         return;
     }
     trail[d] = q;
-    set_depth(st, d + 1);
+    st.set_depth(d + 1);
     write(
         store, args, places, text, list, work, trail, st, value, 32, q,
     );
-    set_depth(st, d);
+    st.set_depth(d);
 }

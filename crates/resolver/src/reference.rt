@@ -1,16 +1,15 @@
 // What a message or a term reference leads to, decided on numbers: a pattern, or the error that stands for it.
 ghost use Rattle.std.specs.Prelude.{◌≡◌, ◌+◌};
-ghost use Rattle.state.specs.Progress.{progress_of};
 ghost use Rattle.resolver.specs.Relations.Leaves.{ReferenceIs};
 ghost use Rattle.resolver.specs.Relations.Targets.{TargetAt, holder_of, lacking_of, count_if};
 ghost use Rattle.resolver.specs.Relations.Parts.{TermFlag};
 
-use crate::scope::reference::read_reference;
-use entries::Found;
+use crate::scope::reference::{attribute_of, read_reference};
+use entries::Holder;
 use entries::entry::find_holder;
 use entries::message::find_part;
-use records::{Next, Num, read_byte};
-use state::{Reference, Referring, count_unfound};
+use records::read_byte;
+use state::{Progress, Referring};
 
 // A pattern; a message without a value, by its Id; nothing, and whether the lookup counts as lost; or no reference stands there.
 #[derive(Clone, Copy)]
@@ -21,42 +20,42 @@ pub(crate) enum Target {
     Bad,
 }
 
-// The entry of the kind that is asked for; or that the Id has none of it, and whether it has none at all.
+// The Id has no entry of the kind that is asked for; and whether it has none of any kind, so that its lookup counts as lost.
 #[derive(Clone, Copy)]
-pub(crate) enum Holder {
-    Is(usize),
-    Not(bool),
+pub(crate) struct NoEntry {
+    pub lost: bool,
 }
 
 // The reference whose tag is at `at`.
-pub(crate) fn tagged_reference(store: &[u8], at: usize) -> Reference
+pub(crate) fn tagged_reference(store: &[u8], at: usize) -> Option<Referring>
     ensures { ReferenceIs store.now (at + 1) result }
 {
     if store.len() <= at {
-        return Reference::Bad;
+        return None;
     }
     read_reference(store, at + 1)
 }
 
 // The entry of a holder that is of the kind asked for, a term or a message.
-fn holder_of(term: bool, held: Found) -> Holder
+#[tactic(auto, unfolding(crate::specs::Relations::Targets::holder_of))]
+fn holder_of(term: bool, held: Option<Holder>) -> Result<usize, NoEntry>
     ensures { result ≡ holder_of term held }
 {
     match held {
-        Found::Message(entry) => {
+        Some(Holder::Message(entry)) => {
             if term {
-                return Holder::Not(false);
+                return Err(NoEntry { lost: false });
             }
-            Holder::Is(entry)
+            Ok(entry)
         }
-        Found::Term(entry) => {
+        Some(Holder::Term(entry)) => {
             if term {
-                return Holder::Is(entry);
+                return Ok(entry);
             }
-            Holder::Not(false)
+            Err(NoEntry { lost: false })
         }
-        Found::Function => Holder::Not(false),
-        Found::Nothing => Holder::Not(true),
+        Some(Holder::Function) => Err(NoEntry { lost: false }),
+        None => Err(NoEntry { lost: true }),
     }
 }
 
@@ -67,50 +66,43 @@ fn lacking(term: bool, r: Referring) -> Target
     if term {
         return Target::Missing(false);
     }
-    if r.has {
-        return Target::Missing(false);
+    match r.attribute {
+        Some(_) => Target::Missing(false),
+        None => Target::NoValue(r.from, r.to),
     }
-    Target::NoValue(r.from, r.to)
 }
 
 // The target of the reference whose tag is at `at`: of a term reference, or of a message reference.
 pub(crate) fn target_of(store: &[u8], at: usize, term: bool) -> Target
     ensures { TargetAt term store.now at result }
 {
-    let Reference::Is(r) = tagged_reference(store, at) else {
+    let Some(r) = tagged_reference(store, at) else {
         return Target::Bad;
     };
     let from = r.from;
     let to = r.to;
-    let has = r.has;
-    let start = r.start;
-    let end = r.end;
     match holder_of(term, find_holder(store, &store[from..to])) {
-        Holder::Is(entry) => {
-            let Next::At(q) = find_part(store, entry, has, &store[start..end]) else {
-                return lacking(term, r);
-            };
-            Target::At(q)
-        }
-        Holder::Not(lost) => Target::Missing(lost),
+        Ok(entry) => match find_part(store, entry, attribute_of(store, r)) {
+            Some(q) => Target::At(q),
+            None => lacking(term, r),
+        },
+        Err(NoEntry { lost }) => Target::Missing(lost),
     }
 }
 
 // A lookup unfound more, if it was lost.
-pub(crate) fn count_if(st: &mut [usize; 16], lost: bool)
-    ensures { progress_of st.new ≡ count_if lost (progress_of st.old) }
+pub(crate) fn count_if(st: &mut Progress, lost: bool)
+    ensures { st.new ≡ count_if lost st.old }
 {
     if lost {
-        count_unfound(st);
+        st.count_unfound();
     }
 }
 
 // The Flag of a term reference's arguments, its tag at `at`, and the position past it.
-pub(crate) fn term_flag(store: &[u8], at: usize) -> Num
+pub(crate) fn term_flag(store: &[u8], at: usize) -> Option<(usize, usize)>
     ensures { TermFlag store.now at result }
 {
-    let Reference::Is(r) = tagged_reference(store, at) else {
-        return Num::Bad;
-    };
+    let r = tagged_reference(store, at)?;
     read_byte(store, r.end)
 }

@@ -1,17 +1,15 @@
 // Term references, written: the arguments, and the term that is looked up.
-ghost use Rattle.state.specs.Progress.{progress_of};
 ghost use Rattle.resolver.specs.Relations.Meets.{world, env, lent};
-ghost use Rattle.values.specs.Stored.{end_of};
 ghost use Rattle.resolver.specs.Relations.Members.{TermAt, FoundTermAt, PassedAt};
 
 use crate::reference::{Target, count_if, target_of, term_flag};
 use crate::scope::reference::ref_error;
 use crate::scope::value::set_named;
 use crate::{inline, pattern};
-use records::{Next, Num, read_u16};
-use state::{BACK, REFUSED, clear_locals, set_back, set_locals};
+use records::read_u16;
+use state::Progress;
 use texts::Referred;
-use values::{END, set_end};
+use values::Resolved;
 use walks::skip_expression;
 
 // A term reference, its tag at `at`: its arguments stay until all its text is written, and are cleared after it.
@@ -24,42 +22,42 @@ pub(crate) fn refer<'a>(
     list: &mut [u8],
     work: &mut [u8],
     trail: &mut [usize; 102],
-    st: &mut [usize; 16],
-    value: &mut [usize; 10],
+    st: &mut Progress,
+    value: &mut Resolved,
     left: usize,
     at: usize,
 )
-    ensures { TermAt (env store.now (lent args.now places.now)) left at (world store.now text.old list.old work.old trail.old (progress_of st.old)) (world store.now text.new list.new work.new trail.new (progress_of st.new)) }
+    ensures { TermAt (env store.now (lent args.now places.now)) left at (world store.now text.old list.old work.old trail.old st.old) (world store.now text.new list.new work.new trail.new st.new) }
 {
-    if st[REFUSED] != 0 {
+    if st.is_refused() {
         return;
     }
-    let Num::At(flag, p) = term_flag(store, at) else {
+    let Some((flag, p)) = term_flag(store, at) else {
         return;
     };
-    let old = st[BACK];
+    let old = st.back;
     if flag == 0 {
-        set_locals(st, 0, 0, old);
+        st.set_locals(0, 0, old);
         found(store, args, places, text, list, work, trail, st, value, at);
-        clear_locals(st);
+        st.clear_locals();
         return;
     }
     each(
         store, args, places, text, list, work, trail, st, value, left, p,
     );
-    if st[REFUSED] != 0 {
+    if st.is_refused() {
         return;
     }
-    let Num::At(m, named) = read_u16(store, value[END]) else {
+    let Some((m, named)) = read_u16(store, value.end) else {
         return;
     };
     set_named(store, work, st, named, m);
     found(store, args, places, text, list, work, trail, st, value, at);
-    clear_locals(st);
-    if st[REFUSED] != 0 {
+    st.clear_locals();
+    if st.is_refused() {
         return;
     }
-    set_back(st, old);
+    st.set_back(old);
 }
 
 // The positional arguments at `at`, each resolved in turn: a term does not use their values.
@@ -72,29 +70,27 @@ pub(crate) fn each<'a>(
     list: &mut [u8],
     work: &mut [u8],
     trail: &mut [usize; 102],
-    st: &mut [usize; 16],
-    value: &mut [usize; 10],
+    st: &mut Progress,
+    value: &mut Resolved,
     left: usize,
     at: usize,
 )
-    ensures { PassedAt (env store.now (lent args.now places.now)) left at (world store.now text.old list.old work.old trail.old (progress_of st.old)) (world store.now text.new list.new work.new trail.new (progress_of st.new)) (end_of value.new) }
+    ensures { PassedAt (env store.now (lent args.now places.now)) left at (world store.now text.old list.old work.old trail.old st.old) (world store.now text.new list.new work.new trail.new st.new) value.new.end }
 {
-    let Num::At(n, start) = read_u16(store, at) else {
+    let Some((n, start)) = read_u16(store, at) else {
         return;
     };
     let mut p = start;
-    let mut i = n;
-    while 0 < i {
+    for _ in 0..n {
         inline::resolve(
             store, args, places, text, list, work, trail, st, value, left, p,
         );
-        let Next::At(q) = skip_expression(store, p, left) else {
+        let Some(q) = skip_expression(store, p, left) else {
             return;
         };
         p = q;
-        i -= 1;
     }
-    set_end(value, p);
+    value.end = p;
 }
 
 // The term that a reference names, looked up and written.
@@ -107,13 +103,13 @@ pub(crate) fn found<'a>(
     list: &mut [u8],
     work: &mut [u8],
     trail: &mut [usize; 102],
-    st: &mut [usize; 16],
-    value: &mut [usize; 10],
+    st: &mut Progress,
+    value: &mut Resolved,
     at: usize,
 )
-    ensures { FoundTermAt (env store.now (lent args.now places.now)) at (world store.now text.old list.old work.old trail.old (progress_of st.old)) (world store.now text.new list.new work.new trail.new (progress_of st.new)) }
+    ensures { FoundTermAt (env store.now (lent args.now places.now)) at (world store.now text.old list.old work.old trail.old st.old) (world store.now text.new list.new work.new trail.new st.new) }
 {
-    if st[REFUSED] != 0 {
+    if st.is_refused() {
         return;
     }
     match target_of(store, at, true) {

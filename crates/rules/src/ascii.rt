@@ -2,39 +2,18 @@
 ghost use Rattle.std.specs.Prelude.{◌≡◌};
 ghost use Rattle.rules.specs.Rules.{letter, hex};
 
-use decimals::bytes::is_digit;
-
 // Is a byte a letter?
+#[tactic(auto, unfolding(crate::specs::Rules::letter))]
 pub(crate) fn is_letter(b: u8) -> bool
     ensures { result ≡ letter b }
 {
-    if b < 65 {
-        return false;
-    }
-    if b <= 90 {
-        return true;
-    }
-    if b < 97 {
-        return false;
-    }
-    b <= 122
+    b.is_ascii_alphabetic()
 }
 
 // Is a byte a hexadecimal digit?
+#[tactic(auto, using(std::proofs::lemmas::Bool::Decides::nat_tests), unfolding(crate::specs::Rules::hex, decimals::specs::Bytes::digit))]
 pub fn is_hex(b: u8) -> bool
     ensures { result ≡ hex b }
 {
-    if is_digit(b) {
-        return true;
-    }
-    if b < 65 {
-        return false;
-    }
-    if b <= 70 {
-        return true;
-    }
-    if b < 97 {
-        return false;
-    }
-    b <= 102
+    b.is_ascii_hexdigit()
 }

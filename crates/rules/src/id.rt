@@ -1,41 +1,26 @@
 // The bytes of an Id.
-ghost use Rattle.std.specs.Prelude.{◌≡◌};
+ghost use Rattle.std.specs.Prelude.{◌≡◌, eqb};
 ghost use Rattle.rules.specs.Rules.{id_step, is_id};
 
 use crate::ascii::is_letter;
 use decimals::bytes::is_digit;
 
-fn id_step(q: u8, b: u8) -> u8
-    ensures { result ≡ id_step q b }
+// May a byte stand in an Id, behind the first?
+#[tactic(auto, using(std::proofs::lemmas::Bool::Decides::nat_tests), unfolding(crate::specs::Rules::id_step))]
+fn is_inner(b: u8) -> bool
+    ensures { result ≡ eqb (id_step 1 b) 1 }
 {
-    if q == 0 {
-        if is_letter(b) { 1 } else { 2 }
-    } else if q == 1 {
-        if is_letter(b) {
-            1
-        } else if is_digit(b) {
-            1
-        } else if b == 45 {
-            1
-        } else if b == 95 {
-            1
-        } else {
-            2
-        }
-    } else {
-        2
-    }
+    is_letter(b) || is_digit(b) || matches!(b, b'-' | b'_')
 }
 
 // Are these the bytes of an Id?
 pub fn is_id(s: &[u8]) -> bool
     ensures { result ≡ is_id s.now }
 {
-    let mut q = 0u8;
-    let mut i = 0usize;
-    while i < s.len() {
-        q = id_step(q, s[i]);
-        i += 1;
+    match s {
+        [first, others @ ..] => {
+            s.len() <= 255 && is_letter(*first) && others.iter().all(|b| is_inner(*b))
+        }
+        [] => false,
     }
-    if q == 1 { s.len() <= 255 } else { false }
 }

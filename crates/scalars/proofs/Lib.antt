@@ -2,3 +2,4 @@
 pub mod Scalars
 pub mod Utf8
 pub mod Examples
+pub mod Outside

@@ -22,34 +22,6 @@ module _ (b : ℕ) where
   unfolding hex digit
   hex_lower h = simp (le-leb 48 b (omega arith), lt-leb b 57 (omega arith), le-leb 65 b (omega arith), lt-leb b 70 (omega arith), le-leb 97 b h)
 
-  pub value_before : b < 48 → hex_value b ≡ 0
-  unfolding hex_value digit
-  value_before h = simp (lt-leb 48 b h, lt-leb 65 b (omega arith), lt-leb 97 b (omega arith))
-
-  pub value_digit : 48 ≤ b → b ≤ 57 → hex_value b ≡ b - 48
-  unfolding hex_value digit
-  value_digit h g = simp (le-leb 48 b h, le-leb b 57 g)
-
-  pub value_between : 57 < b → b < 65 → hex_value b ≡ 0
-  unfolding hex_value digit
-  value_between h g = simp (le-leb 48 b (omega arith), lt-leb b 57 h, lt-leb 65 b g, lt-leb 97 b (omega arith))
-
-  pub value_upper : 65 ≤ b → b ≤ 70 → hex_value b ≡ b - 55
-  unfolding hex_value digit
-  value_upper h g = simp (le-leb 48 b (omega arith), lt-leb b 57 (omega arith), le-leb 65 b h, le-leb b 70 g)
-
-  pub value_past : 70 < b → b < 97 → hex_value b ≡ 0
-  unfolding hex_value digit
-  value_past h g = simp (le-leb 48 b (omega arith), lt-leb b 57 (omega arith), le-leb 65 b (omega arith), lt-leb b 70 h, lt-leb 97 b g)
-
-  pub value_lower : 97 ≤ b → b ≤ 102 → hex_value b ≡ b - 87
-  unfolding hex_value digit
-  value_lower h g = simp (le-leb 48 b (omega arith), lt-leb b 57 (omega arith), le-leb 65 b (omega arith), lt-leb b 70 (omega arith), le-leb 97 b h, le-leb b 102 g)
-
-  pub value_after : 102 < b → hex_value b ≡ 0
-  unfolding hex_value digit
-  value_after h = simp (le-leb 48 b (omega arith), lt-leb b 57 (omega arith), le-leb 65 b (omega arith), lt-leb b 70 (omega arith), le-leb 97 b (omega arith), lt-leb b 102 h)
-
 choose_below : (m : ℕ) (t : Bool) (x y : ℕ) → (t ≡ true → x < m) → y < m → choose t x y < m
 choose_below m true x y h g = h refl
 choose_below m false x y h g = g

@@ -4,8 +4,9 @@
 
 mod embedded;
 
-use bundle::Answer;
-use resolver::format::Answer as Formatted;
+use refusals::Refusal;
+use resolver::format::Failure;
+use sheet_format::format_sheet;
 use std::io;
 use std::io::Write;
 
@@ -19,17 +20,17 @@ fn buffer() -> [u8; 4096] {
 }
 
 // Says that an operation was refused.
-fn refused(rt: &impl Print, number: u8) -> io::Result<()> {
+fn print_refusal(rt: &impl Print, refusal: Refusal) -> io::Result<()> {
+    let number = refusal.number();
     println!(rt; "refusal {number}")
 }
 
 // Prints a text, which ends at a position, and ends its line.
 fn print_text(rt: &impl Print, text: &[u8], end: usize) -> io::Result<()> {
-    if text.len() < end {
+    let Some(text) = text.get(..end) else {
         return Ok(());
-    }
-    let zero = 0usize;
-    print(rt, &text[zero..end])?;
+    };
+    print(rt, text)?;
     print(rt, b"\n")
 }
 
@@ -38,36 +39,25 @@ fn print_sheet(rt: &impl Print, store: &[u8]) -> io::Result<()> {
     let mut text = buffer();
     let mut list = buffer();
     let mut work = buffer();
-    match sheet_format::format_sheet(store, &embedded::SHEET, &mut text, &mut list, &mut work) {
-        Formatted::Finished(f) => print_text(rt, &text, f.text),
-        Formatted::Refused(n) => refused(rt, n),
-        Formatted::Cleared(n) => refused(rt, n),
+    match format_sheet(store, &embedded::SHEET, &mut text, &mut list, &mut work) {
+        Ok(figures) => print_text(rt, &text, figures.text),
+        Err(Failure::Refused(refusal) | Failure::Cleared(refusal)) => print_refusal(rt, refusal),
     }
 }
 
-// NUMBER, and the sentences of a language, in a new bundle.
-fn fill(store: &mut [u8], image: &[u8]) -> Answer {
-    let mut list = buffer();
-    match bundle::add_function(store, b"NUMBER", 1) {
-        Answer::Refused(n) => Answer::Refused(n),
-        Answer::Done(_) => bundle::add_resource(store, image, &mut list),
-    }
-}
-
-// The bundle of a language.
-fn make(store: &mut [u8], locale: u8, image: &[u8]) -> Answer {
-    match bundle::new(store, locale, 0) {
-        Answer::Refused(n) => Answer::Refused(n),
-        Answer::Done(_) => fill(store, image),
-    }
+// The bundle of a language: NUMBER, and its sentences.
+fn make(store: &mut [u8], locale: u8, image: &[u8]) -> Result<usize, Refusal> {
+    bundle::new(store, locale, 0)?;
+    bundle::add_function(store, b"NUMBER", 1)?;
+    bundle::add_resource(store, image, &mut buffer())
 }
 
 // Prints the sheet of a language.
 fn print_language(rt: &impl Print, locale: u8, image: &[u8]) -> io::Result<()> {
     let mut store = buffer();
     match make(&mut store, locale, image) {
-        Answer::Done(_) => print_sheet(rt, &store),
-        Answer::Refused(n) => refused(rt, n),
+        Ok(_) => print_sheet(rt, &store),
+        Err(refusal) => print_refusal(rt, refusal),
     }
 }
 

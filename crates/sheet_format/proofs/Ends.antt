@@ -19,36 +19,52 @@ use Rattle.theorems.specs.Figures.{FigureIs}
 use Rattle.sheet_theorems.specs.HighestUse.{sheet_highest_use}
 use Rattle.sheet_theorems.proofs.Answers.{sheet_sums}
 use Rattle.sheet_theorems.proofs.Figures.{sheet_answers_highest}
-use Rattle.state.specs.Progress.{Progress}
+use Rattle.state.specs.declared.Progress.{Progress}
 use Rattle.state.specs.Setters.{new_s}
-use Rattle.resolver.specs.declared.format.Answer as CodeAnswer
-use Rattle.resolver.specs.declared.format.Answer.TheVariants as ans
+use Rattle.refusals.specs.declared.Refusal.{Refusal}
+use Rattle.refusals.specs.declared.Refusal.TheVariants as refusal
+use Rattle.refusals.specs.Numbers.{number_of}
+use Rattle.std.specs.Prelude.{Result, Err}
+use Rattle.resolver.specs.declared.format.Figures.{Figures}
+use Rattle.resolver.specs.declared.format.Failure.{Failure}
+use Rattle.resolver.specs.declared.format.Failure.TheVariants as failure
 use Rattle.resolver.specs.Formats.{answer_of, gave}
 use Rattle.resolver.specs.Relations.Runs.{stopped, closed}
-use Rattle.resolver.proofs.Ends.{stopped_is, figured}
+use Rattle.resolver.proofs.Ends.{failed_on, stopped_is, figured}
+use Rattle.std.specs.Prelude as rust
+use Rattle.std.specs.Option.{ok_or}
+use Rattle.std.specs.Result.{IsErrAnd}
 use Rattle.resolver.proofs.Finish.{closes}
 use Rattle.resolver.proofs.Whole.{buffers}
 use Rattle.sheet_format.specs.Relations.Sheets.{limits, Checked, SheetRan}
+
+-- what `?` passes on where something is not there
+pub failed_for : {A B : Type 0} (r : Result B Failure) {o : rust.Option A} {e x : Refusal} → o ≡ rust.None → Err e ≡ ok_or o x → IsErrAnd r (λ y. y ≡ failure.Refused e) → r ≡ Err (failure.Refused x)
+failed_for {A} r {o} {e} {x} n w k =
+    let v : ◌≡◌ {A = Result A Refusal} (Err e) (Err x) = w ∙ ap (λ (p : rust.Option A). ok_or p x) n in
+    let q : e ≡ x = cc in
+    failed_on r k ∙ ap (λ (y : Refusal). Err (failure.Refused y)) q
 
 -- the store and the sheet image that were read
 pub checked_both : {s sheet : Bytes} {v : Store} {used : ℕ} {rs : List Request} {end : ℕ} → store_of s ≡ got v used → sheet_of sheet ≡ got rs end → Checked s sheet
 checked_both {v = v} {used = used} {rs = rs} {end = end} h k = record { store = v; used = used; stored = h; requests = rs; end = end; read = k }
 
 -- what is refused before any message changes nothing
-gave_refused : (f : Formatted) (x l w : Bytes) (n : ℕ) → f ≡ refuse n (buffers x l w) → gave (ans.Refused n) x l w ≡ f
+gave_refused : (f : Formatted) (x l w : Bytes) (why : Refusal) → f ≡ refuse (number_of why) (buffers x l w) → gave (Err (failure.Refused why)) x l w ≡ f
 unfolding gave answer_of refuse
-gave_refused f x l w n e = sym e
+gave_refused f x l w why e = sym e
 
 module _ (s sheet x l w : Bytes) where
   -- 4
-  pub refused_store : store_of s ≡ bad → gave (ans.Refused 4) x l w ≡ format_sheet s sheet (buffers x l w)
-  refused_store h = gave_refused _ x l w 4 (sheet_malformed_store s sheet (buffers x l w) h)
+  pub refused_store : {r : Result Figures Failure} → store_of s ≡ bad → r ≡ Err (failure.Refused refusal.MalformedStore) → gave r x l w ≡ format_sheet s sheet (buffers x l w)
+  unfolding number_of
+  refused_store h er = ap (λ (y : Result Figures Failure). gave y x l w) er ∙ gave_refused _ x l w refusal.MalformedStore (sheet_malformed_store s sheet (buffers x l w) h)
 
   module _ (c : Checked s sheet) where
     -- 7, of a list buffer that has no room for a header
-    pub refused_header : length l < 5 → gave (ans.Refused 7) x l w ≡ format_sheet s sheet (buffers x l w)
-    unfolding list_header
-    refused_header small = gave_refused _ x l w 7 (sheet_header s sheet (buffers x l w) c.store c.used c.stored c.requests c.end c.read (lt-leb 5 (length l) small))
+    pub refused_header : length l < 5 → gave (Err (failure.Refused refusal.ShortList)) x l w ≡ format_sheet s sheet (buffers x l w)
+    unfolding list_header number_of
+    refused_header small = gave_refused _ x l w refusal.ShortList (sheet_header s sheet (buffers x l w) c.store c.used c.stored c.requests c.end c.read (lt-leb 5 (length l) small))
 
   -- the messages
   pub sheet_closed : {x₁ l₁ w₁ : Bytes} {sc : Progress} {n : ℕ} {given : Formatted} → Octets s → Octets sheet → 5 ≤ length l → length x₁ ≡ length x → length l₁ ≡ length l → length w₁ ≡ length w
@@ -62,10 +78,11 @@ module _ (s sheet x l w : Bytes) where
       ∙ stopped_is (format_sheet s sheet (buffers x l w)) (λ t e b u v h. omega (arith, (sheet_sums s os sheet oi (buffers x l w) t e b u v h).unfound))
 
 -- 18
-pub refused_sheet : (s sheet x l w : Bytes) {v : Store} {used : ℕ} → store_of s ≡ got v used → sheet_of sheet ≡ bad → gave (ans.Refused 18) x l w ≡ format_sheet s sheet (buffers x l w)
-refused_sheet s sheet x l w h b = gave_refused _ x l w 18 (sheet_malformed s sheet (buffers x l w) _ _ h b)
+pub refused_sheet : (s sheet x l w : Bytes) {v : Store} {used : ℕ} {r : Result Figures Failure} → store_of s ≡ got v used → sheet_of sheet ≡ bad → r ≡ Err (failure.Refused refusal.MalformedSheet) → gave r x l w ≡ format_sheet s sheet (buffers x l w)
+unfolding number_of
+refused_sheet s sheet x l w h b er = ap (λ (y : Result Figures Failure). gave y x l w) er ∙ gave_refused _ x l w refusal.MalformedSheet (sheet_malformed s sheet (buffers x l w) _ _ h b)
 
 -- both parts of a sheet's contract from the first
-pub with_figure : (r : CodeAnswer.Answer) (x l w s sheet : Bytes) (b : Buffers) → gave r x l w ≡ format_sheet s sheet b
+pub with_figure : (r : Result Figures Failure) (x l w s sheet : Bytes) (b : Buffers) → gave r x l w ≡ format_sheet s sheet b
     → (gave r x l w ≡ format_sheet s sheet b) × FigureIs (answer_of r) (sheet_highest_use s sheet)
 with_figure r x l w s sheet b h = (h, figured r x l w (format_sheet s sheet b) (sheet_highest_use s sheet) h (sheet_answers_highest s sheet b))

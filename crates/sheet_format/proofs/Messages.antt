@@ -2,16 +2,16 @@
 use mathlib.Core.Path.{◌≡◌, refl, ap, sym, subst, ◌∙◌}
 use mathlib.Core.Option.{Option, some}
 use mathlib.Core.List.{List}
-use Prim.Native.Nat.{ℕ, ◌+◌, ◌≤◌, ◌<◌}
+use Prim.Native.Nat.{ℕ, ◌+◌, ◌≤◌}
 use native.Mathlib.Omega.{arith}
 use Rattle.records.specs.Got.{got}
 use Rattle.records.specs.Tree.{Pattern}
 use Rattle.records.specs.Decode.{entry_pattern_at}
 use Rattle.records.specs.Images.{Entry, Store, Argument, store_of}
-use Rattle.order.specs.Accepted.{accepted, judge}
-use Rattle.arguments.specs.Relations.Checked.{refusal_of}
+use Rattle.order.specs.Accepted.{accepted, refused_for, judge}
 use Rattle.arguments.specs.Relations.Places.{Noted}
-use Rattle.arguments.proofs.Judging.{judged_refused}
+use Rattle.refusals.proofs.Numbers.{positive, in_byte}
+use Rattle.state.specs.Progress.{refused_of}
 use Rattle.entries.specs.Lookup.{find_in, part_of}
 use Rattle.requests.specs.Image.{Request}
 use Rattle.requests.specs.Relations.Shown.{Shows}
@@ -24,12 +24,14 @@ use Rattle.sheet_theorems.specs.Begun.{with_begun, add_begun}
 use Rattle.sheets.specs.Sheet.{run_message}
 use Rattle.sheet_theorems.proofs.Begun.{begun_apart}
 use Rattle.sheet_theorems.proofs.Messages.{message_none, message_part, message_arguments, message_runs}
-use Rattle.state.specs.Progress.{Progress}
+use Rattle.state.specs.declared.Progress.{Progress}
 use Rattle.state.specs.Setters.{refuse_s}
-use Rattle.resolver.specs.declared.format.Part as CodePart
-use Rattle.resolver.specs.declared.format.Part.TheVariants as PartAnswer
 use Rattle.resolver.specs.Relations.Meets.{lent, env, Setup}
-use Rattle.resolver.specs.Relations.Runs.{message_in, MessageFound, no_message, no_such_part, pattern_found, Rests, RanAs, ran_as, refused_as, RunOn}
+use Rattle.refusals.specs.declared.Refusal.{Refusal}
+use Rattle.refusals.specs.declared.Refusal.TheVariants as refusal
+use Rattle.refusals.specs.Numbers.{number_of}
+use Rattle.std.specs.Prelude.{Ok, Err}
+use Rattle.resolver.specs.Relations.Runs.{Part, message_in, MessageFound, no_message, no_such_part, pattern_found, Rests, RanAs, ran_as, refused_as, RunOn}
 use Rattle.resolver.proofs.Patterns.{message_found_law}
 use Rattle.sheet_format.specs.Relations.Sheets.{id_of, attribute_of, image_of, limits, MessageRan}
 
@@ -65,23 +67,24 @@ unfolding add_begun with_begun
 ran_apart b (ran_as m e rs en g) = ran_as (with_begun (b + m.begun) m) (ap (add_begun b) e) (rests_apart (b + m.begun) rs) (ap (λ (i : ℕ). b + i) en) g
 ran_apart b (refused_as c e z few er) = refused_as c (ap (add_begun b) e) z few er
 
-module _ (s sheet : Bytes) (q : Spans) (x l w : Bytes) (p : Progress) {f : CodePart.Part} (found : f ≡ message_in s (id_of sheet q) (attribute_of sheet q)) where
+module _ (s sheet : Bytes) (q : Spans) (x l w : Bytes) (p : Progress) {f : Part} (found : f ≡ message_in s (id_of sheet q) (attribute_of sheet q)) where
   found_of : (v : Store) (used : ℕ) → store_of s ≡ got v used → (a : Request) → Shows sheet q a → MessageFound s v a.id a.attribute f
   found_of v used h a sh = message_found_law s a.id a.attribute h (found ∙ ap (λ (i : Bytes). message_in s i (attribute_of sheet q)) sh.id ∙ ap (λ (o : Option Bytes). message_in s a.id o) sh.attribute)
 
   -- 11 and 12
-  pub message_lacks : {c : ℕ} {r : Progress} → f ≡ PartAnswer.Refused c → r ≡ refuse_s c p → MessageRan s sheet q x l w p x l w r 0
+  pub message_lacks : {c : Refusal} {r : Progress} → f ≡ Err c → r ≡ refuse_s c p → MessageRan s sheet q x l w p x l w r 0
+  unfolding number_of
   message_lacks {c} {r} e er = record { runs = λ v used h a sh k rests. (go v a k (found_of v used h a sh), λ z. omega arith) }
     where
-      stops : (o : Ran) (n k : ℕ) → o ≡ refused n → (n ≡ 0 → ⊥) → n < 256 → c ≡ n → RanAs o x l p x l w r k
-      stops o n k eo z few ec = refused_as n eo z few (ap (λ (y : Progress). y.refused) er ∙ ec)
+      stops : (o : Ran) (why : Refusal) (k : ℕ) → o ≡ refused (number_of why) → c ≡ why → RanAs o x l p x l w r k
+      stops o why k eo ec = refused_as (number_of why) eo (λ z. let h = positive why in omega (arith, z)) (in_byte why) (ap refused_of er ∙ ap number_of ec)
 
       go : (v : Store) (a : Request) (k : Machine) → MessageFound s v a.id a.attribute f → RanAs (run_message v (limits x l w) a k) x l p x l w r (k.begun + 0)
-      go v a k (no_message e' o) = stops _ 11 _ (message_none v (limits x l w) a k o) (λ z. omega arith) (omega arith) cc
-      go v a k (no_such_part y e' o n) = stops _ 12 _ (message_part v (limits x l w) a k y o n) (λ z. omega arith) (omega arith) cc
+      go v a k (no_message e' o) = stops _ refusal.NoMessage _ (message_none v (limits x l w) a k o) cc
+      go v a k (no_such_part y e' o n) = stops _ refusal.NoPattern _ (message_part v (limits x l w) a k y o n) cc
       go v a k (pattern_found y q' t end e' o n hp) = let z : ◌≡◌ {A = ℕ} 0 1 = cc in absurd (omega arith)
 
-  module _ {at : ℕ} (e : f ≡ PartAnswer.At at) where
+  module _ {at : ℕ} (e : f ≡ Ok at) where
     found_elim : {C : Type 0} (v : Store) (used : ℕ) → store_of s ≡ got v used → (a : Request) → Shows sheet q a
         → ((y : Entry) (t : Pattern) (end : ℕ) → as_message (find_in v.items a.id) ≡ some y → part_of a.attribute y ≡ some t → entry_pattern_at s at ≡ got t end → C) → C
     found_elim {C} v used h a sh c = go (found_of v used h a sh)
@@ -92,10 +95,10 @@ module _ (s sheet : Bytes) (q : Spans) (x l w : Bytes) (p : Progress) {f : CodeP
         go (no_such_part y e' o n) = let z : ◌≡◌ {A = ℕ} 0 1 = cc in absurd (omega arith)
 
     -- 13 and 19
-    pub message_refused : {c : ℕ} {r : Progress} → c ≡ refusal_of (judge (image_of sheet q)) → (c ≡ 0 → ⊥) → c < 256 → r ≡ refuse_s c p → MessageRan s sheet q x l w p x l w r 0
-    message_refused {c} {r} b ne few er = record {
+    pub message_refused : {c : Refusal} {r : Progress} → judge (image_of sheet q) ≡ refused_for (number_of c) → r ≡ refuse_s c p → MessageRan s sheet q x l w p x l w r 0
+    message_refused {c} {r} b er = record {
       runs = λ v used h a sh k rests. found_elim v used h a sh (λ y t end o n hp.
-          (refused_as c (message_arguments v (limits x l w) a k y o t n c (ap judge (sym sh.image) ∙ judged_refused (image_of sheet q) b ne)) ne few (ap (λ (i : Progress). i.refused) er), λ z. omega arith));
+          (refused_as (number_of c) (message_arguments v (limits x l w) a k y o t n (number_of c) (ap judge (sym sh.image) ∙ b)) (λ z. let h' = positive c in omega (arith, z)) (in_byte c) (ap refused_of er), λ z. omega arith));
     }
 
     -- its run

@@ -1,4 +1,5 @@
 -- From message to message: where a sheet begins, one message more, the message that is refused, and the end.
+use Rattle.state.specs.Progress.{refused_of}
 use mathlib.Core.Path.{◌≡◌, refl, ap, sym, subst, ◌∙◌}
 use mathlib.Core.List.{List, [], ◌∷◌}
 use Prim.Native.Nat.{ℕ, suc, ◌+◌, ◌-◌, ◌≤◌, ◌<◌}
@@ -20,7 +21,7 @@ use Rattle.resolution.specs.Exec.{Limits, start}
 use Rattle.resolution.specs.Format.{limits_of}
 use Rattle.sheets.specs.Sheet.{run_message, run_sheet}
 use Rattle.sheet_theorems.proofs.Messages.{sheet_none, sheet_next, sheet_stops}
-use Rattle.state.specs.Progress.{Progress}
+use Rattle.state.specs.declared.Progress.{Progress}
 use Rattle.state.specs.Setters.{new_s}
 use Rattle.resolver.specs.Relations.Runs.{Grown, RanAs, ran_as, refused_as}
 use Rattle.resolver.proofs.Whole.{rests_start}
@@ -90,19 +91,19 @@ module _ {s sheet x l w x₁ l₁ w₁ : Bytes} {p : Progress} {at left begun : 
   next lt = next_of_law (left - 1) (omega arith)
 
   module _ (lt : 0 < left) {q : Spans} (shows : Shows sheet q (next lt).request) {x₂ l₂ w₂ : Bytes} {r : Progress} {n : ℕ} (m : MessageRan s sheet q x₁ l₁ w₁ p x₂ l₂ w₂ r n) where
-    outcome : RanAs (run_message h.checked.store (limits x l w) (next lt).request h.machine) x₁ l₁ p x₂ l₂ w₂ r (h.machine.begun + n) × (r.refused ≡ 0 → n ≤ 101)
-    outcome = subst (λ (L : Limits). RanAs (run_message h.checked.store L (next lt).request h.machine) x₁ l₁ p x₂ l₂ w₂ r (h.machine.begun + n) × (r.refused ≡ 0 → n ≤ 101)) same_limits
+    outcome : RanAs (run_message h.checked.store (limits x l w) (next lt).request h.machine) x₁ l₁ p x₂ l₂ w₂ r (h.machine.begun + n) × ((refused_of r) ≡ 0 → n ≤ 101)
+    outcome = subst (λ (L : Limits). RanAs (run_message h.checked.store L (next lt).request h.machine) x₁ l₁ p x₂ l₂ w₂ r (h.machine.begun + n) × ((refused_of r) ≡ 0 → n ≤ 101)) same_limits
         (m.runs h.checked.store h.checked.used h.checked.stored (next lt).request shows h.machine h.rests)
 
     onward_next : run_sheet h.checked.store (limits x l w) h.checked.requests start ≡ run_sheet h.checked.store (limits x l w) ((next lt).request ∷ (next lt).others) h.machine
     onward_next = h.onward ∙ ap (λ (rs : List Request). run_sheet h.checked.store (limits x l w) rs h.machine) (next lt).rest
 
     -- few placeables were begun, by it and so far
-    pub begun_few : r.refused ≡ 0 → begun + n ≤ 6619035
+    pub begun_few : (refused_of r) ≡ 0 → begun + n ≤ 6619035
     begun_few z = omega (arith, h.few, outcome.1 z, lt)
 
     -- one message more
-    passed_more : r.refused ≡ 0 → length x₂ ≡ length x₁ → length l₂ ≡ length l₁ → length w₂ ≡ length w₁ → Passed s sheet x l w x₂ l₂ w₂ r (next lt).past (left - 1) (begun + n)
+    passed_more : (refused_of r) ≡ 0 → length x₂ ≡ length x₁ → length l₂ ≡ length l₁ → length w₂ ≡ length w₁ → Passed s sheet x l w x₂ l₂ w₂ r (next lt).past (left - 1) (begun + n)
     passed_more z lx ll lw = go outcome.0
       where
         go : RanAs (run_message h.checked.store (limits x l w) (next lt).request h.machine) x₁ l₁ p x₂ l₂ w₂ r (h.machine.begun + n) → Passed s sheet x l w x₂ l₂ w₂ r (next lt).past (left - 1) (begun + n)
@@ -123,11 +124,11 @@ module _ {s sheet x l w x₁ l₁ w₁ : Bytes} {p : Progress} {at left begun : 
         go (refused_as c e nz few er) = absurd (nz (sym er ∙ z))
 
     -- the same at the place where the code says that the request ends
-    pub passed_again : r.refused ≡ 0 → length x₂ ≡ length x₁ → length l₂ ≡ length l₁ → length w₂ ≡ length w₁ → {e : ℕ} → e ≡ (next lt).past → Passed s sheet x l w x₂ l₂ w₂ r e (left - 1) (begun + n)
+    pub passed_again : (refused_of r) ≡ 0 → length x₂ ≡ length x₁ → length l₂ ≡ length l₁ → length w₂ ≡ length w₁ → {e : ℕ} → e ≡ (next lt).past → Passed s sheet x l w x₂ l₂ w₂ r e (left - 1) (begun + n)
     passed_again z lx ll lw {e} ee = subst (λ (i : ℕ). Passed s sheet x l w x₂ l₂ w₂ r i (left - 1) (begun + n)) (sym ee) (passed_more z lx ll lw)
 
     -- a message that is refused ends the sheet
-    pub sheet_refused : (r.refused ≡ 0 → ⊥) → SheetRan s sheet x l w x₂ l₂ w₂ r begun
+    pub sheet_refused : ((refused_of r) ≡ 0 → ⊥) → SheetRan s sheet x l w x₂ l₂ w₂ r begun
     sheet_refused nz = record { checked = h.checked; ran = go outcome.0 }
       where
         go : RanAs (run_message h.checked.store (limits x l w) (next lt).request h.machine) x₁ l₁ p x₂ l₂ w₂ r (h.machine.begun + n) → RanAs (run_sheet h.checked.store (limits x l w) h.checked.requests start) x l (new_s (length w)) x₂ l₂ w₂ r begun

@@ -9,14 +9,14 @@ ghost use Rattle.theorems.specs.Figures.{FigureIs};
 ghost use Rattle.sheet_theorems.specs.HighestUse.{sheet_highest_use};
 ghost use Rattle.sheet_format.specs.Relations.Sheets.{Begins, SheetRan};
 ghost use Rattle.sheets.specs.Sheet.{format_sheet};
-ghost use Rattle.state.specs.Progress.{progress_of};
 
 use images::check_store;
 use message::run_message;
-use records::{Next, Num, read_u16};
-use requests::{Asked, check_sheet, read_request};
-use resolver::format::{Answer, finish};
-use state::{REFUSED, start};
+use records::read_u16;
+use refusals::Refusal;
+use requests::{check_sheet, read_request};
+use resolver::format::{Failure, Figures, finish};
+use state::Progress;
 
 // The messages of a sheet, up to the first that is refused. How many placeables they began.
 fn run_messages<'a>(
@@ -25,29 +25,26 @@ fn run_messages<'a>(
     text: &mut [u8],
     list: &mut [u8],
     work: &mut [u8],
-    st: &mut [usize; 16],
+    st: &mut Progress,
 ) -> usize
-    requires { Begins store.now sheet.now list.old work.old (progress_of st.old) }
-    ensures { SheetRan store.now sheet.now text.old list.old work.old text.new list.new work.new (progress_of st.new) result }
+    requires { Begins store.now sheet.now list.old work.old st.old }
+    ensures { SheetRan store.now sheet.now text.old list.old work.old text.new list.new work.new st.new result }
 {
-    let Num::At(count, from) = read_u16(sheet, 5) else {
+    let Some((count, from)) = read_u16(sheet, 5) else {
         return 0;
     };
     let mut at = from;
-    let mut left = count;
     let mut begun = 0;
-    while 0 < left {
-        let Asked::Is(q) = read_request(sheet, at) else {
+    for _ in 0..count {
+        let Some(q) = read_request(sheet, at) else {
             return begun;
         };
         let n = run_message(store, sheet, text, list, work, st, q);
-        let refused = st[REFUSED];
-        if refused != 0 {
+        if st.is_refused() {
             return begun;
         }
-        begun = begun + n;
+        begun += n;
         at = q.end;
-        left -= 1;
     }
     begun
 }
@@ -60,21 +57,16 @@ pub fn format_sheet<'a>(
     text: &mut [u8],
     list: &mut [u8],
     work: &mut [u8],
-) -> Answer
+) -> Result<Figures, Failure>
     ensures work_after { gave result text.exit.now list.new work.new ≡ format_sheet store.now sheet.now (record { text = text.entry.now; list = list.old; work = work.old }) }
     ensures figure_is { FigureIs (answer_of result) (sheet_highest_use store.now sheet.now) }
 {
-    let Next::At(_) = check_store(store) else {
-        return Answer::Refused(4);
-    };
-    let Next::At(_) = check_sheet(sheet) else {
-        return Answer::Refused(18);
-    };
+    check_store(store).ok_or(Refusal::MalformedStore)?;
+    check_sheet(sheet).ok_or(Refusal::MalformedSheet)?;
     if list.len() < 5 {
-        return Answer::Refused(7);
+        return Err(Failure::Refused(Refusal::ShortList));
     }
-    let mut st = [0usize; 16];
-    start(&mut st, work.len());
+    let mut st = Progress::new(work.len());
     let begun = run_messages(store, sheet, text, list, work, &mut st);
     finish(&st, begun, text, list, work)
 }

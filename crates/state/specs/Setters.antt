@@ -1,6 +1,7 @@
 -- How far a formatting has come, with one part of it changed: what each function of this crate makes of it.
-use Rattle.std.specs.Prelude.{Bool, true, false, ℕ, ◌+◌, min, ltb}
-use Rattle.state.specs.Progress.{Progress}
+use Rattle.std.specs.Prelude.{Bool, true, false, ℕ, ◌+◌, min, ltb, Some, None}
+use Rattle.refusals.specs.declared.Refusal.{Refusal}
+use Rattle.state.specs.declared.Progress.{Progress}
 
 -- the most that is counted of lookups unfound
 abbrev pub max_unfound : ℕ
@@ -10,61 +11,61 @@ max_unfound = 18446744073709551615
 unfoldable pub up_to : ℕ → ℕ → ℕ
 up_to most n = min (n + 1) most
 
--- refused with a number
-abbrev pub refuse_s : ℕ → Progress → Progress
-refuse_s x s = record { text_at = s.text_at; list_at = s.list_at; errors = s.errors; front = s.front; back = s.back; high = s.high; depth = s.depth; begun = s.begun; unfound = s.unfound; aside = s.aside; dirty = s.dirty; local = s.local; local_at = s.local_at; local_count = s.local_count; local_base = s.local_base; refused = x }
+-- refused
+abbrev pub refuse_s : Refusal → Progress → Progress
+refuse_s x s = record s { refused = Some x }
 
 -- so many patterns on the trail
 abbrev pub depth_s : ℕ → Progress → Progress
-depth_s x s = record { text_at = s.text_at; list_at = s.list_at; errors = s.errors; front = s.front; back = s.back; high = s.high; depth = x; begun = s.begun; unfound = s.unfound; aside = s.aside; dirty = s.dirty; local = s.local; local_at = s.local_at; local_count = s.local_count; local_base = s.local_base; refused = s.refused }
+depth_s x s = record s { depth = x }
 
 -- so many placeables begun
 abbrev pub begun_s : ℕ → Bool → Progress → Progress
-begun_s x d s = record { text_at = s.text_at; list_at = s.list_at; errors = s.errors; front = s.front; back = s.back; high = s.high; depth = s.depth; begun = x; unfound = s.unfound; aside = s.aside; dirty = d; local = s.local; local_at = s.local_at; local_count = s.local_count; local_base = s.local_base; refused = s.refused }
+begun_s x d s = record s { begun = x; dirty = d }
 
 -- the workspace's back
 abbrev pub back_s : ℕ → Progress → Progress
-back_s x s = record { text_at = s.text_at; list_at = s.list_at; errors = s.errors; front = s.front; back = x; high = s.high; depth = s.depth; begun = s.begun; unfound = s.unfound; aside = s.aside; dirty = s.dirty; local = s.local; local_at = s.local_at; local_count = s.local_count; local_base = s.local_base; refused = s.refused }
+back_s x s = record s { back = x }
 
 -- whether a text is made aside
 abbrev pub aside_s : Bool → Progress → Progress
-aside_s x s = record { text_at = s.text_at; list_at = s.list_at; errors = s.errors; front = s.front; back = s.back; high = s.high; depth = s.depth; begun = s.begun; unfound = s.unfound; aside = x; dirty = s.dirty; local = s.local; local_at = s.local_at; local_count = s.local_count; local_base = s.local_base; refused = s.refused }
+aside_s x s = record s { aside = x }
 
 -- a text of its own was made
 abbrev pub kept_s : ℕ → ℕ → Bool → Progress → Progress
-kept_s f b x s = record { text_at = s.text_at; list_at = s.list_at; errors = s.errors; front = f; back = b; high = s.high; depth = s.depth; begun = s.begun; unfound = s.unfound; aside = x; dirty = s.dirty; local = s.local; local_at = s.local_at; local_count = s.local_count; local_base = s.local_base; refused = s.refused }
+kept_s f b x s = record s { front = f; back = b; aside = x }
 
 -- so much text
 abbrev pub text_s : ℕ → Progress → Progress
-text_s x s = record { text_at = x; list_at = s.list_at; errors = s.errors; front = s.front; back = s.back; high = s.high; depth = s.depth; begun = s.begun; unfound = s.unfound; aside = s.aside; dirty = s.dirty; local = s.local; local_at = s.local_at; local_count = s.local_count; local_base = s.local_base; refused = s.refused }
+text_s x s = record s { text_at = x }
 
 -- so long a list of so many errors
 abbrev pub list_s : ℕ → ℕ → Progress → Progress
-list_s x n s = record { text_at = s.text_at; list_at = x; errors = n; front = s.front; back = s.back; high = s.high; depth = s.depth; begun = s.begun; unfound = s.unfound; aside = s.aside; dirty = s.dirty; local = s.local; local_at = s.local_at; local_count = s.local_count; local_base = s.local_base; refused = s.refused }
+list_s x n s = record s { list_at = x; errors = n }
 
 -- the workspace's front, and the highest use
 abbrev pub front_s : ℕ → ℕ → Progress → Progress
-front_s f h s = record { text_at = s.text_at; list_at = s.list_at; errors = s.errors; front = f; back = s.back; high = h; depth = s.depth; begun = s.begun; unfound = s.unfound; aside = s.aside; dirty = s.dirty; local = s.local; local_at = s.local_at; local_count = s.local_count; local_base = s.local_base; refused = s.refused }
+front_s f h s = record s { front = f; high = h }
 
 -- so much kept at the workspace's back, and the highest use
 abbrev pub held_s : ℕ → ℕ → Progress → Progress
-held_s b h s = record { text_at = s.text_at; list_at = s.list_at; errors = s.errors; front = s.front; back = b; high = h; depth = s.depth; begun = s.begun; unfound = s.unfound; aside = s.aside; dirty = s.dirty; local = s.local; local_at = s.local_at; local_count = s.local_count; local_base = s.local_base; refused = s.refused }
+held_s b h s = record s { back = b; high = h }
 
 -- so many lookups unfound
 abbrev pub unfound_s : ℕ → Progress → Progress
-unfound_s n s = record { text_at = s.text_at; list_at = s.list_at; errors = s.errors; front = s.front; back = s.back; high = s.high; depth = s.depth; begun = s.begun; unfound = n; aside = s.aside; dirty = s.dirty; local = s.local; local_at = s.local_at; local_count = s.local_count; local_base = s.local_base; refused = s.refused }
+unfound_s n s = record s { unfound = n }
 
 -- a term's named arguments
 abbrev pub locals_s : ℕ → ℕ → ℕ → Progress → Progress
-locals_s a c b s = record { text_at = s.text_at; list_at = s.list_at; errors = s.errors; front = s.front; back = s.back; high = s.high; depth = s.depth; begun = s.begun; unfound = s.unfound; aside = s.aside; dirty = s.dirty; local = true; local_at = a; local_count = c; local_base = b; refused = s.refused }
+locals_s a c b s = record s { local = true; local_at = a; local_count = c; local_base = b }
 
 -- no term's arguments
 abbrev pub clear_s : Progress → Progress
-clear_s s = record { text_at = s.text_at; list_at = s.list_at; errors = s.errors; front = s.front; back = s.back; high = s.high; depth = s.depth; begun = s.begun; unfound = s.unfound; aside = s.aside; dirty = s.dirty; local = false; local_at = s.local_at; local_count = s.local_count; local_base = s.local_base; refused = s.refused }
+clear_s s = record s { local = false }
 
 -- where a run begins; the depth is 1 once the pattern that is asked for is on the trail
 abbrev pub new_s : ℕ → Progress
-new_s n = record { text_at = 0; list_at = 5; errors = 0; front = 0; back = n; high = 0; depth = 0; begun = 0; unfound = 0; aside = false; dirty = false; local = false; local_at = 0; local_count = 0; local_base = 0; refused = 0 }
+new_s n = record { text_at = 0; list_at = 5; errors = 0; front = 0; back = n; high = 0; depth = 0; begun = 0; unfound = 0; aside = false; dirty = false; local = false; local_at = 0; local_count = 0; local_base = 0; refused = None }
 
 -- a lookup unfound more, as far as the count goes
 unfoldable pub counted_s : Progress → Progress

@@ -14,13 +14,11 @@ use Rattle.records.specs.Images as images
 use Rattle.records.specs.Encode.{enc_str, enc_optional, enc_kind, enc_all, enc_whole}
 use Rattle.records.specs.Errors.{Referred, Error, overriding, reference, no_value, enc_referred, enc_record, enc_error, enc_errors, list_header}
 use Rattle.decimals.specs.Bytes.{given}
-use Rattle.buffers.specs.Relations.Append.{over, attempt}
-use Rattle.records.specs.Optional.{option_of}
+use Rattle.buffers.specs.Relations.Append.{over, attempt, Wrote, full}
 use Rattle.texts.specs.Relations.Report.{plain_of, room_for, attribute_len, recorded, header, headed}
 use Rattle.texts.specs.declared.errors.Plain.{Plain}
 use Rattle.texts.specs.declared.errors.Plain.TheVariants as plain
-use Rattle.buffers.specs.declared.Wrote.{Wrote}
-use Rattle.buffers.specs.declared.Wrote.TheVariants.{At, Full}
+use Rattle.std.specs.Prelude.{Ok}
 use Rattle.records.specs.Relations.Write.{over_fit}
 use Rattle.records.proofs.Writing.{fits_over, length_fit}
 use Rattle.buffers.proofs.Place.{set_over, then_over, then_set, length_over, take_over, attempt_at, attempt_no}
@@ -47,10 +45,6 @@ module _ (size at n : ℕ) where
   unfolding room_for
   room_too_long h = rw (lt-leb _ _ h)
 
-  pub room_too_far : n ≤ 65537 → 4294967295 < at + n → room_for size at n ≡ false
-  unfolding room_for
-  room_too_far h g = rw (le-leb _ _ h, lt-leb _ _ g)
-
   pub room_by_size : n ≤ 65537 → at + n ≤ 4294967295 → room_for size at n ≡ leb (at + n) size
   unfolding room_for
   room_by_size h g = rw (le-leb _ _ h, le-leb _ _ g)
@@ -64,31 +58,31 @@ module _ (size at n : ℕ) where
 
 -- the answers
 module _ (d : List ℕ) (at : ℕ) (e : Error) where
-  pub recorded_fits : {out : List ℕ} (n : ℕ) {r : Bool} → r ≡ room_for (length d) at n → r ≡ true → n ≡ length (enc_error e) → out ≡ over d at (enc_error e) → (At (at + n), out) ≡ recorded d at e
+  pub recorded_fits : {out : List ℕ} (n : ℕ) {r : Bool} → r ≡ room_for (length d) at n → r ≡ true → n ≡ length (enc_error e) → out ≡ over d at (enc_error e) → (Ok (at + n), out) ≡ recorded d at e
   unfolding recorded attempt
   recorded_fits n h t l o =
       let f : room_for (length d) at (length (enc_error e)) ≡ true = rw (← l) (sym h ∙ t) in
       rw (f, l, o)
 
-  pub recorded_full : (n : ℕ) {r : Bool} → r ≡ room_for (length d) at n → r ≡ false → n ≡ length (enc_error e) → (Full, d) ≡ recorded d at e
+  pub recorded_full : (n : ℕ) {r : Bool} → r ≡ room_for (length d) at n → r ≡ false → n ≡ length (enc_error e) → (full, d) ≡ recorded d at e
   unfolding recorded attempt
   recorded_full n h t l =
       let f : room_for (length d) at (length (enc_error e)) ≡ false = rw (← l) (sym h ∙ t) in
       rw f
 
-  pub recorded_long : 65537 < length (enc_error e) → (Full, d) ≡ recorded d at e
+  pub recorded_long : 65537 < length (enc_error e) → (full, d) ≡ recorded d at e
   unfolding recorded attempt
   recorded_long h = rw (room_too_long (length d) at (length (enc_error e)) h)
 
   -- what the answer says
-  pub recorded_at : {r : Wrote} {out : List ℕ} {p : ℕ} → (r, out) ≡ recorded d at e → r ≡ At p → (at + length (enc_error e) ≤ length d) × (at + length (enc_error e) ≤ 4294967295) × (p ≡ at + length (enc_error e)) × (out ≡ over d at (enc_error e))
+  pub recorded_at : {r : Wrote} {out : List ℕ} {p : ℕ} → (r, out) ≡ recorded d at e → r ≡ Ok p → (at + length (enc_error e) ≤ length d) × (at + length (enc_error e) ≤ 4294967295) × (p ≡ at + length (enc_error e)) × (out ≡ over d at (enc_error e))
   unfolding recorded
   recorded_at h q =
       let w = attempt_at d at (enc_error e) _ h q in
       let f = room_true (length d) at (length (enc_error e)) refl w.0 in
       (f.2, f.1, w.1, w.2)
 
-  pub recorded_no : {r : Wrote} {out : List ℕ} → (r, out) ≡ recorded d at e → r ≡ Full → (room_for (length d) at (length (enc_error e)) ≡ false) × (out ≡ d)
+  pub recorded_no : {r : Wrote} {out : List ℕ} → (r, out) ≡ recorded d at e → r ≡ full → (room_for (length d) at (length (enc_error e)) ≡ false) × (out ≡ d)
   unfolding recorded
   recorded_no h q = attempt_no d at (enc_error e) _ h q
 
@@ -181,70 +175,63 @@ module _ (i : List ℕ) where
       attribute_length = let x = record_length (2 ∷ enc_referred k ∷ enc_str i ++ enc_optional enc_str (some a)) in let b = attribute_size in omega arith
 
 -- an attribute with its Flag, and how many bytes it takes
-pub attribute_most : (has : Bool) (n : ℕ) → attribute_len has n ≤ 65538
+pub attribute_short : (a : List ℕ) → length a ≤ 65535 → attribute_len (some a) ≡ 3 + length a
 unfolding attribute_len
-attribute_most true n = go (ltb 65535 n) refl where
-  go : (x : Bool) → ltb 65535 n ≡ x → given x 65538 (3 + n) ≤ 65538
+attribute_short a h = rw (le-ltb 65535 (length a) h)
+
+pub attribute_long : (a : List ℕ) → 65535 < length a → attribute_len (some a) ≡ 65538
+unfolding attribute_len
+attribute_long a h = rw (lt-ltb 65535 (length a) h)
+
+pub attribute_most : (o : Option (List ℕ)) → attribute_len o ≤ 65538
+unfolding attribute_len
+attribute_most (some a) = go (ltb 65535 (length a)) refl where
+  go : (x : Bool) → ltb 65535 (length a) ≡ x → given x 65538 (3 + length a) ≤ 65538
   go true e = omega arith
-  go false e = let l : n ≤ 65535 = ltb-false _ _ e in omega arith
-attribute_most false n = omega arith
+  go false e = let l : length a ≤ 65535 = ltb-false _ _ e in omega arith
+attribute_most none = omega arith
 
-pub attribute_short : (n : ℕ) → n ≤ 65535 → attribute_len true n ≡ 3 + n
-unfolding attribute_len
-attribute_short n h = rw (le-ltb 65535 n h)
-
-pub attribute_long : (n : ℕ) → 65535 < n → attribute_len true n ≡ 65538
-unfolding attribute_len
-attribute_long n h = rw (lt-ltb 65535 n h)
-
-pub attribute_fits : (n : ℕ) → attribute_len true n ≤ 65537 → n ≤ 65535
-attribute_fits n h = go (ltb 65535 n) refl where
-  go : (x : Bool) → ltb 65535 n ≡ x → n ≤ 65535
-  go true e = let l = attribute_long n (ltb-true _ _ e) in absurd (omega arith)
+attribute_fits : (a : List ℕ) → attribute_len (some a) ≤ 65537 → length a ≤ 65535
+attribute_fits a h = go (ltb 65535 (length a)) refl where
+  go : (x : Bool) → ltb 65535 (length a) ≡ x → length a ≤ 65535
+  go true e = let l = attribute_long a (ltb-true _ _ e) in absurd (omega arith)
   go false e = ltb-false _ _ e
 
 attribute_there : (a : List ℕ) → length (enc_optional enc_str (some a)) ≡ 3 + length a
 unfolding enc_optional
 attribute_there a = let s = length_str a in omega arith
 
-attribute_none : (n : ℕ) → attribute_len false n ≡ length (enc_optional enc_str none)
+attribute_none : attribute_len none ≡ length (enc_optional enc_str none)
 unfolding attribute_len enc_optional
-attribute_none n = refl
+attribute_none = refl
 
-pub attribute_is : (has : Bool) (a : List ℕ) → attribute_len has (length a) ≤ 65537 → attribute_len has (length a) ≡ length (enc_optional enc_str (option_of has a))
-unfolding option_of
-attribute_is true a h = attribute_short (length a) (attribute_fits (length a) h) ∙ sym (attribute_there a)
-attribute_is false a h = attribute_none (length a)
+attribute_is : (o : Option (List ℕ)) → attribute_len o ≤ 65537 → attribute_len o ≡ length (enc_optional enc_str o)
+attribute_is (some a) h = attribute_short a (attribute_fits a h) ∙ sym (attribute_there a)
+attribute_is none h = attribute_none
 
 -- an attribute written, with its Flag
-module _ (d : List ℕ) (at : ℕ) {has : Bool} (a : List ℕ) (h : at + attribute_len has (length a) ≤ length d) (g : attribute_len has (length a) ≤ 65537) where
-  pub attribute_room : has ≡ true → (at + (3 + length a) ≤ length d) × (length a ≤ 65535)
-  attribute_room t =
-      let g' : attribute_len true (length a) ≤ 65537 = rw t at g in
-      let h' : at + attribute_len true (length a) ≤ length d = rw t at h in
-      let l = attribute_fits (length a) g' in
-      let s = attribute_short (length a) l in
-      (omega arith, l)
+module _ (d : List ℕ) (at : ℕ) where
+  module _ (a : List ℕ) (h : at + attribute_len (some a) ≤ length d) (g : attribute_len (some a) ≤ 65537) where
+    pub attribute_room : (at + (3 + length a) ≤ length d) × (length a ≤ 65535)
+    attribute_room =
+        let l = attribute_fits a g in
+        let s = attribute_short a l in
+        (omega arith, l)
 
-  pub attribute_written : {f : List ℕ} → has ≡ true → f ≡ over (set d at 1) (at + 1) (enc_str a) → f ≡ over d at (enc_optional enc_str (option_of has a))
-  unfolding enc_optional option_of
-  attribute_written t q =
-      let r = attribute_room t in
-      let s = length_str a in
-      rw t (q ∙ then_over d at (1 ∷ []) (enc_str a) (set_over d at 1 (omega arith)) refl (omega arith))
+    pub attribute_written : {f : List ℕ} → f ≡ over (set d at 1) (at + 1) (enc_str a) → f ≡ over d at (enc_optional enc_str (some a))
+    unfolding enc_optional
+    attribute_written q =
+        let r = attribute_room in
+        let s = length_str a in
+        q ∙ then_over d at (1 ∷ []) (enc_str a) (set_over d at 1 (omega arith)) refl (omega arith)
 
-  pub attribute_sized : {f : List ℕ} → has ≡ true → f ≡ over (set d at 1) (at + 1) (enc_str a) → length f ≡ length d
-  attribute_sized t q =
-      let l = attribute_is has a g in
-      ap length (attribute_written t q) ∙ length_over d at (enc_optional enc_str (option_of has a)) (omega arith)
-
-  pub attribute_absent : has ≡ false → at + 1 ≤ length d
+  pub attribute_absent : at + attribute_len none ≤ length d → at + 1 ≤ length d
   unfolding attribute_len
-  attribute_absent t = rw t at h
+  attribute_absent h = h
 
-  pub absent_written : has ≡ false → set d at 0 ≡ over d at (enc_optional enc_str (option_of has a))
-  unfolding enc_optional option_of
-  absent_written t = let l = attribute_absent t in rw t (set_over d at 0 (omega arith))
+  pub absent_written : at + attribute_len none ≤ length d → set d at 0 ≡ over d at (enc_optional enc_str none)
+  unfolding enc_optional
+  absent_written h = let l = attribute_absent h in set_over d at 0 (omega arith)
 
 -- the bytes of a Reference record, and their number
 module _ (k : Referred) (i : List ℕ) (o : Option (List ℕ)) where
@@ -270,32 +257,32 @@ module _ (k : Referred) (i : List ℕ) (o : Option (List ℕ)) where
       let l = length_named (4 + length i + m) 2 x i in
       q ∙ then_over d at (to_be 2 (4 + length i + m) ++ (2 ∷ x ∷ enc_str i)) (enc_optional enc_str o) p (omega arith) (omega arith) ∙ ap (over d at) (reference_is m ex em)
 
-attribute_past : (k : Referred) (i : List ℕ) (has : Bool) (a : List ℕ) → 65537 < attribute_len has (length a) → 65537 < length (enc_error (reference k i (option_of has a)))
-unfolding option_of attribute_len
-attribute_past k i true a l = go (ltb 65535 (length a)) refl l where
+attribute_past : (k : Referred) (i : List ℕ) (o : Option (List ℕ)) → 65537 < attribute_len o → 65537 < length (enc_error (reference k i o))
+unfolding attribute_len
+attribute_past k i (some a) l = go (ltb 65535 (length a)) refl l where
   go : (x : Bool) → ltb 65535 (length a) ≡ x → 65537 < given x 65538 (3 + length a) → 65537 < length (enc_error (reference k i (some a)))
   go true e l = let s = reference_length k i (some a) in let u = attribute_there a in let v : 65535 < length a = ltb-true _ _ e in omega arith
   go false e l = let s = reference_length k i (some a) in let u = attribute_there a in omega arith
-attribute_past k i false a l = absurd (omega arith)
+attribute_past k i none l = absurd (omega arith)
 
 -- a Reference record that fits, and one that does not
-module _ (d : List ℕ) (at : ℕ) (k : Referred) (i : List ℕ) (has : Bool) (a : List ℕ) {m : ℕ} {r : Bool} (h : r ≡ room_for (length d) at (6 + length i + m)) (em : m ≡ attribute_len has (length a)) where
+module _ (d : List ℕ) (at : ℕ) (k : Referred) (i : List ℕ) (o : Option (List ℕ)) {m : ℕ} {r : Bool} (h : r ≡ room_for (length d) at (6 + length i + m)) (em : m ≡ attribute_len o) where
   pub reference_fits : {x : ℕ} {e f : List ℕ} → r ≡ true → x ≡ enc_referred k → e ≡ over d at (to_be 2 (4 + length i + m) ++ (2 ∷ x ∷ enc_str i))
-      → f ≡ over e (at + (6 + length i)) (enc_optional enc_str (option_of has a)) → (At (at + (6 + length i + m)), f) ≡ recorded d at (reference k i (option_of has a))
+      → f ≡ over e (at + (6 + length i)) (enc_optional enc_str o) → (Ok (at + (6 + length i + m)), f) ≡ recorded d at (reference k i o)
   reference_fits t ex p q =
       let room = room_true (length d) at (6 + length i + m) h t in
-      let n : m ≡ length (enc_optional enc_str (option_of has a)) = em ∙ attribute_is has a (omega arith) in
-      let s = reference_length k i (option_of has a) in
-      recorded_fits d at (reference k i (option_of has a)) (6 + length i + m) h t (omega arith) (reference_written k i (option_of has a) d at m room.2 ex n p q)
+      let n : m ≡ length (enc_optional enc_str o) = em ∙ attribute_is o (omega arith) in
+      let s = reference_length k i o in
+      recorded_fits d at (reference k i o) (6 + length i + m) h t (omega arith) (reference_written k i o d at m room.2 ex n p q)
 
-  pub reference_full : r ≡ false → (Full, d) ≡ recorded d at (reference k i (option_of has a))
-  reference_full t = go (leb (attribute_len has (length a)) 65537) refl where
-    go : (x : Bool) → leb (attribute_len has (length a)) 65537 ≡ x → (Full, d) ≡ recorded d at (reference k i (option_of has a))
+  pub reference_full : r ≡ false → (full, d) ≡ recorded d at (reference k i o)
+  reference_full t = go (leb (attribute_len o) 65537) refl where
+    go : (x : Bool) → leb (attribute_len o) 65537 ≡ x → (full, d) ≡ recorded d at (reference k i o)
     go true e =
-        let n : m ≡ length (enc_optional enc_str (option_of has a)) = em ∙ attribute_is has a (leb-true _ _ e) in
-        let s = reference_length k i (option_of has a) in
-        recorded_full d at (reference k i (option_of has a)) (6 + length i + m) h t (omega arith)
-    go false e = recorded_long d at (reference k i (option_of has a)) (attribute_past k i has a (leb-false _ _ e))
+        let n : m ≡ length (enc_optional enc_str o) = em ∙ attribute_is o (leb-true _ _ e) in
+        let s = reference_length k i o in
+        recorded_full d at (reference k i o) (6 + length i + m) h t (omega arith)
+    go false e = recorded_long d at (reference k i o) (attribute_past k i o (leb-false _ _ e))
 
 -- what stands past a front that was written, and past bytes that were
 over_front : (d a b : List ℕ) → length a ≡ 5 → part d 5 (length b) ≡ b → take (5 + length b) (over d 0 a) ≡ a ++ b

@@ -4,73 +4,32 @@
 // none.
 #![tactic(auto)]
 
-ghost use Rattle.std.specs.Prelude.{◌≡◌, [], min};
-ghost use Rattle.decimals.specs.Bytes.{same_bytes};
+ghost use Rattle.std.specs.Prelude.{◌≡◌, min};
 ghost use Rattle.resolution.specs.Resolve.{on_trail};
-ghost use Rattle.trail.specs.Relations.Trail.{pattern_bytes, trail_of, EndAt};
+ghost use Rattle.trail.specs.Relations.Trail.{pattern_bytes, trail_of};
 
-use decimals::bytes::same_bytes;
-use reader::read_size;
-use records::{Next, Num};
+use reader::{Sized, read_size};
 
-// Where the bytes of the pattern at p end: where its length says, or with the slice.
-fn pattern_end(s: &[u8], p: usize) -> Next
-    ensures { EndAt s.now p result }
+// The most patterns of a trail.
+const MAX_TRAIL: usize = 102;
+
+// The bytes of the pattern at p: up to where its length says, or to the end of the slice.
+#[tactic(auto, using(crate::proofs::Trail::pattern_in, crate::proofs::Trail::pattern_some, crate::proofs::Trail::pattern_none))]
+fn pattern_of(s: &[u8], p: usize) -> &[u8]
+    ensures { result.now ≡ pattern_bytes s.now p }
 {
-    let r = read_size(s, p);
-    let size = r.size;
-    let Num::At(n, _) = size else {
-        return Next::Bad;
-    };
-    if r.left < n {
-        return Next::At(s.len());
+    let Sized { size, at, left } = read_size(s, p);
+    match size {
+        Some((n, _)) => &s[p..at + n.min(left)],
+        None => &[],
     }
-    Next::At(r.at + n)
-}
-
-// Has the pattern at p no bytes?
-fn has_none(s: &[u8], p: usize) -> bool
-    ensures { result ≡ same_bytes [] (pattern_bytes s.now p) }
-{
-    match pattern_end(s, p) {
-        Next::At(_) => false,
-        Next::Bad => true,
-    }
-}
-
-// Have the patterns at a and b the same bytes?
-fn same_pattern(s: &[u8], a: usize, b: usize) -> bool
-    ensures { result ≡ same_bytes (pattern_bytes s.now a) (pattern_bytes s.now b) }
-{
-    let Next::At(e) = pattern_end(s, a) else {
-        return has_none(s, b);
-    };
-    let Next::At(f) = pattern_end(s, b) else {
-        return false;
-    };
-    same_bytes(&s[a..e], &s[b..f])
-}
-
-// As many of n as a trail holds.
-fn listed(n: usize) -> usize
-    ensures { result ≡ min n 102 }
-{
-    if n <= 102 {
-        return n;
-    }
-    102
 }
 
 // `traveled.contains`: is the pattern at `at` among the first n of the trail?
-pub fn on_trail(s: &[u8], trail: &[usize; 102], n: usize, at: usize) -> bool
+pub fn on_trail(s: &[u8], trail: &[usize; MAX_TRAIL], n: usize, at: usize) -> bool
     ensures { result ≡ on_trail (pattern_bytes s.now at) (trail_of s.now trail.now (min n 102)) }
 {
-    let mut i = listed(n);
-    while 0 < i {
-        i -= 1;
-        if same_pattern(s, trail[i], at) {
-            return true;
-        }
-    }
-    false
+    let pattern = pattern_of(s, at);
+    let listed = &trail[..n.min(MAX_TRAIL)];
+    listed.iter().any(|p| pattern_of(s, *p) == pattern)
 }

@@ -11,7 +11,7 @@ use Rattle.decimals.specs.Bytes.{run, choose, given}
 use Rattle.rules.specs.Rules.{hex, escape_step, is_string}
 use Rattle.scalars.specs.Scalars.{hex_value}
 use Rattle.unescape.specs.Unescape.{digits_of, scalar_piece, scalar_of, escape_of, piece_of, reads_as, more_of, unescape_from, unescape}
-use Rattle.unescape.specs.declared.Digits.TheVariants.{Value}
+use Rattle.std.specs.Prelude.{Some}
 use Rattle.unescape.specs.declared.Piece.{Piece}
 use Rattle.unescape.specs.declared.Piece.TheVariants.{Byte}
 use Rattle.unescape.proofs.Reading.{piece_sized}
@@ -28,8 +28,8 @@ not_broken t h = let e = escape_stays t in absurd (omega arith)
 -- n digits are read, whatever follows the text, and the rest is whole
 record Whole (v n : ℕ) (t b : List ℕ) : Type 0 where
   value : ℕ
-  read : digits_of v n t ≡ Value value
-  before : digits_of v n (t ++ b) ≡ Value value
+  read : digits_of v n t ≡ Some value
+  before : digits_of v n (t ++ b) ≡ Some value
   rest : run escape_step 0 (drop n t) ≡ 0
 
 -- a step where digits are to come

@@ -2,14 +2,15 @@
 use mathlib.Core.Path.{◌≡◌, refl, ap, sym, subst, ◌∙◌}
 use mathlib.Core.List.{List, [], ◌∷◌, ◌++◌, append_assoc, append-nil}
 use mathlib.Core.Bool.{Bool, true, false, ◌||◌}
+use Rattle.std.specs.List.{list_any}
 use Prim.Native.Nat.{ℕ, zero, suc, ◌+◌, ◌-◌, ◌*◌, ◌^◌, ◌≤◌, ◌<◌}
 use native.Mathlib.Nat.{pow-suc, pow-le-pow_right}
 use native.Mathlib.Omega.{arith}
 use native.Mathlib.Numerals.{add-one}
-use lib.ListN.{length, drop, get_or, length-append, length-drop, drop_of_length-le}
-use lib.Seq.{drop-cons, drop-drop}
+use lib.ListN.{length, take, drop, get_or, length-append, length-drop}
+use lib.Seq.{drop-cons, take-length}
 use lib.Dec.{eqb, leb}
-use borrow.Author.Tests.{eq-eqb, ne_eqb, leb-true, le-leb}
+use borrow.Author.Tests.{leb-true, le-leb}
 use Rattle.rules.specs.Rules.{hex}
 use Rattle.decimals.specs.Bytes.{given}
 use Rattle.buffers.specs.Relations.Append.{over}
@@ -17,8 +18,7 @@ use Rattle.buffers.proofs.Place.{over_none, then_over, length_over}
 use Rattle.scalars.specs.Scalars.{hex_value, scalar_or, enc_scalar}
 use Rattle.scalars.proofs.Scalars.{never, scalar_length}
 use Rattle.unescape.specs.Unescape.{has_backslash, digits_of, scalar_piece, scalar_of, escape_of, piece_of, reads_as, more_of, unescape_from, unescape}
-use Rattle.unescape.specs.declared.Digits.{Digits}
-use Rattle.unescape.specs.declared.Digits.TheVariants.{Value, Broken}
+use Rattle.std.specs.Prelude.{Option, Some, None}
 use Rattle.unescape.specs.declared.Piece.{Piece}
 use Rattle.unescape.specs.declared.Piece.TheVariants.{Byte, Scalar}
 
@@ -35,28 +35,11 @@ pub unescape_piece : (b : ℕ) (t : List ℕ) → unescape (b ∷ t) ≡ reads_a
 unfolding unescape unescape_from
 unescape_piece b t = ap (λ (l : List ℕ). reads_as (piece_of b t) ++ l) (unescape_from_law (more_of (piece_of b t)) t)
 
--- the same, at a place of a text
-pub unescape_at : (s : List ℕ) (i : ℕ) {p : Piece} → i < length s → p ≡ piece_of (get_or s i 0) (drop (i + 1) s) → unescape (drop i s) ≡ reads_as p ++ unescape (drop (i + (1 + more_of p)) s)
-unescape_at s i {p} h e =
-    let n : i + 1 ≡ suc i = add-one i in
-    let m : suc i + more_of p ≡ i + (1 + more_of p) = omega arith in
-    let q : p ≡ piece_of (get_or s i 0) (drop (suc i) s) = rw n at e in
-    let f : unescape (drop i s) ≡ unescape (get_or s i 0 ∷ drop (suc i) s) = ap unescape (drop-cons s i 0 h) in
-    f ∙ rw (unescape_piece (get_or s i 0) (drop (suc i) s), ← q, drop-drop (more_of p) (suc i) s, m)
-
--- a backslash among the bytes from a place on
-module _ (s : List ℕ) (i : ℕ) where
-  pub backslash_here : i < length s → get_or s i 0 ≡ 92 → has_backslash (drop i s) ≡ true
-  unfolding has_backslash
-  backslash_here h e = rw (drop-cons s i 0 h, eq-eqb _ _ e)
-
-  pub backslash_next : i < length s → (get_or s i 0 ≡ 92 → ⊥) → has_backslash (drop i s) ≡ has_backslash (drop (i + 1) s)
-  unfolding has_backslash
-  backslash_next h e = rw (add-one, drop-cons s i 0 h, ne_eqb _ _ e)
-
-  pub backslash_none : length s ≤ i → has_backslash (drop i s) ≡ false
-  unfolding has_backslash
-  backslash_none h = rw (drop_of_length-le s h)
+-- a text has a backslash where the library finds one
+pub any_backslash : (s : List ℕ) → list_any (λ b. eqb b 92) s ≡ has_backslash s
+unfolding has_backslash
+any_backslash [] = refl
+any_backslash (b ∷ t) = ap (λ (x : Bool). eqb b 92 || x) (any_backslash t)
 
 -- six digits fit
 pub digits_room : (v k x : ℕ) → v < 16 ^ k → k < 6 → x < 16 → (v * 16 + x < 16 ^ (k + 1)) × (v * 16 + x < 16777216)
@@ -65,14 +48,6 @@ digits_room v k x h g l =
     let m : 16 ^ k ≤ 16 ^ 5 = pow-le-pow_right {n = 16} (omega arith) {i = k} {j = 5} (omega arith) in
     let m' : 16 ^ k ≤ 1048576 = m in
     (omega arith, omega arith)
-
-pub digits_none : (n : ℕ) → 0 < 16 ^ (n - n)
-digits_none n = let e : n - n ≡ 0 = omega arith in rw e (omega arith)
-
-pub digits_bound : (v left n x : ℕ) → 0 < left → left ≤ n → n ≤ 6 → v < 16 ^ (n - left) → x < 16 → (v * 16 + x < 16 ^ (n - (left - 1))) × (v * 16 + x < 16777216)
-digits_bound v left n x h g l b y =
-    let e : n - (left - 1) ≡ n - left + 1 = omega arith in
-    rw e (digits_room v (n - left) x b (omega arith) y)
 
 -- digits, one more
 module _ (s : List ℕ) (i v n : ℕ) where
@@ -83,49 +58,40 @@ module _ (s : List ℕ) (i v n : ℕ) where
       let f : digits_of v (suc (n - 1)) (get_or s i 0 ∷ drop (suc i) s) ≡ digits_of (v * 16 + hex_value (get_or s i 0)) (n - 1) (drop (suc i) s) = rw e in
       rw (add-one, drop-cons s i 0 h) (subst (λ (x : ℕ). digits_of v x (get_or s i 0 ∷ drop (suc i) s) ≡ digits_of (v * 16 + hex_value (get_or s i 0)) (n - 1) (drop (suc i) s)) m f)
 
-  pub digits_not : i < length s → 0 < n → hex (get_or s i 0) ≡ false → digits_of v n (drop i s) ≡ Broken
+  pub digits_not : i < length s → 0 < n → hex (get_or s i 0) ≡ false → digits_of v n (drop i s) ≡ None
   unfolding digits_of
   digits_not h g e = let m : n ≡ suc (n - 1) = omega arith in rw (drop-cons s i 0 h, m, e)
 
-  pub digits_short : length s ≤ i → 0 < n → digits_of v n (drop i s) ≡ Broken
-  unfolding digits_of
-  digits_short h g = let m : n ≡ suc (n - 1) = omega arith in rw (drop_of_length-le s h, m)
-
-  pub digits_done : n ≤ 0 → digits_of v n (drop i s) ≡ Value v
+  pub digits_done : n ≤ 0 → digits_of v n (drop i s) ≡ Some v
   unfolding digits_of
   digits_done g = let m : n ≡ zero = omega arith in rw m
 
-pub digits_turn : (s : List ℕ) (i v n : ℕ) {x : ℕ} {d : Digits} → i < length s → 0 < n → hex (get_or s i 0) ≡ true → x ≡ hex_value (get_or s i 0) → digits_of v n (drop i s) ≡ d → digits_of (v * 16 + x) (n - 1) (drop (i + 1) s) ≡ d
+pub digits_turn : (s : List ℕ) (i v n : ℕ) {x : ℕ} {d : Option ℕ} → i < length s → 0 < n → hex (get_or s i 0) ≡ true → x ≡ hex_value (get_or s i 0) → digits_of v n (drop i s) ≡ d → digits_of (v * 16 + x) (n - 1) (drop (i + 1) s) ≡ d
 digits_turn s i v n h g e q p = rw q (sym (digits_more s i v n h g e) ∙ p)
 
-module _ (n : ℕ) (t : List ℕ) where
-  pub scalar_value : {v : ℕ} → digits_of 0 n t ≡ Value v → Scalar v (n + 1) ≡ scalar_of n t
-  unfolding scalar_of scalar_piece
-  scalar_value h = rw h
-
-  pub scalar_broken : digits_of 0 n t ≡ Broken → Byte 92 0 ≡ scalar_of n t
-  unfolding scalar_of scalar_piece
-  scalar_broken h = rw h
-
--- an escape at a place of a text
-module _ (s : List ℕ) (i : ℕ) where
-  pub escape_end : length s ≤ i → Byte 92 0 ≡ escape_of (drop i s)
-  unfolding escape_of
-  escape_end h = rw (drop_of_length-le s h)
-
-  pub escape_byte : i < length s → escape_of (drop i s) ≡ escape_of (get_or s i 0 ∷ drop (i + 1) s)
-  escape_byte h = rw (add-one, drop-cons s i 0 h)
-
 -- digits that are read are there
-digits_if : (x : Bool) {d : Digits} {w n m : ℕ} → (d ≡ Value w → n ≤ m) → given x d Broken ≡ Value w → suc n ≤ suc m
+digits_if : (x : Bool) {d : Option ℕ} {w n m : ℕ} → (d ≡ Some w → n ≤ m) → given x d None ≡ Some w → suc n ≤ suc m
 digits_if true f g = let i = f g in omega arith
 digits_if false f g = let z : ◌≡◌ {A = ℕ} 0 1 = cc in absurd (omega arith)
 
-pub digits_there : (v n : ℕ) (t : List ℕ) {w : ℕ} → digits_of v n t ≡ Value w → n ≤ length t
+pub digits_there : (v n : ℕ) (t : List ℕ) {w : ℕ} → digits_of v n t ≡ Some w → n ≤ length t
 unfolding digits_of
 digits_there v zero t h = omega arith
 digits_there v (suc n) [] h = let z : ◌≡◌ {A = ℕ} 0 1 = cc in absurd (omega arith)
 digits_there v (suc n) (b ∷ t) h = digits_if (hex b) (digits_there (v * 16 + hex_value b) n t) h
+
+pub digits_lack : (v n : ℕ) (t : List ℕ) → length t < n → digits_of v n t ≡ None
+digits_lack v n t h = go (digits_of v n t) refl where
+  go : (d : Option ℕ) → digits_of v n t ≡ d → d ≡ None
+  go (Some w) e = let l = digits_there v n t e in absurd (omega arith)
+  go None e = refl
+
+-- n digits are read from the first n bytes
+pub digits_front : (v n : ℕ) (t : List ℕ) → digits_of v n (take n t) ≡ digits_of v n t
+unfolding digits_of
+digits_front v zero t = refl
+digits_front v (suc n) [] = refl
+digits_front v (suc n) (b ∷ t) = ap (λ (d : Option ℕ). given (hex b) d None) (digits_front (v * 16 + hex_value b) n t)
 
 -- A piece lies in the text, and reads as no more bytes than it has.
 pub record Sized (p : Piece) (n : ℕ) : Type 0 where
@@ -140,10 +106,10 @@ value_sized : (v n m : ℕ) → 2 ≤ n → n ≤ m → Sized (Scalar v (n + 1))
 unfolding more_of reads_as
 value_sized v n m h g = let l = scalar_length (scalar_or v) in record { inside = omega arith; short = omega arith }
 
-digits_sized : (n : ℕ) (t : List ℕ) (d : Digits) → 2 ≤ n → digits_of 0 n t ≡ d → Sized (scalar_piece n d) (suc (length t))
+digits_sized : (n : ℕ) (t : List ℕ) (d : Option ℕ) → 2 ≤ n → digits_of 0 n t ≡ d → Sized (scalar_piece n d) (suc (length t))
 unfolding scalar_piece
-digits_sized n t (Value v) h e = value_sized v n (length t) h (digits_there 0 n t e)
-digits_sized n t Broken h e = byte_sized 92 0 _ (omega arith)
+digits_sized n t (Some v) h e = value_sized v n (length t) h (digits_there 0 n t e)
+digits_sized n t None h e = byte_sized 92 0 _ (omega arith)
 
 scalar_sized : (n : ℕ) (t : List ℕ) → 2 ≤ n → Sized (scalar_of n t) (suc (length t))
 unfolding scalar_of
@@ -166,14 +132,8 @@ pub piece_sized : (b : ℕ) (t : List ℕ) → Sized (piece_of b t) (length t)
 unfolding piece_of
 piece_sized b t = given_sized (eqb b 92) (escape_sized t) (byte_sized b 0 _ (omega arith))
 
--- the same, at a place of a text
-pub sized_at_law : (s : List ℕ) (i : ℕ) {p : Piece} → i < length s → p ≡ piece_of (get_or s i 0) (drop (i + 1) s) → (i + (1 + more_of p) ≤ length s) × (length (reads_as p) ≤ 1 + more_of p)
-sized_at_law s i {p} h e =
-    let z : Sized p (length (drop (i + 1) s)) = rw e (piece_sized (get_or s i 0) (drop (i + 1) s)) in
-    let l = length-drop (i + 1) s in
-    let x = z.inside in
-    let y = z.short in
-    (omega arith, y)
+pub more_inside : (b : ℕ) (t : List ℕ) → more_of (piece_of b t) ≤ length t
+more_inside b t = (piece_sized b t).inside
 
 -- a text without a backslash reads as itself
 or_false : (x : Bool) {y : Bool} → x || y ≡ false → (x ≡ false) × (y ≡ false)
@@ -214,66 +174,64 @@ room_unescape t at n h =
     let short = length_unescape t in
     le-leb (at + length (unescape t)) n (omega arith)
 
+-- past a piece: what is left of n bytes, as the code takes it
+past : (t : List ℕ) (m : ℕ) → take (length t - m) (drop m t) ≡ drop m t
+past t m = rw (← (length-drop m t)) (take-length (drop m t))
+
 -- a turn of the count
-pub count_turn : (s : List ℕ) (n i : ℕ) {p : Piece} {l m x : ℕ} → i < length s → p ≡ piece_of (get_or s i 0) (drop (i + 1) s) → l ≡ length (reads_as p) → m ≡ more_of p → n + length (unescape (drop i s)) ≡ x → n + l + length (unescape (drop (i + (1 + m)) s)) ≡ x
-count_turn s n i {p} h e el em q =
-    let u : length (unescape (drop i s)) ≡ length (reads_as p ++ unescape (drop (i + (1 + more_of p)) s)) = ap length (unescape_at s i h e) in
-    let l = length-append (reads_as p) (unescape (drop (i + (1 + more_of p)) s)) in
-    rw em (omega arith)
+pub count_turn : (b : ℕ) (t : List ℕ) (n : ℕ) {u : List ℕ} {p : Piece} {l m x : ℕ} → u ≡ b ∷ t → p ≡ piece_of b t → l ≡ length (reads_as p) → m ≡ more_of p → n + length (unescape u) ≡ x
+    → n + l + length (unescape (take (length t - m) (drop m t))) ≡ x
+count_turn b t n {u} {p} {l} {m} is e el em q =
+    let u : length (unescape u) ≡ length (reads_as p ++ unescape (drop (more_of p) t)) = rw (is, e) (ap length (unescape_piece b t)) in
+    let l = length-append (reads_as p) (unescape (drop (more_of p) t)) in
+    rw (past t m, em) (omega arith)
 
-pub unescape_end : (s : List ℕ) (i : ℕ) → length s ≤ i → unescape (drop i s) ≡ []
-unfolding unescape unescape_from
-unescape_end s i h = rw (drop_of_length-le s h)
-
--- a text read up to i, what was read written over a buffer
-pub record Written (s d₀ : List ℕ) (at : ℕ) (d : List ℕ) (j i : ℕ) : Type 0 where
-  pub inside : i ≤ length s
+-- a text of which `left` is to be read still, what was read written over a buffer
+pub record Written (s d₀ : List ℕ) (at : ℕ) (d : List ℕ) (j : ℕ) (left : List ℕ) : Type 0 where
   pub size : length d ≡ length d₀
   pub done : List ℕ
-  pub whole : done ++ unescape (drop i s) ≡ unescape s
+  pub whole : done ++ unescape left ≡ unescape s
   pub bytes : d ≡ over d₀ at done
   pub place : j ≡ at + length done
 
 module _ (s d₀ : List ℕ) (at : ℕ) where
-  pub written_none : Written s d₀ at d₀ at 0
-  written_none = record { inside = omega arith; size = refl; done = []; whole = refl; bytes = sym (over_none d₀ at); place = omega arith }
+  pub written_none : Written s d₀ at d₀ at s
+  written_none = record { size = refl; done = []; whole = refl; bytes = sym (over_none d₀ at); place = omega arith }
 
-  module _ (fits : at + length (unescape s) ≤ length d₀) {d : List ℕ} {j i : ℕ} (w : Written s d₀ at d j i) where
-    module _ {p : Piece} (h : i < length s) (e : p ≡ piece_of (get_or s i 0) (drop (i + 1) s)) where
-      rest_of : w.done ++ reads_as p ++ unescape (drop (i + (1 + more_of p)) s) ≡ unescape s
-      rest_of = append_assoc w.done (reads_as p) _ ∙ ap (λ (l : List ℕ). w.done ++ l) (sym (unescape_at s i h e)) ∙ w.whole
+  module _ (fits : at + length (unescape s) ≤ length d₀) {d : List ℕ} {j b : ℕ} {t u : List ℕ} (w : Written s d₀ at d j u) {p : Piece} (is : u ≡ b ∷ t) (e : p ≡ piece_of b t) where
+    rest_of : w.done ++ reads_as p ++ unescape (drop (more_of p) t) ≡ unescape s
+    rest_of = append_assoc w.done (reads_as p) _ ∙ ap (λ (l : List ℕ). w.done ++ l) (rw (is, e) (sym (unescape_piece b t))) ∙ w.whole
 
-      room : at + (length w.done + length (reads_as p)) ≤ length d₀
-      room =
-          let a : length (w.done ++ reads_as p ++ unescape (drop (i + (1 + more_of p)) s)) ≡ length (unescape s) = ap length rest_of in
-          let b = length-append (w.done ++ reads_as p) (unescape (drop (i + (1 + more_of p)) s)) in
-          let c = length-append w.done (reads_as p) in
-          omega arith
+    room : at + (length w.done + length (reads_as p)) ≤ length d₀
+    room =
+        let a : length (w.done ++ reads_as p ++ unescape (drop (more_of p) t)) ≡ length (unescape s) = ap length rest_of in
+        let b = length-append (w.done ++ reads_as p) (unescape (drop (more_of p) t)) in
+        let c = length-append w.done (reads_as p) in
+        omega arith
 
-      pub written_room : j + length (reads_as p) ≤ length d
-      written_room = let r = room in let a = w.place in let b = w.size in omega arith
+    pub written_room : j + length (reads_as p) ≤ length d
+    written_room = let r = room in let a = w.place in let b = w.size in omega arith
 
-      pub written_turn : {d' : List ℕ} {l m : ℕ} → d' ≡ over d j (reads_as p) → l ≡ length (reads_as p) → m ≡ more_of p → Written s d₀ at d' (j + l) (i + (1 + m))
-      written_turn {d'} {l} {m} q el em =
-          let r = room in
-          let a = w.place in
-          let b = w.size in
-          let z = sized_at_law s i h e in
-          let c = length-append w.done (reads_as p) in
-          let f : i + (1 + m) ≡ i + (1 + more_of p) = omega arith in
-          record {
-            inside = omega arith;
-            size = ap length q ∙ length_over d j (reads_as p) (omega arith) ∙ b;
-            done = w.done ++ reads_as p;
-            whole = rw f rest_of;
-            bytes = q ∙ then_over d₀ at w.done (reads_as p) w.bytes a r;
-            place = omega arith;
-          }
+    pub written_turn : {d' : List ℕ} {l m : ℕ} → d' ≡ over d j (reads_as p) → l ≡ length (reads_as p) → m ≡ more_of p → Written s d₀ at d' (j + l) (take (length t - m) (drop m t))
+    written_turn {d'} {l} {m} q el em =
+        let r = room in
+        let a = w.place in
+        let b = w.size in
+        let c = length-append w.done (reads_as p) in
+        record {
+          size = ap length q ∙ length_over d j (reads_as p) (omega arith) ∙ b;
+          done = w.done ++ reads_as p;
+          whole = rw (past t m, em) rest_of;
+          bytes = q ∙ then_over d₀ at w.done (reads_as p) w.bytes a r;
+          place = omega arith;
+        }
 
-    pub written_end : length s ≤ i → (j ≡ at + length (unescape s)) × (d ≡ over d₀ at (unescape s))
-    written_end h =
-        let a : w.done ≡ unescape s = sym (append-nil w.done) ∙ ap (λ (l : List ℕ). w.done ++ l) (sym (unescape_end s i h)) ∙ w.whole in
-        (w.place ∙ ap (λ (l : List ℕ). at + length l) a, w.bytes ∙ ap (over d₀ at) a)
+  pub written_end : {d : List ℕ} {j : ℕ} {u : List ℕ} → Written s d₀ at d j u → length u ≡ 0 → (j ≡ at + length (unescape s)) × (d ≡ over d₀ at (unescape s))
+  unfolding unescape unescape_from
+  written_end {u = []} w h =
+      let a : w.done ≡ unescape s = sym (append-nil w.done) ∙ w.whole in
+      (w.place ∙ ap (λ (l : List ℕ). at + length l) a, w.bytes ∙ ap (over d₀ at) a)
+  written_end {u = b ∷ t} w h = absurd (omega arith)
 
 -- bytes of which the number is known have room
 pub room_of : {t u : List ℕ} (at n : ℕ) → t ≡ u → at + length t ≤ n → at + length u ≤ n

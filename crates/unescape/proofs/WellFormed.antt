@@ -15,8 +15,7 @@ use Rattle.scalars.specs.Scalars.{hex_value, is_scalar, scalar_or, enc_scalar}
 use Rattle.scalars.proofs.Scalars.{never, hex_lower}
 use Rattle.scalars.proofs.Utf8.{accept}
 use Rattle.unescape.specs.Unescape.{digits_of, scalar_piece, scalar_of, escape_of, piece_of, reads_as, more_of, unescape_from, unescape}
-use Rattle.unescape.specs.declared.Digits.{Digits}
-use Rattle.unescape.specs.declared.Digits.TheVariants.{Value, Broken}
+use Rattle.std.specs.Prelude.{Option, Some, None}
 use Rattle.unescape.specs.declared.Piece.{Piece}
 use Rattle.unescape.specs.declared.Piece.TheVariants.{Byte, Scalar}
 use Rattle.unescape.proofs.Reading.{piece_sized}
@@ -53,11 +52,11 @@ hex_ascii c h = go (leb c 102) refl where
   go true e = let l : c ≤ 102 = leb-true _ _ e in omega arith
   go false e = let l : 102 < c = leb-false _ _ e in never (hex_lower c (omega arith) ∙ e) h
 
-digit_ascii : (x : Bool) (c n : ℕ) (t : List ℕ) {d : Digits} {w : ℕ} → hex c ≡ x → (d ≡ Value w → run utf8_step 0 t ≡ run utf8_step 0 (drop n t)) → given x d Broken ≡ Value w → run utf8_step (utf8_step 0 c) t ≡ run utf8_step 0 (drop n t)
+digit_ascii : (x : Bool) (c n : ℕ) (t : List ℕ) {d : Option ℕ} {w : ℕ} → hex c ≡ x → (d ≡ Some w → run utf8_step 0 t ≡ run utf8_step 0 (drop n t)) → given x d None ≡ Some w → run utf8_step (utf8_step 0 c) t ≡ run utf8_step 0 (drop n t)
 digit_ascii true c n t e f g = rw (ascii_first c (hex_ascii c e)) (f g)
 digit_ascii false c n t e f g = let z : ◌≡◌ {A = ℕ} 0 1 = cc in absurd (omega arith)
 
-digits_ascii : (v n : ℕ) (t : List ℕ) {w : ℕ} → digits_of v n t ≡ Value w → run utf8_step 0 t ≡ run utf8_step 0 (drop n t)
+digits_ascii : (v n : ℕ) (t : List ℕ) {w : ℕ} → digits_of v n t ≡ Some w → run utf8_step 0 t ≡ run utf8_step 0 (drop n t)
 unfolding digits_of run
 digits_ascii v zero t h = refl
 digits_ascii v (suc n) [] h = refl
@@ -96,10 +95,10 @@ value_leads : (v n c : ℕ) (t : List ℕ) → run utf8_step 0 (drop n t) ≡ 0 
 unfolding Leads reads_as more_of
 value_leads v n c t h = let e : n + 1 ≡ suc n = omega arith in rw (scalar_utf8 v, e) h
 
-digits_lead : (n c : ℕ) (t : List ℕ) (d : Digits) → c < 0x80 → digits_of 0 n t ≡ d → run utf8_step 0 (c ∷ t) ≡ 0 → Leads 0 (scalar_piece n d) (c ∷ t)
+digits_lead : (n c : ℕ) (t : List ℕ) (d : Option ℕ) → c < 0x80 → digits_of 0 n t ≡ d → run utf8_step 0 (c ∷ t) ≡ 0 → Leads 0 (scalar_piece n d) (c ∷ t)
 unfolding scalar_piece
-digits_lead n c t (Value v) l e h = value_leads v n c t (sym (digits_ascii 0 n t e) ∙ past_ascii c t l h)
-digits_lead n c t Broken l e h = ascii_leads 92 0 (c ∷ t) (omega arith) h
+digits_lead n c t (Some v) l e h = value_leads v n c t (sym (digits_ascii 0 n t e) ∙ past_ascii c t l h)
+digits_lead n c t None l e h = ascii_leads 92 0 (c ∷ t) (omega arith) h
 
 scalar_leads : (n c : ℕ) (t : List ℕ) → c < 0x80 → run utf8_step 0 (c ∷ t) ≡ 0 → Leads 0 (scalar_of n t) (c ∷ t)
 unfolding scalar_of

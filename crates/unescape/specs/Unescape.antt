@@ -1,11 +1,9 @@
 -- What a string literal reads as: document 01, "String literal: a backslash is followed by `\`, `"`, `u` with 4 or `U` with 6 hexadecimal digits;
 -- a value that is no Unicode scalar reads as U+FFFD".
-use Rattle.std.specs.Prelude.{ℕ, zero, suc, ◌+◌, ◌*◌, Bool, false, ◌||◌, List, [], ◌∷◌, ◌++◌, eqb}
+use Rattle.std.specs.Prelude.{Option, Some, None, ℕ, zero, suc, ◌+◌, ◌*◌, Bool, false, ◌||◌, List, [], ◌∷◌, ◌++◌, eqb}
 use Rattle.rules.specs.Rules.{hex}
 use Rattle.decimals.specs.Bytes.{given}
 use Rattle.scalars.specs.Scalars.{hex_value, scalar_or, enc_scalar}
-use Rattle.unescape.specs.declared.Digits.{Digits}
-use Rattle.unescape.specs.declared.Digits.TheVariants.{Value, Broken}
 use Rattle.unescape.specs.declared.Piece.{Piece}
 use Rattle.unescape.specs.declared.Piece.TheVariants.{Byte, Scalar}
 
@@ -13,16 +11,16 @@ unfoldable pub has_backslash : List ℕ → Bool
 has_backslash [] = false
 has_backslash (b ∷ t) = eqb b 92 || has_backslash t
 
--- the value that n hexadecimal digits write, the first the highest, after those that wrote v
-unfoldable pub digits_of : ℕ → ℕ → List ℕ → Digits
-digits_of v zero t = Value v
-digits_of v (suc n) [] = Broken
-digits_of v (suc n) (b ∷ t) = given (hex b) (digits_of (v * 16 + hex_value b) n t) Broken
+-- the value that n hexadecimal digits write, the first the highest, after those that wrote v; if they are all there
+unfoldable pub digits_of : ℕ → ℕ → List ℕ → Option ℕ
+digits_of v zero t = Some v
+digits_of v (suc n) [] = None
+digits_of v (suc n) (b ∷ t) = given (hex b) (digits_of (v * 16 + hex_value b) n t) None
 
 -- Past a backslash. A backslash that begins no escape, as no string literal has one, stands for itself.
-unfoldable pub scalar_piece : ℕ → Digits → Piece
-scalar_piece n (Value v) = Scalar v (n + 1)
-scalar_piece n Broken = Byte 92 0
+unfoldable pub scalar_piece : ℕ → Option ℕ → Piece
+scalar_piece n (Some v) = Scalar v (n + 1)
+scalar_piece n None = Byte 92 0
 
 unfoldable pub scalar_of : ℕ → List ℕ → Piece
 scalar_of n t = scalar_piece n (digits_of 0 n t)

@@ -1,4 +1,6 @@
 -- Where a decoder reads the variants, what is chosen by their outlines is what the definition of resolution chooses.
+use Rattle.records.specs.Relations.Answer.{Next}
+use Rattle.std.specs.Prelude.{Some, None}
 use mathlib.Core.Path.{◌≡◌, refl, ap, sym, subst, ◌∙◌}
 use mathlib.Core.List.{List}
 use mathlib.Core.Bool.{Bool, true, false}
@@ -16,8 +18,6 @@ use Rattle.records.specs.Bytes.{part, byte_at, number_at, span_at}
 use Rattle.walks.specs.Outline.{sized_at}
 use Rattle.records.specs.Tree.{Key, Pattern, Variants, no_variant, or, Variant, variant}
 use Rattle.records.specs.Decode.{many, literal_number_at, key_at, pattern_at, variant_at, expression}
-use Rattle.records.specs.declared.Next.{Next}
-use Rattle.records.specs.declared.Next.TheVariants as next
 use Rattle.records.proofs.Laws.{number_inv, bytes_in}
 use Rattle.records.proofs.Local.{local_pattern, local_expression}
 use Rattle.records.proofs.Views.{many_cons, many_nil, id_elim, ruled_elim, key_elim, flag_elim, pattern_elim, variant_elim}
@@ -90,15 +90,15 @@ module _ (s : List ℕ) (d : ℕ) (test : Variant → Bool) (by : Outline → Bo
   skip_one vs v vs' r w t (picked i q p f er o h hp) = picked (suc i) q p f er (rw (w, t, o)) (rw w h) hp
   skip_one vs v vs' r w t (no_pick er o) = no_pick er (rw (w, t, o))
 
-  take_one : (vs : Variants) (v : Variant) (vs' : Variants) (o : Outline) (f : ℕ) → vs ≡ or v vs' → test v ≡ true → Mirrors s d v o f → Pick s d (first_by test vs) vs (next.At o.pattern)
+  take_one : (vs : Variants) (v : Variant) (vs' : Variants) (o : Outline) (f : ℕ) → vs ≡ or v vs' → test v ≡ true → Mirrors s d v o f → Pick s d (first_by test vs) vs (Some o.pattern)
   unfolding first_by this_or nth_of
   take_one vs v vs' o f w t m = picked 0 o.pattern (pattern_of v) f refl (rw (w, t)) (rw w) m.pattern
 
-  place_at : {x : Option Outline} {o : Outline} → x ≡ some o → pattern_place x ≡ next.At o.pattern
+  place_at : {x : Option Outline} {o : Outline} → x ≡ some o → pattern_place x ≡ Some o.pattern
   unfolding pattern_place
   place_at e = ap pattern_place e
 
-  no_place : {x : Option Outline} → x ≡ none → pattern_place x ≡ next.Bad
+  no_place : {x : Option Outline} → x ≡ none → pattern_place x ≡ None
   unfolding pattern_place
   no_place e = ap pattern_place e
 

@@ -1,8 +1,11 @@
 -- Keys and values: what the code tries of a key is what the definition says of it.
+use Rattle.records.specs.Relations.Answer.{Next}
 use mathlib.Core.Path.{◌≡◌, refl, ap, sym, subst, ◌∙◌}
 use mathlib.Core.List.{List, [], ◌∷◌}
 use mathlib.Core.Bool.{Bool, true, false, ◌&&◌, ◌||◌}
 use mathlib.Core.Option.{Option, none}
+use Rattle.std.specs.Prelude.{Some, None}
+use Rattle.std.specs.Prelude as rust
 use Prim.Native.Nat.{ℕ, ◌+◌, ◌-◌, ◌≤◌, ◌<◌}
 use native.Mathlib.Omega.{arith}
 use lib.Dec.{eqb}
@@ -14,8 +17,6 @@ use Rattle.decimals.specs.declared.types.Options as CodeOptions
 use Rattle.decimals.proofs.Shown.{options_back}
 use Rattle.literals.specs.Literal.{is_number, literal, read_number, with_fraction}
 use Rattle.literals.specs.Relations.Shown.{literal_of}
-use Rattle.literals.specs.declared.literal.Literal as CodeLiteral
-use Rattle.literals.specs.declared.literal.Literal.TheVariants as literals
 use Rattle.numbers.specs.Number.{Number, default_options, same_number}
 use Rattle.numbers.specs.Value.{Value, textual, numeric, nothing, wrong}
 use Rattle.numbers.proofs.Equality.{flag_enough}
@@ -23,7 +24,6 @@ use Rattle.plural.specs.Plural.{category, category_number, keyword}
 use Rattle.plural.proofs.Categories.{category_shown}
 use Rattle.plural.specs.declared.types.Category.{Category}
 use Rattle.records.specs.Bytes.{part}
-use Rattle.records.specs.declared.Next.{Next}
 use Rattle.records.specs.Tree.{Key}
 use Rattle.resolution.specs.Resolve.{matches}
 use Rattle.records.specs.Optional.{or_else, option_of}
@@ -60,22 +60,22 @@ literal_same : (k : List ℕ) (n : CodeNumber.Number) → same_number (told (sho
 literal_same k n = ap (λ (x : CodeNumber.Number). same_number (told (shown (literal k))) (told x)) (sym (code_back n)) ∙ flag_enough (literal k) (told n) (plain k)
 
 -- a key that is a literal, or is none
-module _ (k : List ℕ) (n : CodeNumber.Number) {c : CodeLiteral.Literal} (is : c ≡ literal_of k) where
-  literal_no : (t : Bool) → is_number k ≡ t → c ≡ literals.Bad → is_number k ≡ false
+module _ (k : List ℕ) (n : CodeNumber.Number) {c : rust.Option CodeNumber.Number} (is : c ≡ literal_of k) where
+  literal_no : (t : Bool) → is_number k ≡ t → c ≡ None → is_number k ≡ false
   unfolding literal_of
-  literal_no true e w = let z : literals.Is (shown (literal k)) ≡ literals.Bad = sym (rw (e, literal_of) at is) ∙ w in let y : ◌≡◌ {A = ℕ} 0 1 = cc in absurd (omega arith)
+  literal_no true e w = let z : Some (shown (literal k)) ≡ None = sym (rw (e, literal_of) at is) ∙ w in let y : ◌≡◌ {A = ℕ} 0 1 = cc in absurd (omega arith)
   literal_no false e w = e
 
-  pub equals_no : c ≡ literals.Bad → false ≡ equals k n
+  pub equals_no : c ≡ None → false ≡ equals k n
   unfolding equals
   equals_no w = rw (literal_no (is_number k) refl w)
 
-  literal_yes : (t : Bool) → is_number k ≡ t → {m : CodeNumber.Number} → c ≡ literals.Is m → (is_number k ≡ true) × (m ≡ shown (literal k))
+  literal_yes : (t : Bool) → is_number k ≡ t → {m : CodeNumber.Number} → c ≡ Some m → (is_number k ≡ true) × (m ≡ shown (literal k))
   unfolding literal_of
-  literal_yes true e w = let z : literals.Is (shown (literal k)) ≡ literals.Is _ = sym (rw (e, literal_of) at is) ∙ w in (e, (cc))
-  literal_yes false e w = let z : literals.Bad ≡ literals.Is _ = sym (rw (e, literal_of) at is) ∙ w in let y : ◌≡◌ {A = ℕ} 0 1 = cc in absurd (omega arith)
+  literal_yes true e w = let z : Some (shown (literal k)) ≡ Some _ = sym (rw (e, literal_of) at is) ∙ w in (e, (cc))
+  literal_yes false e w = let z : None ≡ Some _ = sym (rw (e, literal_of) at is) ∙ w in let y : ◌≡◌ {A = ℕ} 0 1 = cc in absurd (omega arith)
 
-  pub equals_is : {m : CodeNumber.Number} {r : Bool} → c ≡ literals.Is m → r ≡ same_number (told m) (told n) → r ≡ equals k n
+  pub equals_is : {m : CodeNumber.Number} {r : Bool} → c ≡ Some m → r ≡ same_number (told m) (told n) → r ≡ equals k n
   unfolding equals
   equals_is w er =
       let q = literal_yes (is_number k) refl w in
@@ -100,7 +100,7 @@ module _ (kind : ℕ) (k t : List ℕ) {x : Sought} {n : CodeNumber.Number} {c :
   by_none n1 n2 = rw (ex, ne_eqb kind 1 n1, ne_eqb kind 2 n2)
 
 -- a key of the kind that is tried, or of another
-pub kind_other : (a b : ℕ) (m : Bool) → (a ≡ b → ⊥) → false ≡ (eqb a b && m)
+pub kind_other : (a b : ℕ) (m : Bool) → (a ≡ b → ⊥) → eqb a b ≡ (eqb a b && m)
 kind_other a b m h = rw (ne_eqb a b h)
 
 pub kind_same : (a b : ℕ) (m : Bool) {r : Bool} → a ≡ b → r ≡ m → r ≡ (eqb a b && m)

@@ -12,11 +12,11 @@ ghost use Rattle.variants.specs.Relations.Sought.{place_of, pattern_place, Reads
 
 use decimals::bytes::same_bytes;
 use decimals::types::Number;
-use literals::literal::{Literal, read_literal};
+use literals::literal::read_literal;
 use numbers::equal::same_number;
 use plural::plural::{category, matches_category};
 use plural::types::Category;
-use records::{Next, Num, read_byte, read_str, read_u16};
+use records::{read_byte, read_str, read_u16};
 use walks::skip_pattern;
 
 // A value as keys are compared to it: a text, whose bytes are lent beside it, or a number and its category.
@@ -44,35 +44,21 @@ struct Span {
     end: usize,
 }
 
-#[derive(Clone, Copy)]
-enum Read {
-    Is(Span),
-    Bad,
-}
-
 // Reads the variant at `at`.
-fn read_variant(s: &[u8], at: usize) -> Read
+fn read_variant(s: &[u8], at: usize) -> Option<Span>
     ensures { Reads s.now at result }
 {
-    let Num::At(kind, p) = read_byte(s, at) else {
-        return Read::Bad;
-    };
-    let Num::At(from, to) = read_str(s, p) else {
-        return Read::Bad;
-    };
-    let Num::At(flag, pattern) = read_byte(s, to) else {
-        return Read::Bad;
-    };
-    let Next::At(end) = skip_pattern(s, pattern) else {
-        return Read::Bad;
-    };
-    Read::Is(Span {
-        kind: kind,
-        from: from,
-        to: to,
-        flag: flag,
-        pattern: pattern,
-        end: end,
+    let (kind, p) = read_byte(s, at)?;
+    let (from, to) = read_str(s, p)?;
+    let (flag, pattern) = read_byte(s, to)?;
+    let end = skip_pattern(s, pattern)?;
+    Some(Span {
+        kind,
+        from,
+        to,
+        flag,
+        pattern,
+        end,
     })
 }
 
@@ -80,10 +66,10 @@ fn read_variant(s: &[u8], at: usize) -> Read
 fn is_equal(key: &[u8], n: Number) -> bool
     ensures { result ≡ equals key.now n }
 {
-    let Literal::Is(k) = read_literal(key) else {
-        return false;
-    };
-    same_number(k, n)
+    match read_literal(key) {
+        Some(k) => same_number(k, n),
+        None => false,
+    }
 }
 
 // How many kinds of key can match a value: an Id matches texts and numbers, a literal numbers alone.
@@ -104,12 +90,12 @@ fn key_matches(kind: usize, key: &[u8], text: &[u8], x: Sought) -> bool
         Sought::Text => same_bytes(key, text),
         Sought::Number(n, c) => {
             if kind == 1 {
-                return matches_category(key, c);
+                matches_category(key, c)
+            } else if kind == 2 {
+                is_equal(key, n)
+            } else {
+                false
             }
-            if kind == 2 {
-                return is_equal(key, n);
-            }
-            false
         }
     }
 }
@@ -119,93 +105,70 @@ fn variant_matches(s: &[u8], v: Span, kind: usize, text: &[u8], x: Sought) -> bo
     requires { (v.from ≤ v.to) × (v.to ≤ length s.now) }
     ensures { result ≡ (eqb v.kind kind && matches_by kind (part s.now v.from (v.to - v.from)) text.now x) }
 {
-    if v.kind != kind {
-        return false;
-    }
-    let from = v.from;
-    let to = v.to;
-    key_matches(kind, &s[from..to], text, x)
+    v.kind == kind && key_matches(kind, &s[v.from..v.to], text, x)
 }
 
 // The first variant whose key matches, by its place: the search goes through the variants and the kinds of key, and is left at the first match.
-fn search(s: &[u8], at: usize, text: &[u8], x: Sought) -> Next
+fn search(s: &[u8], at: usize, text: &[u8], x: Sought) -> Option<usize>
     ensures { result ≡ place_of (first_of (answers text.now x) (variants_at s.now at)) }
 {
-    let Num::At(count, start) = read_u16(s, at) else {
-        return Next::Bad;
-    };
+    let (count, start) = read_u16(s, at)?;
     let kinds = kinds_of(x);
-    let mut found = Next::Bad;
+    let mut found = None;
     let mut p = start;
-    let mut i = count;
-    'search: while 0 < i {
-        let Read::Is(v) = read_variant(s, p) else {
+    'search: for _ in 0..count {
+        let Some(v) = read_variant(s, p) else {
             break 'search;
         };
-        let mut kind = 1usize;
-        while kind <= kinds {
+        for kind in 1..kinds + 1 {
             if variant_matches(s, v, kind, text, x) {
-                found = Next::At(p);
+                found = Some(p);
                 break 'search;
             }
-            kind += 1;
         }
         p = v.end;
-        i -= 1;
     }
     found
 }
 
 // The first default variant, by its place.
-fn find_default(s: &[u8], at: usize) -> Next
+fn find_default(s: &[u8], at: usize) -> Option<usize>
     ensures { result ≡ place_of (first_of is_default (variants_at s.now at)) }
 {
-    let Num::At(count, start) = read_u16(s, at) else {
-        return Next::Bad;
-    };
+    let (count, start) = read_u16(s, at)?;
     let mut p = start;
-    let mut i = count;
-    while 0 < i {
-        let Read::Is(v) = read_variant(s, p) else {
-            return Next::Bad;
-        };
+    for _ in 0..count {
+        let v = read_variant(s, p)?;
         if v.flag == 1 {
-            return Next::At(p);
+            return Some(p);
         }
         p = v.end;
-        i -= 1;
     }
-    Next::Bad
+    None
 }
 
 // Where the pattern of the variant at a place stands.
-fn pattern_of(s: &[u8], place: usize) -> Next
+fn pattern_of(s: &[u8], place: usize) -> Option<usize>
     ensures { result ≡ pattern_at_place s.now place }
 {
-    let Read::Is(v) = read_variant(s, place) else {
-        return Next::Bad;
-    };
-    Next::At(v.pattern)
+    Some(read_variant(s, place)?.pattern)
 }
 
 // The pattern of the first default variant.
-pub fn choose_default(s: &[u8], at: usize) -> Next
+pub fn choose_default(s: &[u8], at: usize) -> Option<usize>
     ensures { result ≡ pattern_place (first_of is_default (variants_at s.now at)) }
 {
-    let Next::At(p) = find_default(s, at) else {
-        return Next::Bad;
-    };
-    pattern_of(s, p)
+    pattern_of(s, find_default(s, at)?)
 }
 
 // The pattern of the variant that a value chooses, by what keys are compared to.
-fn choose_by(s: &[u8], at: usize, text: &[u8], x: Sought) -> Next
+fn choose_by(s: &[u8], at: usize, text: &[u8], x: Sought) -> Option<usize>
     ensures { result ≡ pattern_place (or_else (first_of (answers text.now x) (variants_at s.now at)) (first_of is_default (variants_at s.now at))) }
 {
-    let Next::At(p) = search(s, at, text, x) else {
-        return choose_default(s, at);
-    };
-    pattern_of(s, p)
+    match search(s, at, text, x) {
+        Some(p) => pattern_of(s, p),
+        None => choose_default(s, at),
+    }
 }
 
 // What keys are compared to: a number with its category.
@@ -218,23 +181,22 @@ fn compared(a: Asked) -> Sought
     }
 }
 
-// The pattern of the variant that a value chooses. The category is worked out here, in a function that has two callers and so a frame of its own: in `choose_number`,
-// what the table needs on the stack would keep the compiler from putting the choice into the writing of a select, and each choice would pay for a call more.
-fn choose(s: &[u8], at: usize, text: &[u8], a: Asked) -> Next
+// The pattern of the variant that a value chooses. The category is worked out here, in a function that has two callers and so a frame of its own.
+fn choose(s: &[u8], at: usize, text: &[u8], a: Asked) -> Option<usize>
     ensures { Chooses a text.now s.now at result }
 {
     choose_by(s, at, text, compared(a))
 }
 
 // The pattern of the variant that a text chooses; in every locale the same.
-pub fn choose_text(s: &[u8], at: usize, text: &[u8]) -> Next
+pub fn choose_text(s: &[u8], at: usize, text: &[u8]) -> Option<usize>
     ensures { (locale : ℕ) → result ≡ pattern_place (chosen_at locale (textual text.now) s.now at) }
 {
     choose(s, at, text, Asked::Text)
 }
 
 // The pattern of the variant that a number chooses.
-pub fn choose_number(s: &[u8], at: usize, locale: u8, n: Number) -> Next
+pub fn choose_number(s: &[u8], at: usize, locale: u8, n: Number) -> Option<usize>
     ensures { result ≡ pattern_place (chosen_at locale (numeric (told n)) s.now at) }
 {
     choose(s, at, b"", Asked::Number(n, locale))

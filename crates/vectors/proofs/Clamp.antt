@@ -1,8 +1,11 @@
 -- A position past the end reads as the end does; and what each reader gives of a position that was held to the end.
-use Rattle.std.proofs.Common.{◌≡◌, ℕ, ◌+◌, ◌-◌, ◌*◌, ◌<◌, ◌≤◌, min, Bool, true, false, leb, List, [], length, get_or, take, drop, sym, refl, ap, ◌∙◌, arith, length-drop, drop_of_length-le, take_all, le-leb, leb-false, leb-true}
+use Rattle.std.proofs.Common.{◌≡◌, ℕ, ◌+◌, ◌-◌, ◌*◌, ◌<◌, ◌≤◌, min, Bool, true, false, leb, List, [], length, get_or, take, sym, refl, ap, ◌∙◌, arith, drop_of_length-le, le-leb, leb-false, leb-true}
 use lib.ListN.{get_or-eq_default}
 use lib.Seq.{take-nil}
-use borrow.Author.Tests.{lt-leb}
+use Rattle.std.specs.Prelude.{Option, None, Some, ◌^◌}
+use Rattle.std.specs.Borrow.{Bor}
+use Rattle.std.specs.Option.{unwrap_or}
+use Rattle.std.specs.Slice.{IsGetRangeResult}
 use Rattle.vectors.specs.Readings.{u16_in, u32_in, u64_in, if_whole, part_in, string_in, past_string, blob_in, past_blob}
 
 -- a function of lists and positions that has one value at the end and past it
@@ -51,9 +54,9 @@ module _ (s : List ℕ) where
 
   -- what each reader answers, by what its callees answered
   module _ (at : ℕ) {p : ℕ} where
-    pub u16_is : {b c w v : ℕ} → b ≡ get_or s at 0 → w ≡ b → p ≡ min (at + 1) (length s) → c ≡ get_or s p 0 → v ≡ c → w * 256 + v ≡ u16_in s at
+    pub u16_is : {w v : ℕ} → w ≡ get_or s at 0 → p ≡ min (at + 1) (length s) → v ≡ get_or s p 0 → w * 256 + v ≡ u16_in s at
     unfolding u16_in
-    u16_is e1 e2 e3 e4 e5 = rw (e2, e1, e5, e4, e3, get_d_clamp (at + 1))
+    u16_is e1 e2 e3 = rw (e1, e3, e2, get_d_clamp (at + 1))
 
     pub u32_is : {w v : ℕ} → w ≡ u16_in s at → p ≡ min (at + 2) (length s) → v ≡ u16_in s p → w * 65536 + v ≡ u32_in s at
     unfolding u32_in
@@ -79,22 +82,18 @@ module _ (s : List ℕ) where
     unfolding past_blob
     past_blob_is e1 e2 e3 = omega (arith, e1, e2, e3)
 
-  -- a part, by where it starts and ends
-  module _ (at n : ℕ) where
-    pub part_past : length s < at + n → [] ≡ part_in s at n
-    unfolding part_in if_whole
-    part_past h = sym (rw (lt-leb (at + n) (length s) h))
-
-    pub part_in_law : at + n ≤ length s → take (at + n - at) (drop at s) ≡ part_in s at n
-    unfolding part_in if_whole
-    part_in_law h =
-        let e : at + n - at ≡ n = omega arith in
-        ap (λ (k : ℕ). take k (drop at s)) e ∙ sym (rw (le-leb (at + n) (length s) h))
-
-  pub tail_past : (at : ℕ) → length s < at → [] ≡ drop at s
-  tail_past at h = sym (drop_of_length-le s {i = at} (omega (arith, h)))
-
-  pub tail_in : (at : ℕ) → take (length s - at) (drop at s) ≡ drop at s
-  tail_in at =
-      let e = length-drop at s in
-      take_all (length s - at) (drop at s) (omega (arith, e))
+  -- a part, by what the library gives of the range, where its end stops at the highest number
+  pub part_given : (at n to : ℕ) (r : Option (Bor (List ℕ))) (none x : Bor (List ℕ)) → length s < 2 ^ 63 → to ≡ min (at + n) (2 ^ 64 - 1) → IsGetRangeResult s at to r → x ≡ unwrap_or r none → none.now ≡ [] → x.now ≡ part_in s at n
+  unfolding part_in if_whole
+  part_given at n to None none x f e g i h = go (leb (at + n) (length s)) refl
+    where
+      go : (t : Bool) → leb (at + n) (length s) ≡ t → x.now ≡ part_in s at n
+      go true m =
+          let k = leb-true (at + n) (length s) m in
+          let some = g.1 (omega (arith, k), omega (arith, k)) in
+          cc
+      go false m = rw (i, h, m) refl
+  part_given at n to (Some p) none x f e g i h =
+      let whole : at + n ≤ length s = omega (arith, g.0.1) in
+      let size : to - at ≡ n = omega (arith, g.0.1) in
+      rw (i, g.0.2, size, le-leb (at + n) (length s) whole) refl

@@ -1,84 +1,57 @@
 // The bytes that a case lends, and comparing bytes.
-ghost use Rattle.std.specs.Prelude.{◌≡◌, length};
+ghost use Rattle.std.specs.Prelude.{◌≡◌, length, replicate};
 ghost use Rattle.vectors.specs.Readings.{all_are, begins_with, differing};
-ghost use Rattle.vectors.specs.Lendings.{fronted, lent_bytes, letters};
-
-use crate::fields::{part, tail};
-use decimals::bytes::same_bytes;
-use records::write_bytes;
+ghost use Rattle.vectors.specs.Lendings.{fronted};
 
 // Has every byte this value?
-pub fn all_are(s: &[u8], v: u8) -> bool
-    ensures { result ≡ all_are s.now v }
+pub fn all_are(s: &[u8], value: u8) -> bool
+    ensures { result ≡ all_are s.now value }
 {
-    let mut i = 0usize;
-    while i < s.len() {
-        if s[i] != v {
-            return false;
-        }
-        i += 1;
-    }
-    true
+    s.iter().all(|b| *b == value)
 }
 
 // Are these bytes at the front, and AA in every later one?
 pub fn begins(s: &[u8], front: &[u8]) -> bool
     ensures { result ≡ begins_with s.now front.now }
 {
-    if same_bytes(part(s, 0, front.len()), front) {
-        return all_are(tail(s, front.len()), 0xAA);
+    match s.strip_prefix(front) {
+        Some(rest) => all_are(rest, 0xAA),
+        None => false,
     }
-    false
 }
 
 // 1 where two things are not the same, to be counted.
+#[tactic(auto, unfolding(crate::specs::Readings::differing))]
 pub fn differs(same: bool) -> u64
     ensures { result ≡ differing same }
 {
-    if same { 0 } else { 1 }
+    u64::from(!same)
 }
 
 // Puts bytes at the front of others, if there is room.
+#[tactic(auto, using(crate::proofs::Fronts::front_put, crate::proofs::Fronts::front_none))]
 fn put_front(d: &mut [u8], front: &[u8])
     ensures { d.new ≡ fronted d.old front.now }
 {
-    if d.len() < front.len() {
-        return;
+    if front.len() <= d.len() {
+        d[..front.len()].copy_from_slice(front);
     }
-    write_bytes(d, 0, front);
 }
 
-// Bytes to lend, AA in each. Lending them as a slice needs their length, here and below.
-pub fn lent() -> [u8; 8192]
-    ensures size { 8192 ≡ length result }
-    ensures bytes { result ≡ lent_bytes }
+// Bytes to lend, this value in each. Lending them as a slice needs their length, here and below.
+pub fn filled<const N: usize>(value: u8) -> [u8; N]
+    ensures size { N ≡ length result }
+    ensures bytes { result ≡ replicate N value }
 {
-    [0xAA; 8192]
+    [value; N]
 }
 
 // The same, with some bytes at the front, if there is room.
-pub fn copied(front: &[u8]) -> [u8; 8192]
-    ensures size { 8192 ≡ length result }
-    ensures bytes { result ≡ fronted lent_bytes front.now }
+pub fn headed<const N: usize>(value: u8, front: &[u8]) -> [u8; N]
+    ensures size { N ≡ length result }
+    ensures bytes { result ≡ fronted (replicate N value) front.now }
 {
-    let mut r = lent();
-    put_front(&mut r, front);
-    r
-}
-
-fn all_letters() -> [u8; 65537]
-    ensures size { 65537 ≡ length result }
-    ensures bytes { result ≡ letters }
-{
-    [120; 65537]
-}
-
-// A text that is too long for a vector: a byte more than the longest image, the letter x in each, with some bytes at the front.
-pub fn headed(head: &[u8]) -> [u8; 65537]
-    ensures size { 65537 ≡ length result }
-    ensures bytes { result ≡ fronted letters head.now }
-{
-    let mut r = all_letters();
-    put_front(&mut r, head);
-    r
+    let mut bytes = filled(value);
+    put_front(&mut bytes, front);
+    bytes
 }

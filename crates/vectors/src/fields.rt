@@ -6,7 +6,7 @@ ghost use Rattle.vectors.specs.Readings.{u16_in, u32_in, u64_in, part_in, string
 pub fn byte(s: &[u8], at: usize) -> u8
     ensures { result ≡ slice_index s.now at }
 {
-    if at < s.len() { s[at] } else { 0 }
+    s.get(at).copied().unwrap_or(0)
 }
 
 pub fn flag(s: &[u8], at: usize) -> bool
@@ -19,25 +19,14 @@ pub fn flag(s: &[u8], at: usize) -> bool
 pub fn past(s: &[u8], at: usize, n: usize) -> usize
     ensures { result ≡ min (at + n) (length s.now) }
 {
-    if s.len() < at {
-        return s.len();
-    }
-    if s.len() - at < n {
-        return s.len();
-    }
-    at + n
+    at.saturating_add(n).min(s.len())
 }
 
-fn wide(x: u8) -> u64
-    ensures { (result ≡ x) × (result < 256) }
-{
-    x as u64
-}
-
+// Each width is a line over the one below it.
 pub fn u16_at(s: &[u8], at: usize) -> u64
     ensures { (result ≡ u16_in s.now at) × (result < 65536) }
 {
-    wide(byte(s, at)) * 256 + wide(byte(s, past(s, at, 1)))
+    u64::from(byte(s, at)) * 256 + u64::from(byte(s, past(s, at, 1)))
 }
 
 pub fn u32_at(s: &[u8], at: usize) -> u64
@@ -53,31 +42,22 @@ pub fn u64_at(s: &[u8], at: usize) -> u64
 }
 
 // The n bytes from a position on, and nothing where they pass the end.
-pub fn part<'a>(s: &'a [u8], at: usize, n: usize) -> &'a [u8]
+pub fn part(s: &[u8], at: usize, n: usize) -> &[u8]
     ensures { result.now ≡ part_in s.now at n }
 {
-    if s.len() < at {
-        return &s[0..0];
-    }
-    if s.len() - at < n {
-        return &s[0..0];
-    }
-    let to = at + n;
-    &s[at..to]
+    s.get(at..at.saturating_add(n)).unwrap_or(&[])
 }
 
 // The bytes from a position on.
-pub fn tail<'a>(s: &'a [u8], at: usize) -> &'a [u8]
+pub fn tail(s: &[u8], at: usize) -> &[u8]
     ensures { result.now ≡ drop at s.now }
 {
-    if s.len() < at {
-        return &s[0..0];
-    }
-    &s[at..]
+    s.get(at..).unwrap_or(&[])
 }
 
-// The bytes of a Str, and the position past them.
-pub fn string<'a>(s: &'a [u8], at: usize) -> &'a [u8]
+// The bytes of a Str, and the position past them. A Blob, below, has a longer length: for both there is a line over part and past, as short as a call of one
+// function for the two would be.
+pub fn string(s: &[u8], at: usize) -> &[u8]
     ensures { result.now ≡ string_in s.now at }
 {
     part(s, past(s, at, 2), u16_at(s, at) as usize)
@@ -90,7 +70,7 @@ pub fn past_string(s: &[u8], at: usize) -> usize
 }
 
 // The bytes of a Blob, and the position past them.
-pub fn blob<'a>(s: &'a [u8], at: usize) -> &'a [u8]
+pub fn blob(s: &[u8], at: usize) -> &[u8]
     ensures { result.now ≡ blob_in s.now at }
 {
     part(s, past(s, at, 4), u32_at(s, at) as usize)

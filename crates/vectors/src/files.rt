@@ -1,6 +1,5 @@
-// Files of vectors: WVEC, version 1, u32 count of cases, and the cases, each after its u32 length; and the counts of what was compared.
+// Files of vectors: WVEC, version 1, u32 count of cases, and the cases, each after its u32 length.
 ghost use Rattle.std.specs.Prelude.{◌≡◌, ◌<◌, ◌≤◌, length, IfOk};
-ghost use Rattle.vectors.specs.Lendings.{no_counts, counted_at, count_at};
 ghost use Rattle.vectors.specs.Rests.{LosesFront};
 
 use crate::fields::u32_at;
@@ -13,7 +12,7 @@ fn read_full<R: Read>(file: &mut R, buffer: &mut [u8]) -> io::Result<usize>
     ensures bound { IfOk result (λ n. n ≤ length buffer.new) }
     ensures rest { LosesFront (R.remaining file.old) (R.remaining file.new) }
 {
-    let mut done = 0usize;
+    let mut done = 0;
     while done < buffer.len() {
         let n = file.read(&mut buffer[done..])?;
         if n == 0 {
@@ -29,7 +28,7 @@ pub fn case_count<R: Read>(file: &mut R) -> io::Result<u64>
     ensures bound { IfOk result (λ n. n < 4294967296) }
     ensures rest { LosesFront (R.remaining file.old) (R.remaining file.new) }
 {
-    let mut head = [0u8; 9];
+    let mut head = [0; 9];
     read_full(file, &mut head)?;
     Ok(u32_at(&head, 5))
 }
@@ -37,56 +36,22 @@ pub fn case_count<R: Read>(file: &mut R) -> io::Result<u64>
 fn next_length<R: Read>(file: &mut R) -> io::Result<usize>
     ensures { LosesFront (R.remaining file.old) (R.remaining file.new) }
 {
-    let mut head = [0u8; 4];
+    let mut head = [0; 4];
     read_full(file, &mut head)?;
     Ok(u32_at(&head, 0) as usize)
 }
 
-// The next case, put at the front of a buffer: its length, and 0 where the file ends before it does, or the buffer.
-pub fn next_case<R: Read>(file: &mut R, buffer: &mut [u8]) -> io::Result<usize>
-    ensures bound { IfOk result (λ n. n ≤ length buffer.new) }
+// The next case, read into a buffer; nothing where the file ends before the case does, or the buffer.
+pub fn next_case<'a, R: Read>(file: &mut R, buffer: &'a mut [u8]) -> io::Result<&'a [u8]>
+    ensures bound { IfOk result (λ case. length case.now ≤ length buffer.old) }
     ensures rest { LosesFront (R.remaining file.old) (R.remaining file.new) }
 {
     let n = next_length(file)?;
-    if buffer.len() < n {
-        return Ok(0);
+    let Some(case) = buffer.get_mut(..n) else {
+        return Ok(&[]);
+    };
+    if read_full(file, case)? < n {
+        return Ok(&[]);
     }
-    let zero = 0usize;
-    if read_full(file, &mut buffer[zero..n])? < n {
-        return Ok(0);
-    }
-    Ok(n)
-}
-
-// Counts, each at a place.
-#[derive(Clone, Copy)]
-pub struct Counts {
-    pub n: [u64; 128],
-}
-
-pub fn no_counts() -> Counts
-    ensures { result ≡ record { n = no_counts } }
-{
-    Counts { n: [0; 128] }
-}
-
-// The count at a place, so much higher.
-pub fn counted(c: Counts, place: usize, by: u64) -> Counts
-    ensures { result ≡ record { n = counted_at c.n place by } }
-{
-    let mut r = c;
-    if place < 128 {
-        r.n[place] = std::num::wrapping_add_u64(r.n[place], by);
-    }
-    r
-}
-
-// The count at a place; 0 where there is no such place.
-pub fn count_at(c: Counts, place: usize) -> u64
-    ensures { result ≡ count_at c.n place }
-{
-    if place < 128 {
-        return c.n[place];
-    }
-    0
+    Ok(case)
 }

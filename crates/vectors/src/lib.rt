@@ -2,11 +2,12 @@
 #![tactic(auto)]
 
 pub mod compare;
+pub mod counts;
 pub mod fields;
 pub mod files;
 
-pub use compare::{all_are, begins, copied, differs, headed, lent};
+pub use compare::{all_are, begins, differs, filled, headed};
 pub use fields::{
     blob, byte, flag, part, past, past_blob, past_string, string, tail, u16_at, u32_at, u64_at,
 };
-pub use files::{Counts, case_count, count_at, counted, next_case, no_counts};
+pub use files::{case_count, next_case};

@@ -1,4 +1,6 @@
 -- The outlines and the decoders: what a decoder reads, its outline passes, to the same end. Callers that walk over checked bytes cite these laws.
+use Rattle.records.specs.Relations.Answer.{Next}
+use Rattle.std.specs.Prelude.{Some}
 use mathlib.Core.Path.{◌≡◌, refl, ap, sym, ◌∙◌}
 use mathlib.Core.Bool.{Bool}
 use mathlib.Core.List.{List, [], ◌∷◌}
@@ -6,8 +8,6 @@ use mathlib.Core.Option.{Option}
 use Prim.Native.Nat.{ℕ, zero, suc, ◌+◌, ◌≤◌}
 use native.Mathlib.Omega.{arith}
 use lib.ListN.{length}
-use Rattle.records.specs.declared.Next.{Next}
-use Rattle.records.specs.declared.Next.TheVariants as next
 use Rattle.records.specs.Got.{got, Parser, pick}
 use Rattle.records.specs.Relations.Answer.{next_of}
 use Rattle.records.specs.Bytes.{part, byte_at, number_at, str_at}
@@ -37,7 +37,7 @@ module _ (s : List ℕ) (at : ℕ) where
   pattern_passed is d x f h = next_of_law is (pattern_is d h).1
 
   -- within the bytes, and not before the pattern
-  pub sized_within : {r : Next} {f : ℕ} → r ≡ next_of (sized_at 4 s at) → r ≡ next.At f → (at ≤ f) × (f ≤ length s)
+  pub sized_within : {r : Next} {f : ℕ} → r ≡ next_of (sized_at 4 s at) → r ≡ Some f → (at ≤ f) × (f ≤ length s)
   unfolding sized_at
   sized_within is w =
       next_is is w (λ b h.

@@ -1,4 +1,6 @@
 -- Laws of one write and of one error more, by what each test of the definitions says.
+use Rattle.state.specs.Progress.{refused_of}
+use Rattle.refusals.specs.declared.Refusal.TheVariants as refusal
 use mathlib.Core.Path.{◌≡◌, refl, ap, sym, ◌∙◌}
 use mathlib.Core.List.{List, [], ◌∷◌}
 use mathlib.Core.Bool.{Bool, true, false}
@@ -10,32 +12,31 @@ use lib.Dec.{leb}
 use borrow.Author.Tests.{le-leb, lt-leb, leb-true, leb-false, eq-eqb, ne_eqb}
 use Rattle.records.specs.Errors.{Error, Referred, reference}
 use Rattle.decimals.specs.Bytes.{given}
-use Rattle.buffers.specs.Relations.Append.{over, attempt, appended}
-use Rattle.buffers.specs.declared.Wrote.{Wrote}
-use Rattle.buffers.specs.declared.Wrote.TheVariants as wrote
+use Rattle.buffers.specs.Relations.Append.{over, attempt, appended, Wrote, full}
+use Rattle.std.specs.Prelude.{Ok}
 use Rattle.texts.specs.Relations.Report.{recorded}
-use Rattle.state.specs.Progress.{Progress}
+use Rattle.state.specs.declared.Progress.{Progress}
 use Rattle.state.specs.Setters.{refuse_s, text_s, list_s, front_s, max_unfound, up_to}
 use Rattle.writes.specs.Written.{text_after, work_after, list_after, has_room, to_text, to_work, to_list, written_aside, written_if, written, written_all, written_where, listed_if, listed, listed_missing}
 
 -- the state after a write, by what it answered
-pub text_at : {a : Wrote} {e : ℕ} (s : Progress) → a ≡ wrote.At e → text_s e s ≡ text_after a s
+pub text_at : {a : Wrote} {e : ℕ} (s : Progress) → a ≡ Ok e → text_s e s ≡ text_after a s
 unfolding text_after
 text_at s q = rw q
 
-pub text_full : {a : Wrote} {r : Progress} (s : Progress) → a ≡ wrote.Full → r ≡ refuse_s 15 s → r ≡ text_after a s
+pub text_full : {a : Wrote} {r : Progress} (s : Progress) → a ≡ full → r ≡ refuse_s refusal.ShortText s → r ≡ text_after a s
 unfolding text_after
 text_full s q h = rw q h
 
-pub work_at : (s : Progress) (n e : ℕ) {h : ℕ} → h ≡ max s.high (e + (n - s.back)) → front_s e h s ≡ work_after n (wrote.At e) s
+pub work_at : (s : Progress) (n e : ℕ) {h : ℕ} → h ≡ max s.high (e + (n - s.back)) → front_s e h s ≡ work_after n (Ok e) s
 unfolding work_after
 work_at s n e q = rw q
 
-pub list_at : {a : Wrote} {e n : ℕ} (s : Progress) → a ≡ wrote.At e → n ≡ min (s.errors + 1) max_unfound → list_s e n s ≡ list_after a s
+pub list_at : {a : Wrote} {e n : ℕ} (s : Progress) → a ≡ Ok e → n ≡ min (s.errors + 1) max_unfound → list_s e n s ≡ list_after a s
 unfolding list_after up_to
 list_at s q h = rw (q, h)
 
-pub list_full : {a : Wrote} {r : Progress} (s : Progress) → a ≡ wrote.Full → r ≡ refuse_s 7 s → r ≡ list_after a s
+pub list_full : {a : Wrote} {r : Progress} (s : Progress) → a ≡ full → r ≡ refuse_s refusal.ShortList s → r ≡ list_after a s
 unfolding list_after
 list_full s q h = rw q h
 
@@ -75,29 +76,29 @@ module _ (s : Progress) (n size : ℕ) where
 
 -- bytes to the workspace
 module _ (b w : List ℕ) (s : Progress) {r : Progress} where
-  pub work_in : {n : ℕ} {w' : List ℕ} → n ≡ length b → has_room s n (length w) ≡ true → w' ≡ over w s.front b → r ≡ work_after (length w) (wrote.At (s.front + n)) s → (w', r) ≡ to_work b w s
+  pub work_in : {n : ℕ} {w' : List ℕ} → n ≡ length b → has_room s n (length w) ≡ true → w' ≡ over w s.front b → r ≡ work_after (length w) (Ok (s.front + n)) s → (w', r) ≡ to_work b w s
   unfolding to_work attempt
   work_in ne h e q = let g : has_room s (length b) (length w) ≡ true = sym (ap (λ (k : ℕ). has_room s k (length w)) ne) ∙ h in rw (g, e, q, ne)
 
-  pub work_out : {n : ℕ} → n ≡ length b → has_room s n (length w) ≡ false → r ≡ refuse_s 16 s → (w, r) ≡ to_work b w s
+  pub work_out : {n : ℕ} → n ≡ length b → has_room s n (length w) ≡ false → r ≡ refuse_s refusal.ShortWorkspace s → (w, r) ≡ to_work b w s
   unfolding to_work attempt work_after
   work_out ne h q = let g : has_room s (length b) (length w) ≡ false = sym (ap (λ (k : ℕ). has_room s k (length w)) ne) ∙ h in rw (g, q)
 
 -- a write, by where it goes
 module _ (b t w : List ℕ) (s : Progress) where
-  pub written_over : (s.refused ≡ 0 → ⊥) → (t, w, s) ≡ written b t w s
+  pub written_over : ((refused_of s) ≡ 0 → ⊥) → (t, w, s) ≡ written b t w s
   unfolding written written_if
   written_over h = rw (ne_eqb _ _ h)
 
-  to_where : (on : Bool) → s.refused ≡ 0 → s.aside ≡ on → written_aside on b t w s ≡ written b t w s
+  to_where : (on : Bool) → (refused_of s) ≡ 0 → s.aside ≡ on → written_aside on b t w s ≡ written b t w s
   unfolding written written_if
   to_where on z a = ap (λ (x : Bool). written_aside x b t w s) (sym a) ∙ ap (λ (x : Bool). written_if x b t w s) (sym (eq-eqb _ _ z))
 
-  pub written_aside_law : {w' : List ℕ} {r : Progress} → s.refused ≡ 0 → s.aside ≡ true → (w', r) ≡ to_work b w s → (t, w', r) ≡ written b t w s
+  pub written_aside_law : {w' : List ℕ} {r : Progress} → (refused_of s) ≡ 0 → s.aside ≡ true → (w', r) ≡ to_work b w s → (t, w', r) ≡ written b t w s
   unfolding written_aside
   written_aside_law z a e = ap (λ (p : List ℕ × Progress). (t, p.0, p.1)) e ∙ to_where true z a
 
-  pub written_text : {a : Wrote} {t' : List ℕ} {r : Progress} → s.refused ≡ 0 → s.aside ≡ false → (a, t') ≡ appended t s.text_at b → r ≡ text_after a s → (t', w, r) ≡ written b t w s
+  pub written_text : {a : Wrote} {t' : List ℕ} {r : Progress} → (refused_of s) ≡ 0 → s.aside ≡ false → (a, t') ≡ appended t s.text_at b → r ≡ text_after a s → (t', w, r) ≡ written b t w s
   unfolding written_aside to_text
   written_text {t' = t'} z a e q = ap (λ (x : Progress). (t', w, x)) q ∙ ap (λ (p : Wrote × List ℕ). (p.1, w, text_after p.0 s)) e ∙ to_where false z a
 
@@ -125,11 +126,11 @@ module _ (b t w : List ℕ) (s : Progress) {on : Bool} where
 
 -- an error
 module _ (e : Error) (l : List ℕ) (s : Progress) where
-  pub listed_over : (s.refused ≡ 0 → ⊥) → (l, s) ≡ listed e l s
+  pub listed_over : ((refused_of s) ≡ 0 → ⊥) → (l, s) ≡ listed e l s
   unfolding listed listed_if
   listed_over h = rw (ne_eqb _ _ h)
 
-  pub listed_next : {a : Wrote} {l' : List ℕ} {r : Progress} → s.refused ≡ 0 → (a, l') ≡ recorded l s.list_at e → r ≡ list_after a s → (l', r) ≡ listed e l s
+  pub listed_next : {a : Wrote} {l' : List ℕ} {r : Progress} → (refused_of s) ≡ 0 → (a, l') ≡ recorded l s.list_at e → r ≡ list_after a s → (l', r) ≡ listed e l s
   unfolding listed listed_if to_list
   listed_next {l' = l'} z h q = rw (eq-eqb _ _ z) (ap (λ (x : Progress). (l', x)) q ∙ ap (λ (p : Wrote × List ℕ). (p.1, list_after p.0 s)) h)
 

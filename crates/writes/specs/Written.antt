@@ -1,30 +1,30 @@
 -- One write and one error more, on any state whatsoever. Document 01, "Format": "15 the next write passes the text buffer; 7 the next record passes the
 -- list buffer; 16 the next write passes the workspace".
-use Rattle.std.specs.Prelude.{List, [], ◌∷◌, Bool, true, false, ◌&&◌, ℕ, ◌+◌, ◌-◌, max, length, leb, eqb}
+use Rattle.state.specs.Progress.{refused_of}
+use Rattle.refusals.specs.declared.Refusal.TheVariants as refusal
+use Rattle.std.specs.Prelude.{Ok, Err, List, [], ◌∷◌, Bool, true, false, ◌&&◌, ℕ, ◌+◌, ◌-◌, max, length, leb, eqb}
 use Rattle.std.proofs.Math.Option.{none}
 use Rattle.records.specs.Errors.{Error, Referred, reference}
 use Rattle.decimals.specs.Bytes.{given}
-use Rattle.buffers.specs.Relations.Append.{attempt, appended}
-use Rattle.buffers.specs.declared.Wrote.{Wrote}
-use Rattle.buffers.specs.declared.Wrote.TheVariants as wrote
+use Rattle.buffers.specs.Relations.Append.{Wrote, attempt, appended}
 use Rattle.texts.specs.Relations.Report.{recorded}
-use Rattle.state.specs.Progress.{Progress}
+use Rattle.state.specs.declared.Progress.{Progress}
 use Rattle.state.specs.Setters.{refuse_s, text_s, list_s, front_s, max_unfound, up_to}
 
 -- the text's end after a write to the text buffer; "15 the next write passes the text buffer"
 unfoldable pub text_after : Wrote → Progress → Progress
-text_after (wrote.At e) s = text_s e s
-text_after wrote.Full s = refuse_s 15 s
+text_after (Ok e) s = text_s e s
+text_after (Err _) s = refuse_s refusal.ShortText s
 
 -- the front of a workspace of n bytes after a write there, and its highest use ("Use is the bytes of both"); "16 the next write passes the workspace"
 unfoldable pub work_after : ℕ → Wrote → Progress → Progress
-work_after n (wrote.At e) s = front_s e (max s.high (e + (n - s.back))) s
-work_after n wrote.Full s = refuse_s 16 s
+work_after n (Ok e) s = front_s e (max s.high (e + (n - s.back))) s
+work_after n (Err _) s = refuse_s refusal.ShortWorkspace s
 
 -- the list's end after a record, and the count of errors; "7 the next record passes the list buffer"
 unfoldable pub list_after : Wrote → Progress → Progress
-list_after (wrote.At e) s = list_s e (up_to max_unfound s.errors) s
-list_after wrote.Full s = refuse_s 7 s
+list_after (Ok e) s = list_s e (up_to max_unfound s.errors) s
+list_after (Err _) s = refuse_s refusal.ShortList s
 
 -- n bytes fit between the front and the back of a workspace of `size` bytes
 unfoldable pub has_room : Progress → ℕ → ℕ → Bool
@@ -55,7 +55,7 @@ written_if false b t w s = (t, w, s)
 
 -- Bytes written: the text buffer, the workspace and the state that they leave. Once refused, nothing is written.
 unfoldable pub written : List ℕ → List ℕ → List ℕ → Progress → List ℕ × List ℕ × Progress
-written b t w s = written_if (eqb s.refused 0) b t w s
+written b t w s = written_if (eqb (refused_of s) 0) b t w s
 
 -- parts written one after the other
 unfoldable pub written_all : List (List ℕ) → List ℕ × List ℕ × Progress → List ℕ × List ℕ × Progress
@@ -72,7 +72,7 @@ listed_if false e l s = (l, s)
 
 -- An error listed: the list and the state that it leaves. Once refused, nothing is listed.
 unfoldable pub listed : Error → List ℕ → Progress → List ℕ × Progress
-listed e l s = listed_if (eqb s.refused 0) e l s
+listed e l s = listed_if (eqb (refused_of s) 0) e l s
 
 -- a missing variable: within a term nothing, else its reference is listed
 unfoldable pub listed_missing : List ℕ → List ℕ → Progress → List ℕ × Progress

@@ -1,78 +1,77 @@
 // Errors listed: a record at the list's end, or refused.
 ghost use Rattle.std.specs.Prelude.{◌≡◌, true};
 ghost use Rattle.records.specs.Errors.{no_value, reference, too_many_placeables};
-ghost use Rattle.records.specs.Optional.{option_of};
+ghost use Rattle.records.specs.Optional.{lent};
 ghost use Rattle.texts.specs.Relations.Report.{plain_of, referred_of};
-ghost use Rattle.state.specs.Progress.{progress_of};
 ghost use Rattle.state.specs.Setters.{begun_s};
 ghost use Rattle.writes.specs.Written.{list_after, listed, listed_missing};
 
-use buffers::Wrote;
-use state::{ERRORS, LIST_AT, LOCAL, REFUSED, begin_last, one_more, refuse, set_list};
+use buffers::NoRoom;
+use refusals::Refusal;
+use state::{Progress, one_more};
 use texts::{Plain, Referred, put_no_value, put_plain, put_reference};
 
 // One record more on the list, or refused.
-fn list_after(st: &mut [usize; 16], wrote: Wrote)
-    ensures { progress_of st.new ≡ list_after wrote (progress_of st.old) }
+fn list_after(st: &mut Progress, wrote: Result<usize, NoRoom>)
+    ensures { st.new ≡ list_after wrote st.old }
 {
-    let errors = one_more(st[ERRORS]);
+    let errors = one_more(st.errors);
     match wrote {
-        Wrote::At(e) => set_list(st, e, errors),
-        Wrote::Full => refuse(st, 7),
+        Ok(e) => st.set_list(e, errors),
+        Err(NoRoom) => st.refuse(Refusal::ShortList),
     }
 }
 
-pub fn list_plain(list: &mut [u8], st: &mut [usize; 16], error: Plain)
-    ensures { (list.new, progress_of st.new) ≡ listed (plain_of error) list.old (progress_of st.old) }
+pub fn list_plain(list: &mut [u8], st: &mut Progress, error: Plain)
+    ensures { (list.new, st.new) ≡ listed (plain_of error) list.old st.old }
 {
-    if st[REFUSED] != 0 {
+    if st.is_refused() {
         return;
     }
-    let w = put_plain(list, st[LIST_AT], error);
+    let w = put_plain(list, st.list_at, error);
     list_after(st, w);
 }
 
-pub fn list_no_value(list: &mut [u8], st: &mut [usize; 16], id: &[u8])
-    ensures { (list.new, progress_of st.new) ≡ listed (no_value id.now) list.old (progress_of st.old) }
+pub fn list_no_value(list: &mut [u8], st: &mut Progress, id: &[u8])
+    ensures { (list.new, st.new) ≡ listed (no_value id.now) list.old st.old }
 {
-    if st[REFUSED] != 0 {
+    if st.is_refused() {
         return;
     }
-    let w = put_no_value(list, st[LIST_AT], id);
+    let w = put_no_value(list, st.list_at, id);
     list_after(st, w);
 }
 
 pub fn list_reference(
     list: &mut [u8],
-    st: &mut [usize; 16],
+    st: &mut Progress,
     kind: Referred,
     id: &[u8],
-    has: bool,
-    attribute: &[u8],
+    attribute: Option<&[u8]>,
 )
-    ensures { (list.new, progress_of st.new) ≡ listed (reference (referred_of kind) id.now (option_of has attribute.now)) list.old (progress_of st.old) }
+    ensures { (list.new, st.new) ≡ listed (reference (referred_of kind) id.now (lent attribute.entry)) list.old st.old }
 {
-    if st[REFUSED] != 0 {
+    if st.is_refused() {
         return;
     }
-    let w = put_reference(list, st[LIST_AT], kind, id, has, attribute);
+    let w = put_reference(list, st.list_at, kind, id, attribute);
     list_after(st, w);
 }
 
 // A missing variable is listed outside of terms.
-pub fn list_variable(list: &mut [u8], st: &mut [usize; 16], name: &[u8])
-    ensures { (list.new, progress_of st.new) ≡ listed_missing name.now list.old (progress_of st.old) }
+pub fn list_variable(list: &mut [u8], st: &mut Progress, name: &[u8])
+    ensures { (list.new, st.new) ≡ listed_missing name.now list.old st.old }
 {
-    if st[LOCAL] == 1 {
+    if st.local {
         return;
     }
-    list_reference(list, st, Referred::Variable, name, false, b"");
+    list_reference(list, st, Referred::Variable, name, None);
 }
 
 // The 101st placeable is begun and not expanded.
-pub fn list_too_many(list: &mut [u8], st: &mut [usize; 16])
-    ensures { (list.new, progress_of st.new) ≡ listed too_many_placeables list.old (begun_s 101 true (progress_of st.old)) }
+pub fn list_too_many(list: &mut [u8], st: &mut Progress)
+    ensures { (list.new, st.new) ≡ listed too_many_placeables list.old (begun_s 101 true st.old) }
 {
-    begin_last(st);
+    st.begin_last();
     list_plain(list, st, Plain::TooManyPlaceables);
 }

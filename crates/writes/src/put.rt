@@ -1,30 +1,29 @@
 // Text written: to the text buffer, or aside to the workspace's front.
-ghost use Rattle.std.specs.Prelude.{◌≡◌, [], ◌∷◌, true, ℕ, ◌+◌, ◌≤◌, ◌<◌, length, get_or};
+ghost use Rattle.std.specs.Prelude.{◌≡◌, Ok, [], ◌∷◌, true, ℕ, ◌+◌, ◌≤◌, ◌<◌, length};
 ghost use Rattle.decimals.specs.Text.{ranged_text};
 ghost use Rattle.decimals.specs.Relations.Shown.{told};
 ghost use Rattle.records.specs.Bytes.{part};
 ghost use Rattle.arguments.specs.Relations.Given.{between};
 ghost use Rattle.buffers.specs.Relations.Append.{over};
-ghost use Rattle.buffers.specs.declared.Wrote.TheVariants as wrote;
 ghost use Rattle.unescape.specs.Unescape.{unescape};
-ghost use Rattle.state.specs.Progress.{progress_of};
 ghost use Rattle.writes.specs.Written.{text_after, work_after, has_room, to_work, written, written_all, written_where};
 
 use arguments::text_of;
-use buffers::{Wrote, move_back, put_bytes};
+use buffers::{NoRoom, put_bytes};
 use decimals::text::number_text;
 use decimals::types::Number;
 use records::write_bytes;
-use state::{ASIDE, BACK, FRONT, HIGH, REFUSED, TEXT_AT, refuse, set_front, set_text};
+use refusals::Refusal;
+use state::Progress;
 use unescape::{unescape_into, unescaped_len};
 use workspace::highest;
 
 // Whether n bytes more have room in the workspace, of `len` in all, between its front and its back.
-pub fn has_room(st: &[usize; 16], n: usize, len: usize) -> bool
-    ensures { result ≡ has_room (progress_of st.now) n len }
+pub fn has_room(st: &Progress, n: usize, len: usize) -> bool
+    ensures { result ≡ has_room st.now n len }
 {
-    let front = st[FRONT];
-    let back = st[BACK];
+    let front = st.front;
+    let back = st.back;
     if back < front {
         return false;
     }
@@ -35,91 +34,78 @@ pub fn has_room(st: &[usize; 16], n: usize, len: usize) -> bool
 }
 
 // The workspace's front has n bytes more, of `len` in all.
-fn grow(st: &mut [usize; 16], n: usize, len: usize)
-    requires { has_room (progress_of st.old) n len ≡ true }
-    ensures { progress_of st.new ≡ work_after len (wrote.At (get_or st.old 3 0 + n)) (progress_of st.old) }
+fn grow(st: &mut Progress, n: usize, len: usize)
+    requires { has_room st.old n len ≡ true }
+    ensures { st.new ≡ work_after len (Ok (st.old.front + n)) st.old }
 {
-    let front = st[FRONT] + n;
-    let high = highest(st[HIGH], front, st[BACK], len);
-    set_front(st, front, high);
+    let front = st.front + n;
+    let high = highest(st.high, front, st.back, len);
+    st.set_front(front, high);
 }
 
 // So much text, or refused.
-fn text_after(st: &mut [usize; 16], wrote: Wrote)
-    ensures { progress_of st.new ≡ text_after wrote (progress_of st.old) }
+fn text_after(st: &mut Progress, wrote: Result<usize, NoRoom>)
+    ensures { st.new ≡ text_after wrote st.old }
 {
     match wrote {
-        Wrote::At(e) => set_text(st, e),
-        Wrote::Full => refuse(st, 15),
+        Ok(e) => st.set_text(e),
+        Err(NoRoom) => st.refuse(Refusal::ShortText),
     }
 }
 
 // Writes src to the workspace's front.
-fn put_front(work: &mut [u8], st: &mut [usize; 16], src: &[u8])
-    ensures { (work.new, progress_of st.new) ≡ to_work src.now work.old (progress_of st.old) }
+fn put_front(work: &mut [u8], st: &mut Progress, src: &[u8])
+    ensures { (work.new, st.new) ≡ to_work src.now work.old st.old }
 {
     if has_room(&*st, src.len(), work.len()) {
-        write_bytes(work, st[FRONT], src);
+        write_bytes(work, st.front, src);
         grow(st, src.len(), work.len());
         return;
     }
-    refuse(st, 16);
+    st.refuse(Refusal::ShortWorkspace);
 }
 
 // Writes src: to the workspace's front while a text is made aside, else to the text buffer.
-pub fn put(text: &mut [u8], work: &mut [u8], st: &mut [usize; 16], src: &[u8])
-    ensures { (text.new, work.new, progress_of st.new) ≡ written src.now text.old work.old (progress_of st.old) }
+pub fn put(text: &mut [u8], work: &mut [u8], st: &mut Progress, src: &[u8])
+    ensures { (text.new, work.new, st.new) ≡ written src.now text.old work.old st.old }
 {
-    if st[REFUSED] != 0 {
+    if st.is_refused() {
         return;
     }
-    if st[ASIDE] == 1 {
+    if st.aside {
         put_front(work, st, src);
         return;
     }
-    let w = put_bytes(text, st[TEXT_AT], src);
+    let w = put_bytes(text, st.text_at, src);
     text_after(st, w);
 }
 
 // Writes what a string literal reads as to the workspace's front.
-fn literal_front(work: &mut [u8], st: &mut [usize; 16], src: &[u8])
-    ensures { (work.new, progress_of st.new) ≡ to_work (unescape src.now) work.old (progress_of st.old) }
+fn literal_front(work: &mut [u8], st: &mut Progress, src: &[u8])
+    ensures { (work.new, st.new) ≡ to_work (unescape src.now) work.old st.old }
 {
     let n = unescaped_len(src);
     if has_room(&*st, n, work.len()) {
-        unescape_into(src, work, st[FRONT]);
+        let _ = unescape_into(src, work, st.front);
         grow(st, n, work.len());
         return;
     }
-    refuse(st, 16);
+    st.refuse(Refusal::ShortWorkspace);
 }
 
 // Writes a string literal as it reads.
-pub fn put_literal(text: &mut [u8], work: &mut [u8], st: &mut [usize; 16], src: &[u8])
-    ensures { (text.new, work.new, progress_of st.new) ≡ written (unescape src.now) text.old work.old (progress_of st.old) }
+pub fn put_literal(text: &mut [u8], work: &mut [u8], st: &mut Progress, src: &[u8])
+    ensures { (text.new, work.new, st.new) ≡ written (unescape src.now) text.old work.old st.old }
 {
-    if st[REFUSED] != 0 {
+    if st.is_refused() {
         return;
     }
-    if st[ASIDE] == 1 {
+    if st.aside {
         literal_front(work, st, src);
         return;
     }
-    let w = unescape_into(src, text, st[TEXT_AT]);
+    let w = unescape_into(src, text, st.text_at);
     text_after(st, w);
-}
-
-// Copies n bytes from `from` down to `to`; they may overlap.
-fn copy_down(work: &mut [u8], from: usize, to: usize, n: usize)
-    requires { (to ≤ from) × (to + n ≤ length work.old) × (0 < n → from + n ≤ length work.old) }
-    ensures { work.new ≡ over work.old to (part work.old from n) }
-{
-    let mut i = 0usize;
-    while i < n {
-        let x = work[from + i];
-        work[to + i] = x;
-        i += 1;
-    }
 }
 
 // Copies n bytes from `from` to `to`; they may overlap.
@@ -127,44 +113,42 @@ fn copy_part(work: &mut [u8], from: usize, to: usize, n: usize)
     requires { (to + n ≤ length work.old) × (0 < n → from + n ≤ length work.old) }
     ensures { work.new ≡ over work.old to (part work.old from n) }
 {
-    if from <= to {
-        move_back(work, from, n, to);
-        return;
+    if 0 < n {
+        work.copy_within(from..from + n, to);
     }
-    copy_down(work, from, to, n);
 }
 
 // Writes the part of the workspace from a up to e to its front.
-fn part_front(work: &mut [u8], st: &mut [usize; 16], a: usize, e: usize)
-    ensures { (work.new, progress_of st.new) ≡ to_work (between work.old a e) work.old (progress_of st.old) }
+fn part_front(work: &mut [u8], st: &mut Progress, a: usize, e: usize)
+    ensures { (work.new, st.new) ≡ to_work (between work.old a e) work.old st.old }
 {
     let n = text_of(work, a, e).len();
     if has_room(&*st, n, work.len()) {
-        copy_part(work, a, st[FRONT], n);
+        copy_part(work, a, st.front, n);
         grow(st, n, work.len());
         return;
     }
-    refuse(st, 16);
+    st.refuse(Refusal::ShortWorkspace);
 }
 
 // Writes the part of the workspace from a up to e; no bytes where that is no part.
-pub fn put_work(text: &mut [u8], work: &mut [u8], st: &mut [usize; 16], a: usize, e: usize)
-    ensures { (text.new, work.new, progress_of st.new) ≡ written (between work.old a e) text.old work.old (progress_of st.old) }
+pub fn put_work(text: &mut [u8], work: &mut [u8], st: &mut Progress, a: usize, e: usize)
+    ensures { (text.new, work.new, st.new) ≡ written (between work.old a e) text.old work.old st.old }
 {
-    if st[REFUSED] != 0 {
+    if st.is_refused() {
         return;
     }
-    if st[ASIDE] == 1 {
+    if st.aside {
         part_front(work, st, a, e);
         return;
     }
-    let w = put_bytes(text, st[TEXT_AT], text_of(work, a, e));
+    let w = put_bytes(text, st.text_at, text_of(work, a, e));
     text_after(st, w);
 }
 
 // Writes a number's text; no bytes for a number out of range.
-pub fn put_number(text: &mut [u8], work: &mut [u8], st: &mut [usize; 16], n: Number)
-    ensures { (text.new, work.new, progress_of st.new) ≡ written (ranged_text (told n)) text.old work.old (progress_of st.old) }
+pub fn put_number(text: &mut [u8], work: &mut [u8], st: &mut Progress, n: Number)
+    ensures { (text.new, work.new, st.new) ≡ written (ranged_text (told n)) text.old work.old st.old }
 {
     let t = number_text(n);
     let bytes = t.bytes;
@@ -176,12 +160,12 @@ pub fn put_number(text: &mut [u8], work: &mut [u8], st: &mut [usize; 16], n: Num
 pub fn put_braced(
     text: &mut [u8],
     work: &mut [u8],
-    st: &mut [usize; 16],
+    st: &mut Progress,
     head: &[u8],
     src: &[u8],
     tail: &[u8],
 )
-    ensures { (text.new, work.new, progress_of st.new) ≡ written_all (head.now ∷ src.now ∷ tail.now ∷ []) (text.old, work.old, progress_of st.old) }
+    ensures { (text.new, work.new, st.new) ≡ written_all (head.now ∷ src.now ∷ tail.now ∷ []) (text.old, work.old, st.old) }
 {
     put(text, work, st, head);
     put(text, work, st, src);
@@ -189,8 +173,8 @@ pub fn put_braced(
 }
 
 // U+2068, FIRST STRONG ISOLATE.
-pub fn put_fsi(text: &mut [u8], work: &mut [u8], st: &mut [usize; 16], on: bool)
-    ensures { (text.new, work.new, progress_of st.new) ≡ written_where on (0xe2 ∷ 0x81 ∷ 0xa8 ∷ []) text.old work.old (progress_of st.old) }
+pub fn put_fsi(text: &mut [u8], work: &mut [u8], st: &mut Progress, on: bool)
+    ensures { (text.new, work.new, st.new) ≡ written_where on (0xe2 ∷ 0x81 ∷ 0xa8 ∷ []) text.old work.old st.old }
 {
     if on {
         put(text, work, st, b"\xE2\x81\xA8");
@@ -198,8 +182,8 @@ pub fn put_fsi(text: &mut [u8], work: &mut [u8], st: &mut [usize; 16], on: bool)
 }
 
 // U+2069, POP DIRECTIONAL ISOLATE.
-pub fn put_pdi(text: &mut [u8], work: &mut [u8], st: &mut [usize; 16], on: bool)
-    ensures { (text.new, work.new, progress_of st.new) ≡ written_where on (0xe2 ∷ 0x81 ∷ 0xa9 ∷ []) text.old work.old (progress_of st.old) }
+pub fn put_pdi(text: &mut [u8], work: &mut [u8], st: &mut Progress, on: bool)
+    ensures { (text.new, work.new, st.new) ≡ written_where on (0xe2 ∷ 0x81 ∷ 0xa9 ∷ []) text.old work.old st.old }
 {
     if on {
         put(text, work, st, b"\xE2\x81\xA9");

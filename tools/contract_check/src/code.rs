@@ -5,8 +5,10 @@ use std::collections::{BTreeMap, BTreeSet};
 use std::path::{Path, PathBuf};
 
 pub struct Function {
-    /// the crate, its modules and the name, joined by `::`
+    /// the crate, its modules, a method's type and the name, joined by `::`
     pub path: String,
+    /// the name of a method
+    pub method: Option<String>,
     pub file: PathBuf,
     pub line: usize,
     pub public: bool,
@@ -135,6 +137,9 @@ fn lent(parameters: &str) -> Vec<String> {
     let mut names = Vec::new();
     for p in split(parameters, ',') {
         let Some((name, kind)) = p.split_once(':') else {
+            if p.starts_with('&') && p.ends_with("mut self") {
+                names.push("self".to_string());
+            }
             continue;
         };
         let mut kind = kind.trim().strip_prefix('&').unwrap_or("").trim_start();
@@ -163,6 +168,18 @@ fn body_at(text: &str, from: usize) -> Option<usize> {
     None
 }
 
+/// What stands behind an `impl`'s own parameters, if it has any.
+fn behind_parameters(head: &str) -> &str {
+    let mut depth = 0;
+    for (i, c) in head.char_indices() {
+        depth += (c == '<') as i32 - (c == '>') as i32;
+        if depth == 0 {
+            return head[i..].trim_start_matches('>').trim_start();
+        }
+    }
+    head
+}
+
 impl Function {
     /// The result's type and the clauses, from behind the parameters to the body.
     fn take_clauses(&mut self, text: &str, mut from: usize) -> Option<()> {
@@ -187,6 +204,33 @@ impl Function {
 }
 
 impl File {
+    /// The type whose `impl` a position stands in.
+    fn owner(&self, at: usize) -> Option<String> {
+        let of = |i: usize| {
+            let open = i + self.text[i..].find('{')?;
+            let head = self.text[i + 4..open].rsplit(" for ").next()?;
+            let name: String = behind_parameters(head.trim_start())
+                .chars()
+                .take_while(|&c| is_word(c))
+                .collect();
+            inside(&self.text, open).contains(&at).then_some(name)
+        };
+        places(&self.text, "impl").filter_map(of).last()
+    }
+
+    /// The names that stand as methods of a value where they are called.
+    fn methods_called(&self) -> BTreeSet<String> {
+        let name = |open: usize| {
+            let before = &self.text[..open];
+            let from = before.rfind(|c: char| !is_word(c))?;
+            before[from..].strip_prefix('.').map(str::to_string)
+        };
+        self.text
+            .match_indices('(')
+            .filter_map(|(open, _)| name(open))
+            .collect()
+    }
+
     /// The function whose `fn` stands here.
     fn function(&self, at: usize) -> Option<Function> {
         let text = &self.text;
@@ -196,9 +240,15 @@ impl File {
             .take_while(|&c| is_word(c))
             .collect();
         let parameters = inside(text, at + text[at..].find('(')?);
+        let owner = self.owner(at);
+        let place = match &owner {
+            Some(of) => format!("{}::{of}", self.module),
+            None => self.module.clone(),
+        };
         let before = modifiers(text, at);
         let mut f = Function {
-            path: format!("{}::{name}", self.module),
+            path: format!("{place}::{name}"),
+            method: owner.map(|_| name),
             file: self.path.clone(),
             line: text[..at].matches('\n').count() + 1,
             public: before.first() == Some(&"pub"),
@@ -311,6 +361,11 @@ impl Code {
             }
         }
         names
+    }
+
+    /// The names of the methods that this crate calls.
+    pub fn methods_called(&self) -> BTreeSet<String> {
+        self.files.iter().flat_map(|f| f.methods_called()).collect()
     }
 
     /// The paths that this crate calls, from the crate's name on.

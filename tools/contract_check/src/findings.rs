@@ -147,7 +147,11 @@ pub fn check(root: &Path) -> Report {
             {
                 report.public += 1;
                 let mut what = wanting(&f, &scope, &specs);
-                if !f.external && !called.contains(&f.path) {
+                let by_value = |c: &Code| {
+                    let name = f.method.as_ref();
+                    c.name != code.name && name.is_some_and(|n| c.methods_called().contains(n))
+                };
+                if !f.external && !called.contains(&f.path) && !all.iter().any(by_value) {
                     what.push("no other crate calls it".to_string());
                 }
                 let place = format!("{}:{}", f.file.display(), f.line);

@@ -132,6 +132,30 @@ pub fn uncalled(n: u8) -> u8
     n // uncalled(n)
 }
 
+pub struct Pair {
+    pub first: u8,
+}
+
+impl Pair {
+    pub fn by_value(&mut self) -> u8
+        ensures { Fine result self.new }
+    {
+        self.unheard()
+    }
+
+    pub fn forgetful(&mut self) -> u8
+        ensures { result ≡ 0 }
+    {
+        0
+    }
+
+    pub fn unheard(&self) -> u8
+        ensures { result ≡ 0 }
+    {
+        0
+    }
+}
+
 pub(crate) fn inner() -> u8 {
     uncalled(0)
 }
@@ -196,6 +220,8 @@ fn main() {
     planted::hiding_by_name(1);
     planted::hiding_deep(1);
     planted::hiding_in_a_case(1);
+    pair.by_value();
+    planted::Pair::forgetful(pair);
     open::silent();
     planted::handed_on();
     print(b\"planted::uncalled(1)\");
@@ -217,7 +243,7 @@ pub extern \"C\" fn planted_silent(n: u8) -> u8 {
 }
 ";
 
-const EXPECTED: [(&str, &str); 17] = [
+const EXPECTED: [(&str, &str); 19] = [
     ("planted::silent", "it has no `ensures`"),
     ("planted::asking", "it has a `requires`"),
     ("planted::asking_by_name", "it has a `requires`"),
@@ -253,6 +279,11 @@ const EXPECTED: [(&str, &str); 17] = [
         "`Cased` in its `ensures` hides an implication",
     ),
     ("planted::uncalled", "no other crate calls it"),
+    (
+        "planted::Pair::forgetful",
+        "its `ensures` does not tell what `self` holds in the end",
+    ),
+    ("planted::Pair::unheard", "no other crate calls it"),
     ("planted::open::silent", "it has no `ensures`"),
     ("planted_c::planted_silent", "it has no `ensures`"),
     ("planted::shut::handed_on", "it has no `ensures`"),

@@ -1,6 +1,6 @@
 -- What an answer of the code means.
-use Rattle.std.specs.Prelude.{ℕ, ◌-◌, ◌≤◌, Bool, true, false, ◌&&◌, List, [], length, leb}
-use Rattle.std.proofs.Math.Option.{Option, some, none}
+use Rattle.std.specs.Prelude.{ℕ, ◌-◌, ◌≤◌, Bool, true, false, ◌&&◌, List, [], length, leb, Option, Some, None}
+use Rattle.std.proofs.Math.Option.{Option as Maybe, some, none}
 use Rattle.records.specs.Bytes.{part}
 use Rattle.records.specs.Images.{Argument}
 use Rattle.arguments.specs.declared.Given.{Given}
@@ -15,15 +15,15 @@ unfoldable pub between : List ℕ → ℕ → ℕ → List ℕ
 between s a e = between_if (leb a e && leb e (length s)) s a e
 
 -- what an answer of the code means
-unfoldable pub meant : List ℕ → Given → Option Argument
-meant s given.Missing = none
-meant s (given.Text a e) = some (Argument.string (between s a e))
-meant s (given.Number f d k) = some (Argument.number f d k)
-meant s given.Nothing = some Argument.nothing
+unfoldable pub meant : List ℕ → Option Given → Maybe Argument
+meant s None = none
+meant s (Some (given.Text a e)) = some (Argument.string (between s a e))
+meant s (Some (given.Number f d k)) = some (Argument.number f d k)
+meant s (Some given.Nothing) = some Argument.nothing
 
 -- a text lies in the image
-unfoldable pub Within : List ℕ → Given → Type 0
-Within s given.Missing = Unit {0}
-Within s (given.Text a e) = (a ≤ e) × (e ≤ length s)
-Within s (given.Number f d k) = Unit {0}
-Within s given.Nothing = Unit {0}
+unfoldable pub Within : List ℕ → Option Given → Type 0
+Within s None = Unit {0}
+Within s (Some (given.Text a e)) = (a ≤ e) × (e ≤ length s)
+Within s (Some (given.Number f d k)) = Unit {0}
+Within s (Some given.Nothing) = Unit {0}

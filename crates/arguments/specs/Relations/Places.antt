@@ -1,15 +1,13 @@
 -- The places of an arguments image that are noted for a search: of n arguments every (n / 256 + 16)th, from the first on, so that an image of few has one place.
-use Rattle.std.specs.Prelude.{ℕ, ◌+◌, ◌-◌, ◌*◌, ◌/◌, ◌<◌, ◌≡◌, Bool, true, false, ◌||◌, List, [], ◌∷◌, get_or, leb}
+use Rattle.std.specs.Prelude.{ℕ, ◌+◌, ◌-◌, ◌*◌, ◌/◌, ◌<◌, ◌≡◌, Bool, true, false, ◌||◌, List, [], ◌∷◌, get_or, leb, Option, Some, None}
 use Rattle.records.specs.Got.{Got, got, bad}
 use Rattle.records.specs.Bytes.{number_at, str_at}
 use Rattle.records.specs.Decode.{many}
 use Rattle.records.specs.Images.{Argument, argument_at}
 use Rattle.order.specs.Order.{before}
-use Rattle.arguments.specs.Relations.Outline.{row_at, readable, or_missing, sought}
+use Rattle.arguments.specs.Relations.Outline.{row_at, readable, shown_option, sought}
 use Rattle.arguments.specs.declared.Given.{Given}
-use Rattle.arguments.specs.declared.Given.TheVariants as given
-use Rattle.arguments.specs.declared.image.Run.{Run}
-use Rattle.arguments.specs.declared.image.Run.TheVariants as run
+use Rattle.arguments.specs.declared.image.Checked.{Checked}
 
 -- so that there are 256 places at most
 abbrev pub step_of : ℕ → ℕ
@@ -20,9 +18,9 @@ unfoldable pub PlacesOf : List ℕ → ℕ → ℕ → List ℕ → Type 0
 PlacesOf s from n places = (j : ℕ) → j * step_of n < n → (l : List (List ℕ × Argument)) (e : ℕ) → many [] ◌∷◌ (j * step_of n) argument_at s from ≡ got l e → get_or places j 0 ≡ e
 
 -- they are noted, where the arguments were read
-unfoldable pub Notes : List ℕ → ℕ → ℕ → List ℕ → Run → Type 0
-Notes s from n places run.Bad = Unit {0}
-Notes s from n places (run.Is r) = PlacesOf s from n places
+unfoldable pub Notes : List ℕ → ℕ → ℕ → List ℕ → Option Checked → Type 0
+Notes s from n places None = Unit {0}
+Notes s from n places (Some r) = PlacesOf s from n places
 
 -- the places of an image: its count stands at 5, its arguments at 7
 unfoldable pub Noted : List ℕ → List ℕ → Type 0
@@ -44,6 +42,6 @@ pub data MayBegin (s places : List ℕ) (n : ℕ) (name : List ℕ) (j : ℕ) : 
 
 -- what is found for a name, on any bytes and with any places: nothing where no count can be read; else what stands there one by one, from the first place, or from
 -- one that is not above
-pub data FoundBy (s places name : List ℕ) (r : Given) : Type 0 where
-  no_count : number_at 2 s 5 ≡ bad → r ≡ given.Missing → FoundBy s places name r
-  from_place : (n e j : ℕ) → number_at 2 s 5 ≡ got n e → MayBegin s places n name j → r ≡ or_missing (sought name (readable (n - j * step_of n) row_at s (get_or places j 0))) → FoundBy s places name r
+pub data FoundBy (s places name : List ℕ) (r : Option Given) : Type 0 where
+  no_count : number_at 2 s 5 ≡ bad → r ≡ None → FoundBy s places name r
+  from_place : (n e j : ℕ) → number_at 2 s 5 ≡ got n e → MayBegin s places n name j → r ≡ shown_option (sought name (readable (n - j * step_of n) row_at s (get_or places j 0))) → FoundBy s places name r

@@ -5,13 +5,7 @@ use Rattle.records.proofs.Writing.{fits_over}
 use borrow.Author.Tests.{leb-false}
 use lib.ListN.{length}
 use mathlib.Core.Path.{◌∙◌, refl, sym}
-use native.Mathlib.Omega.{arith}
 use Rattle.buffers.proofs.put_bytes.Goals as goal
-
-pub overflow_add-end : goal.overflow_add-end
-overflow_add-end c =
-    let room = there c.args.d.now c.args.at (length c.args.src.now) c.has_bytes.ensures c.if-has_bytes.true in
-    let h = room in omega arith
 
 pub returns-then-has_bytes : goal.returns-then-has_bytes
 returns-then-has_bytes c =

@@ -1,15 +1,21 @@
 -- Bytes written into a lent buffer.
-use Rattle.std.specs.Prelude.{◌≡◌, ℕ, ◌+◌, Bool, true, false, ◌&&◌, List, length, take, drop, leb}
+use Rattle.std.specs.Prelude.{◌≡◌, ℕ, ◌+◌, Result, Ok, Err, Bool, true, false, ◌&&◌, List, length, take, drop, leb}
 use Rattle.records.specs.Bytes.{part}
 unfoldable pub use Rattle.records.specs.Relations.Write.{over}
 use Rattle.decimals.specs.Bytes.{given}
-use Rattle.buffers.specs.declared.Wrote.{Wrote}
-use Rattle.buffers.specs.declared.Wrote.TheVariants.{At, Full}
+use Rattle.buffers.specs.declared.NoRoom.{NoRoom}
 
--- What an attempt to write bytes at a position answers, and what it leaves: past them, and the bytes are there; or Full, and nothing changes.
+-- what a function that writes answers: the position past what it wrote, or that there is no room for it
+abbrev pub Wrote : Type 0
+Wrote = Result ℕ NoRoom
+
+abbrev pub full : Wrote
+full = Err (record {})
+
+-- What an attempt to write bytes at a position answers, and what it leaves: past them, and the bytes are there; or that there is no room, and nothing changes.
 unfoldable pub attempt : Bool → List ℕ → ℕ → List ℕ → Wrote × List ℕ
-attempt true d at bs = (At (at + length bs), over d at bs)
-attempt false d at bs = (Full, d)
+attempt true d at bs = (Ok (at + length bs), over d at bs)
+attempt false d at bs = (full, d)
 
 -- "the next write passes the buffer" (15 for a text, 16 for a workspace): where it does not, the bytes are written. No bytes at all fit up to the
 -- buffer's very end.

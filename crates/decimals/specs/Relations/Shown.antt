@@ -1,21 +1,20 @@
 -- How the code's numbers, options and texts stand for those of the definitions. Of a currency the code keeps only whether it is set.
-use Rattle.std.specs.Prelude.{ℕ, List, [], Bool, true, false, length, take}
+use Rattle.std.specs.Prelude.{ℕ, List, [], Bool, true, false, length, take, Some, None}
+use Rattle.std.specs.Prelude as rust
 use Rattle.std.proofs.Math.Option.{Option, none, some}
 use Rattle.decimals.specs.Decimal.{Options, Number}
 use Rattle.decimals.specs.Text.{text_limit, padded}
-use Rattle.decimals.specs.declared.types.Count.{Count}
-use Rattle.decimals.specs.declared.types.Count.TheVariants.{Unset, Set}
 use Rattle.decimals.specs.declared.types.Options as CodeOptions
 use Rattle.decimals.specs.declared.types.Number as CodeNumber
 use Rattle.decimals.specs.declared.types.NumberText as CodeText
 
-unfoldable pub shown_count : Option ℕ → Count
-shown_count none = Unset
-shown_count (some k) = Set k
+unfoldable pub shown_count : Option ℕ → rust.Option ℕ
+shown_count none = None
+shown_count (some k) = Some k
 
-unfoldable pub told_count : Count → Option ℕ
-told_count Unset = none
-told_count (Set k) = some k
+unfoldable pub told_count : rust.Option ℕ → Option ℕ
+told_count None = none
+told_count (Some k) = some k
 
 -- is a currency set
 unfoldable pub shown_text : Option (List ℕ) → Bool

@@ -2,8 +2,8 @@
 use Rattle.exports.proofs.Told.{done_told, refused_told}
 use Rattle.exports.proofs.weszlagyo_add_resource.Goals as goal
 
-pub returns-in-Done : goal.returns-in-Done
-returns-in-Done c = let all = done_told _ c.add_resource.ensures c.in-Done.is in record { value = all.0; slice_after = all.1; list_after = all.2; count_after = all.3 }
+pub returns-in-Ok : goal.returns-in-Ok
+returns-in-Ok c = let all = done_told _ c.add_resource.ensures c.in-Ok.is in record { value = all.0; slice_after = all.1; list_after = all.2; count_after = all.3 }
 
-pub returns-in-Refused : goal.returns-in-Refused
-returns-in-Refused c = let all = refused_told _ c.add_resource.ensures c.in-Refused.is in record { value = all.0; slice_after = all.1; list_after = all.2; count_after = all.3 }
+pub returns-in-Err : goal.returns-in-Err
+returns-in-Err c = let all = refused_told _ c.add_resource.ensures c.in-Err.is c.number.ensures in record { value = all.0; slice_after = all.1; list_after = all.2; count_after = all.3 }

@@ -2,12 +2,12 @@
 use Rattle.exports.proofs.Told.{done_told, refused_told}
 use Rattle.exports.proofs.weszlagyo_add_resource_overriding.Goals as goal
 
-pub returns-in-Done : goal.returns-in-Done
-returns-in-Done c =
-    let t = done_told 0 c.add_resource_overriding.ensures c.in-Done.is in
+pub returns-in-Ok : goal.returns-in-Ok
+returns-in-Ok c =
+    let t = done_told 0 c.add_resource_overriding.ensures c.in-Ok.is in
     record { value = t.0; slice_after = t.1 }
 
-pub returns-in-Refused : goal.returns-in-Refused
-returns-in-Refused c =
-    let t = refused_told 0 c.add_resource_overriding.ensures c.in-Refused.is in
+pub returns-in-Err : goal.returns-in-Err
+returns-in-Err c =
+    let t = refused_told 0 c.add_resource_overriding.ensures c.in-Err.is c.number.ensures in
     record { value = t.0; slice_after = t.1 }

@@ -1,13 +1,13 @@
--- `exports::weszlagyo_format` meets its contract: the three cases of what the resolver's `format` answers.
-use Rattle.exports.proofs.Finished.{cleared_figure, cleared_told, finished_figure, finished_told, refused_figure, refused_told}
-use Rattle.exports.proofs.Zero.{format_told}
+-- `exports::weszlagyo_format` meets its contract: the two cases of what `format` answers.
+use Rattle.exports.proofs.Finished.{asked_by, failed_figure, failed_told, finished_figure, finished_told}
 use Rattle.exports.proofs.weszlagyo_format.Goals as goal
 
-pub returns-in-Finished : goal.returns-in-Finished
-returns-in-Finished c = record { used_value = finished_told _ c.format.ensures.work_after c.in-Finished.is; used_after = finished_figure _ _ c.format.ensures.figure_is c.in-Finished.is }
+pub returns-in-Ok : goal.returns-in-Ok
+returns-in-Ok c =
+    let all = asked_by _ _ _ _ _ _ _ _ c.named.ensures c.format.ensures.work_after c.format.ensures.figure_is in
+    record { used_value = finished_told _ all.0 c.in-Ok.is; used_after = finished_figure _ _ all.1 c.in-Ok.is }
 
-pub returns-in-Refused : goal.returns-in-Refused
-returns-in-Refused c = record { used_value = refused_told _ c.format.ensures.work_after c.in-Refused.is; used_after = refused_figure _ _ _ _ _ _ _ _ c.format.ensures.work_after (format_told _ _ _ _ _) c.in-Refused.is }
-
-pub returns-in-Cleared : goal.returns-in-Cleared
-returns-in-Cleared c = record { used_value = cleared_told _ c.format.ensures.work_after c.in-Cleared.is; used_after = cleared_figure _ _ _ _ _ _ _ _ c.format.ensures.work_after (format_told _ _ _ _ _) c.in-Cleared.is }
+pub returns-in-Err : goal.returns-in-Err
+returns-in-Err c =
+    let all = asked_by _ _ _ _ _ _ _ _ c.named.ensures c.format.ensures.work_after c.format.ensures.figure_is in
+    record { used_value = failed_told _ all.0 c.in-Err.is c.number.ensures; used_after = failed_figure _ _ _ _ c.number.ensures }

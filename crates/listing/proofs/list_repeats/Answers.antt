@@ -4,14 +4,8 @@ use Rattle.listing.proofs.Tallying.{tally_small}
 use native.Mathlib.Omega.{arith}
 use Rattle.listing.proofs.list_repeats.Goals as goal
 
-pub overflow_add-tally : goal.overflow_add-tally
-overflow_add-tally c = let t = c.tally_marked-tally.ensures.1 in omega arith
-
 pub returns-then-list-tally : goal.returns-then-list-tally
 returns-then-list-tally c = λ es f hr. listed_short _ (c.tally_marked-tally.ensures.0 es f hr) c.if-list-tally.true
-
-pub overflow_add-tally-2 : goal.overflow_add-tally-2
-overflow_add-tally-2 c = let t = c.tally_marked-tally.ensures.1 in omega arith
 
 pub returns : goal.returns
 returns c =

@@ -5,7 +5,4 @@ use Rattle.listing.specs.declared.Tally.{Tally}
 use Rattle.listing.proofs.tally_marked.Given as goal
 
 abbrev pub invariant-loop-k : goal.invariant-loop-k
-invariant-loop-k l = ((r : Tally) → TallyFrom l.image l.marks (l.count - l.k) l.k l.at l.tally r → TallyFrom l.image l.marks (l.count - l.initial.k) l.initial.k l.initial.at l.initial.tally r) × (l.tally.count ≤ l.k) × (l.tally.size ≤ l.k * 65541) × (l.k ≤ l.count)
-
-abbrev pub decreases-loop-k : goal.decreases-loop-k
-decreases-loop-k l = l.count - l.k
+invariant-loop-k l = ((r : Tally) → TallyFrom l.image l.marks (l.count - l.k) l.k l.at l.tally r → TallyFrom l.image l.marks (l.count - 0) 0 l.initial.at l.initial.tally r) × (l.tally.count ≤ l.k) × (l.tally.size ≤ l.k * 65541) × (l.k ≤ l.count)

@@ -1,16 +1,14 @@
 -- What is written of the records of the entries that are marked.
-use Rattle.std.specs.Prelude.{ℕ, ◌+◌, ◌≤◌, ◌<◌, ◌≡◌, Bool, true, false, List, [], length, eqb}
+use Rattle.std.specs.Prelude.{Ok, ℕ, ◌+◌, ◌≤◌, ◌<◌, ◌≡◌, Bool, true, false, List, [], length, eqb}
 use Rattle.records.specs.Got.{got}
 use Rattle.records.specs.Encode.{enc_all}
 use Rattle.records.specs.Errors.{Error, enc_error, enc_errors}
 use Rattle.records.specs.Images.{Entry, entry_at}
-use Rattle.buffers.specs.Relations.Append.{over}
+use Rattle.buffers.specs.Relations.Append.{Wrote, full, over}
 use Rattle.texts.specs.declared.errors.Kind.{Kind}
 use Rattle.texts.specs.declared.errors.Kind.TheVariants as kind
 use Rattle.entries.specs.Repeats.{repeat_if}
 use Rattle.growth.specs.Items.{at_front}
-use Rattle.listing.specs.declared.Listed.{Listed}
-use Rattle.listing.specs.declared.Listed.TheVariants as listed
 
 unfoldable pub kind_by : Bool → Kind
 kind_by true = kind.Message
@@ -26,6 +24,6 @@ pub record ListsEntry (image : List ℕ) (at mark : ℕ) (list : List ℕ) (to r
       → (r ≡ to + length (record_of mark x)) × (out ≡ over list to (record_of mark x))
 
 -- a list that fits stands at the front of the buffer; for one that doesn't, nothing is written
-pub data Lists (errors : List Error) (list : List ℕ) (r : Listed) (out : List ℕ) : Type 0 where
-  lists_all : r ≡ listed.All (length errors) → length (enc_errors errors) ≤ length list → out ≡ at_front (enc_errors errors) list → Lists errors list r out
-  lists_short : r ≡ listed.Short → length list < length (enc_errors errors) → out ≡ list → Lists errors list r out
+pub data Lists (errors : List Error) (list : List ℕ) (r : Wrote) (out : List ℕ) : Type 0 where
+  lists_all : r ≡ Ok (length errors) → length (enc_errors errors) ≤ length list → out ≡ at_front (enc_errors errors) list → Lists errors list r out
+  lists_short : r ≡ full → length list < length (enc_errors errors) → out ≡ list → Lists errors list r out

@@ -1,5 +1,5 @@
 -- The measures, and what each loop keeps.
-use Prim.Native.Nat.{◌*◌, ◌+◌}
+use Prim.Native.Nat.{◌*◌, ◌+◌, ◌-◌}
 use Rattle.records.specs.Decode.{elements_at, expression, inline, inlines_at, variant_at, many}
 use Rattle.records.specs.Relations.Answer.{next_of}
 use Rattle.records.specs.Tree.{no_variant, or}
@@ -42,20 +42,11 @@ decreases-check_variant l = 8 * l.depth + 5
 abbrev pub decreases-check_variants : goal.decreases-check_variants
 decreases-check_variants l = 8 * l.depth + 6
 
-abbrev pub invariant-check_elements-loop-left : goal.invariant-check_elements-loop-left
-invariant-check_elements-loop-left l = next_of (elements_at (expression l.depth) l.left l.s l.at) ≡ next_of (elements_at (expression l.depth) l.count l.s l.from)
+abbrev pub invariant-check_elements-loop : goal.invariant-check_elements-loop
+invariant-check_elements-loop l = next_of (elements_at (expression l.depth) (l.count - l.counter) l.s l.at) ≡ next_of (elements_at (expression l.depth) l.count l.s l.from)
 
-abbrev pub decreases-check_elements-loop-left : goal.decreases-check_elements-loop-left
-decreases-check_elements-loop-left l = l.left
+abbrev pub invariant-check_inlines-loop : goal.invariant-check_inlines-loop
+invariant-check_inlines-loop l = next_of (inlines_at (inline l.depth) (l.count - l.counter) l.s l.at) ≡ next_of (inlines_at (inline l.depth) l.count l.s l.from)
 
-abbrev pub invariant-check_inlines-loop-left : goal.invariant-check_inlines-loop-left
-invariant-check_inlines-loop-left l = next_of (inlines_at (inline l.depth) l.left l.s l.at) ≡ next_of (inlines_at (inline l.depth) l.count l.s l.from)
-
-abbrev pub decreases-check_inlines-loop-left : goal.decreases-check_inlines-loop-left
-decreases-check_inlines-loop-left l = l.left
-
-abbrev pub invariant-check_variants-loop-left : goal.invariant-check_variants-loop-left
-invariant-check_variants-loop-left l = next_of (many no_variant or l.left (variant_at (expression l.depth)) l.s l.at) ≡ next_of (many no_variant or l.count (variant_at (expression l.depth)) l.s l.from)
-
-abbrev pub decreases-check_variants-loop-left : goal.decreases-check_variants-loop-left
-decreases-check_variants-loop-left l = l.left
+abbrev pub invariant-check_variants-loop : goal.invariant-check_variants-loop
+invariant-check_variants-loop l = next_of (many no_variant or (l.count - l.counter) (variant_at (expression l.depth)) l.s l.at) ≡ next_of (many no_variant or l.count (variant_at (expression l.depth)) l.s l.from)

@@ -7,16 +7,15 @@ use mathlib.Core.Path.{◌∙◌, ◌≡◌, ap, sym}
 use native.Mathlib.Omega.{arith}
 use Rattle.plural_table.proofs.printed_at.Goals as goal
 
-pub returns-then-n-eq200 : goal.returns-then-n-eq200
-returns-then-n-eq200 c =
+pub returns-in-200 : goal.returns-in-200
+returns-in-200 c =
     let line : c.args.at / 201 < 8 = omega (arith, c.requires) in
-    sym (printed_end (c.args.at / 201) line) ∙ ap (λ (k : ℕ). get_or printed k 0) (let e : c.args.at / 201 * 201 + 200 ≡ c.args.at = omega (arith, c.if-n-eq200.true) in e)
+    let place : c.args.at / 201 * 201 + 200 ≡ c.args.at = omega (arith, c.in-200.is) in
+    sym (printed_end (c.args.at / 201) line) ∙ ap (λ (k : ℕ). get_or printed k 0) place
 
-pub digit_in_line-requires : goal.digit_in_line-requires
-digit_in_line-requires c = (omega (arith, c.requires), omega (arith, c.if-n-eq200.false))
-
-pub returns : goal.returns
-returns c =
+pub returns-in_default : goal.returns-in_default
+returns-in_default c =
     let place : c.args.at / 201 * 201 + c.args.at % 201 ≡ c.args.at = omega arith in
     let line : c.args.at / 201 < 8 = omega (arith, c.requires) in
-    c.digit_in_line.ensures ∙ sym (printed_digit (c.args.at / 201) (c.args.at % 201) line (omega (arith, c.if-n-eq200.false))) ∙ ap (λ (k : ℕ). get_or printed k 0) place
+    let digit : c.args.at % 201 < 200 = omega arith in
+    c.digit_in_line.ensures ∙ sym (printed_digit (c.args.at / 201) (c.args.at % 201) line digit) ∙ ap (λ (k : ℕ). get_or printed k 0) place

@@ -1,17 +1,16 @@
 -- Reads in a row, each from where the one before ended; and a count of bytes with what is left for them.
-use Rattle.std.specs.Prelude.{ℕ, ◌-◌, List, length}
+use Rattle.records.specs.Relations.Answer.{Num}
+use Rattle.std.specs.Prelude.{ℕ, ◌-◌, List, length, Some, None}
 use Rattle.records.specs.Got.{Parser}
 use Rattle.records.specs.Relations.Answer.{num_of}
-use Rattle.records.specs.declared.Num.{Num}
-use Rattle.records.specs.declared.Num.TheVariants.{At, Bad}
 use Rattle.records.specs.Bytes.{number_at}
 use Rattle.reader.specs.declared.Row.{Row}
 use Rattle.reader.specs.declared.Sized.{Sized}
 
 -- the position past what was read at a position, or that position where nothing was
 abbrev pub end_of : Num → ℕ → ℕ
-end_of (At n e) at = e
-end_of Bad at = at
+end_of (Some r) at = r.1
+end_of None at = at
 
 -- the position past what p reads at a position
 abbrev pub past_at : Parser ℕ → List ℕ → ℕ → ℕ

@@ -1,7 +1,6 @@
 -- The head of a resource image and of an arguments image.
-use Rattle.std.specs.Prelude.{ℕ, leb}
+use Rattle.std.specs.Prelude.{ℕ, leb, Option, Some, None}
 use Rattle.records.specs.declared.Head.{Head}
-use Rattle.records.specs.declared.Head.TheVariants as head
 use Rattle.records.specs.Got.{Got, got, bad, Parser, after, test}
 use Rattle.records.specs.Bytes.{number_at}
 use Rattle.records.specs.Images.{max_image, one_at}
@@ -15,6 +14,6 @@ head_at s at =
     after (number_at 2 s q) (λ k r. got (n, k) r))))
 
 -- what the code answers for it
-unfoldable pub head_of : Got (ℕ × ℕ) → Head
-head_of (got h e) = head.At h.0 h.1 e
-head_of bad = head.Bad
+unfoldable pub head_of : Got (ℕ × ℕ) → Option Head
+head_of (got h e) = Some (record { size = h.0; count = h.1; from = e })
+head_of bad = None

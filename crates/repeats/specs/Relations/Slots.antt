@@ -1,6 +1,6 @@
 -- Slots: a table in which the first entry of an id has its position, in one of the eight slots that the id looks at, and one that says which of these ids a
 -- store holds. A slot that is taken stays so, and equal ids look at the same eight: so an id that has a slot is found there, by its first entry.
-use Rattle.std.specs.Prelude.{ℕ, zero, suc, ◌+◌, ◌*◌, ◌/◌, ◌%◌, ◌≤◌, ◌<◌, ◌-◌, ◌≡◌, Bool, true, false, ◌||◌, List, [], ◌∷◌, length, get_or, set, replicate, eqb, ltb}
+use Rattle.std.specs.Prelude.{Option, Some, None, cond, ℕ, zero, suc, ◌+◌, ◌*◌, ◌/◌, ◌%◌, ◌≤◌, ◌<◌, ◌-◌, ◌≡◌, Bool, true, false, ◌||◌, List, [], ◌∷◌, length, get_or, set, replicate, eqb, ltb}
 use Rattle.std.proofs.Math.Option.{none}
 use Rattle.records.specs.Got.{Got, got, bad}
 use Rattle.decimals.specs.Bytes.{run, same_bytes}
@@ -47,6 +47,10 @@ seek_from image places x (suc n) j = either (suits image x (get_or places j 0)) 
 -- an id's slot
 unfoldable pub seek_of : List ℕ → List ℕ → List ℕ → ℕ
 seek_of image places x = seek_from image places x 8 (slot_of x)
+
+-- a slot, if it is one of the table
+unfoldable pub if_slot : ℕ → Option ℕ
+if_slot h = cond (ltb h 8200) (Some h) None
 
 -- what a table has for an id
 abbrev pub slotted : List ℕ → List ℕ → List ℕ → ℕ

@@ -1,21 +1,21 @@
 -- What one write and one error more do in a world: the action that the definition has for each. The callers of the writers cite these.
-use mathlib.Core.Path.{◌≡◌, refl, ap, sym, subst}
+use Rattle.state.specs.Progress.{refused_of}
+use mathlib.Core.Path.{◌≡◌, refl, ap, sym, subst, ◌∙◌}
 use mathlib.Core.List.{List, [], ◌∷◌, ◌++◌}
 use mathlib.Core.Bool.{Bool, true, false}
-use mathlib.Core.Option.{none}
+use mathlib.Core.Option.{Option, none}
 use Prim.Native.Nat.{ℕ, ◌+◌, ◌≤◌}
-use native.Mathlib.Omega.{arith}
 use lib.ListN.{length}
 use lib.Dec.{leb, eqb}
 use borrow.Author.Tests.{leb-true, leb-false, eqb-true, eqb-false}
 use Rattle.numbers.specs.Value.{Value, value_text}
 use Rattle.records.specs.Errors.{Error, Referred, no_value, reference, enc_error, too_many_placeables}
 use Rattle.buffers.proofs.Place.{paste_over, appended_fits, appended_full}
-use Rattle.records.specs.Optional.{option_of}
+use Rattle.resolver.proofs.Attributes.{Short, short_none}
 use Rattle.texts.specs.Relations.Report.{plain_of, recorded}
 use Rattle.texts.specs.declared.errors.Plain.{Plain}
 use Rattle.texts.specs.declared.errors.Plain.TheVariants as plain
-use Rattle.state.specs.Progress.{Progress}
+use Rattle.state.specs.declared.Progress.{Progress}
 use Rattle.values.specs.declared.Value as CodeValue
 use Rattle.state.specs.Setters.{begun_s}
 use Rattle.writes.specs.Written.{text_after, work_after, list_after, has_room, written, written_all, written_where, listed, listed_missing}
@@ -35,14 +35,14 @@ module _ (b x w : List ℕ) (st : Progress) (i l t : List ℕ) where
   abbrev After : List ℕ × List ℕ × Progress → Type 0
   After p = Acts (write b) (world i x l w t st) (world i p.0 l p.1 t p.2)
 
-  aside : st.refused ≡ 0 → st.aside ≡ true → (q : Bool) → has_room st (length b) (length w) ≡ q → After (written b x w st)
+  aside : (refused_of st) ≡ 0 → st.aside ≡ true → (q : Bool) → has_room st (length b) (length w) ≡ q → After (written b x w st)
   unfolding work_after
   aside z a true h =
       let r = room_is st (length b) (length w) h in
       subst After (written_aside_law b x w st z a (work_in b w st refl h refl refl)) (put_work_law i x l w t st b z a r.0 r.1 (sym (paste_over w st.front b)) refl)
   aside z a false h = subst After (written_aside_law b x w st z a (work_out b w st refl h refl)) (put_work_full i x l w t st b z a (room_short st (length b) (length w) h) refl)
 
-  direct : st.refused ≡ 0 → st.aside ≡ false → (q : Bool) → leb (st.text_at + length b) (length x) ≡ q → After (written b x w st)
+  direct : (refused_of st) ≡ 0 → st.aside ≡ false → (q : Bool) → leb (st.text_at + length b) (length x) ≡ q → After (written b x w st)
   unfolding text_after
   direct z a true h =
       let r = leb-true _ _ h in
@@ -52,9 +52,9 @@ module _ (b x w : List ℕ) (st : Progress) (i l t : List ℕ) where
       subst After (written_text b x w st z a (appended_full x st.text_at b r) refl) (put_text_full i x l w t st b z a r refl)
 
   written_after : After (written b x w st)
-  written_after = go (eqb st.refused 0) refl st.aside refl
+  written_after = go (eqb (refused_of st) 0) refl st.aside refl
     where
-      go : (p : Bool) → eqb st.refused 0 ≡ p → (q : Bool) → st.aside ≡ q → After (written b x w st)
+      go : (p : Bool) → eqb (refused_of st) 0 ≡ p → (q : Bool) → st.aside ≡ q → After (written b x w st)
       go true e true a = aside (eqb-true _ _ e) a (has_room st (length b) (length w)) refl
       go true e false a = direct (eqb-true _ _ e) a (leb (st.text_at + length b) (length x)) refl
       go false e q a = subst After (written_over b x w st (eqb-false _ _ e)) (acts_over (write b) (world i x l w t st) (eqb-false _ _ e))
@@ -98,20 +98,20 @@ module _ (er : Error) (l : List ℕ) (st : Progress) (i x w t : List ℕ) where
   abbrev Lists : List ℕ × Progress → Type 0
   Lists p = Acts (emit (report er)) (world i x l w t st) (world i x p.0 w t p.1)
 
-  next : st.refused ≡ 0 → ((recorded l st.list_at er).1, list_after (recorded l st.list_at er).0 st) ≡ listed er l st
+  next : (refused_of st) ≡ 0 → ((recorded l st.list_at er).1, list_after (recorded l st.list_at er).0 st) ≡ listed er l st
   next z = listed_next er l st z refl refl
 
   kept_after : Keeps (listed er l st)
-  kept_after = go (eqb st.refused 0) refl
+  kept_after = go (eqb (refused_of st) 0) refl
     where
-      go : (p : Bool) → eqb st.refused 0 ≡ p → Keeps (listed er l st)
+      go : (p : Bool) → eqb (refused_of st) 0 ≡ p → Keeps (listed er l st)
       go true e = subst Keeps (next (eqb-true _ _ e)) (record_kept i x l w t st er (eqb-true _ _ e) refl refl)
       go false e = subst Keeps (listed_over er l st (eqb-false _ _ e)) (kept_same _)
 
   listed_after : length (enc_error er) ≤ 65537 → Lists (listed er l st)
-  listed_after h = go (eqb st.refused 0) refl
+  listed_after h = go (eqb (refused_of st) 0) refl
     where
-      go : (p : Bool) → eqb st.refused 0 ≡ p → Lists (listed er l st)
+      go : (p : Bool) → eqb (refused_of st) 0 ≡ p → Lists (listed er l st)
       go true e = subst Lists (next (eqb-true _ _ e)) (record_listed i x l w t st er (eqb-true _ _ e) refl refl h)
       go false e = subst Lists (listed_over er l st (eqb-false _ _ e)) (acts_over (emit (report er)) (world i x l w t st) (eqb-false _ _ e))
 
@@ -130,14 +130,17 @@ pub no_value_acts : (n : List ℕ) {l l' : List ℕ} {st r : Progress} → (l', 
     → ((i x w t : List ℕ) → Kept (world i x l w t st) (world i x l' w t r)) × (length n ≤ 255 → (i x w t : List ℕ) → Acts (emit (report (no_value n))) (world i x l w t st) (world i x l' w t r))
 no_value_acts n e = (listed_kept (no_value n) e, λ h. listed_acts (no_value n) e (no_value_short n h))
 
-pub reference_acts : (k : Referred) (n : List ℕ) (has : Bool) (m : List ℕ) {l l' : List ℕ} {st r : Progress} → (l', r) ≡ listed (reference k n (option_of has m)) l st
-    → ((i x w t : List ℕ) → Kept (world i x l w t st) (world i x l' w t r)) × (length n ≤ 255 → length m ≤ 255 → (i x w t : List ℕ) → Acts (emit (report (reference k n (option_of has m)))) (world i x l w t st) (world i x l' w t r))
-reference_acts k n has m e = (listed_kept (reference k n (option_of has m)) e, λ h g. listed_acts (reference k n (option_of has m)) e (reference_short k n has m h g))
+pub reference_acts : (k : Referred) (n : List ℕ) (o : Option (List ℕ)) {l l' : List ℕ} {st r : Progress} → (l', r) ≡ listed (reference k n o) l st
+    → ((i x w t : List ℕ) → Kept (world i x l w t st) (world i x l' w t r)) × (length n ≤ 255 → Short o → (i x w t : List ℕ) → Acts (emit (report (reference k n o))) (world i x l w t st) (world i x l' w t r))
+reference_acts k n o e = (listed_kept (reference k n o) e, λ h g. listed_acts (reference k n o) e (reference_short k n o h g))
+
+-- the same record, its attribute under another name
+pub listed_as : (k : Referred) (n : List ℕ) {o q : Option (List ℕ)} (l : List ℕ) {l' : List ℕ} (st : Progress) {r : Progress} → o ≡ q → (l', r) ≡ listed (reference k n o) l st → (l', r) ≡ listed (reference k n q) l st
+listed_as k n l st h e = e ∙ ap (λ (x : Option (List ℕ)). listed (reference k n x) l st) h
 
 pub bare_acts : (k : Referred) (n : List ℕ) {l l' : List ℕ} {st r : Progress} → (l', r) ≡ listed (reference k n none) l st
     → ((i x w t : List ℕ) → Kept (world i x l w t st) (world i x l' w t r)) × (length n ≤ 255 → (i x w t : List ℕ) → Acts (emit (report (reference k n none))) (world i x l w t st) (world i x l' w t r))
-unfolding option_of
-bare_acts k n e = let f = reference_acts k n false [] e in (f.0, λ h. f.1 h (omega arith))
+bare_acts k n e = let f = reference_acts k n none e in (f.0, λ h. f.1 h short_none)
 
 pub too_many_acts : {l l' : List ℕ} {st r : Progress} → (l', r) ≡ listed too_many_placeables l (begun_s 101 true st) → TooMany l st l' r
 unfolding plain_of

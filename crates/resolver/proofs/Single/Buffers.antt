@@ -1,8 +1,10 @@
 -- What the writers of lent buffers leave, as the steps of writing and listing want it.
+use Rattle.state.specs.Progress.{refused_of}
 use mathlib.Core.Path.{◌≡◌, refl, ap, sym, subst, ◌∙◌}
 use mathlib.Core.List.{List, [], ◌++◌}
-use mathlib.Core.Bool.{Bool, true, false}
+use mathlib.Core.Bool.{true, false}
 use mathlib.Core.Logic.{⊎_elim, ◌⊎◌, inl, inr}
+use mathlib.Core.Option.{Option, some, none}
 use Prim.Native.Nat.{ℕ, ◌+◌, ◌≤◌, ◌<◌, min}
 use native.Mathlib.Omega.{arith}
 use lib.ListN.{length, take, drop}
@@ -14,15 +16,15 @@ use Rattle.decimals.specs.declared.types.Number as CodeNumber
 use Rattle.decimals.proofs.Shown.{count_there}
 use Rattle.decimals.proofs.Writing.{ranged_in}
 use Rattle.records.specs.Errors.{Error, Referred, no_value, reference, enc_error}
-use Rattle.records.specs.Optional.{option_of}
+use Rattle.resolver.proofs.Attributes.{Short}
 use Rattle.texts.specs.Relations.Report.{plain_of, room_for, recorded}
 use Rattle.texts.specs.declared.errors.Plain.{Plain}
-use Rattle.buffers.specs.declared.Wrote.{Wrote}
-use Rattle.buffers.specs.declared.Wrote.TheVariants as wrote
+use Rattle.buffers.specs.Relations.Append.{Wrote, full}
+use Rattle.std.specs.Prelude.{Ok, Err}
 use Rattle.buffers.proofs.Place.{length_over, take_over, drop_over}
 use Rattle.texts.proofs.Recording.{room_by_size, recorded_at, recorded_no, plain_length, no_value_length, bare_length, attribute_length}
 use Rattle.resolution.specs.Effect.{report, emit}
-use Rattle.state.specs.Progress.{Progress}
+use Rattle.state.specs.declared.Progress.{Progress}
 use Rattle.values.specs.declared.Value as CodeValue
 use Rattle.values.specs.declared.Value.TheVariants as val
 use Rattle.arguments.specs.Relations.Given.{between}
@@ -34,15 +36,15 @@ use Rattle.writes.proofs.Laws.{list_at, list_full as list-full-at}
 use Rattle.resolver.proofs.Single.Puts.{le_or_lt, list_full, list_in, error_some}
 
 -- what a writer answers
-wrote_or : (a : Wrote) → ((e : ℕ) × (a ≡ wrote.At e)) ⊎ (a ≡ wrote.Full)
-wrote_or (wrote.At e) = inl (e, refl)
-wrote_or wrote.Full = inr refl
+wrote_or : (a : Wrote) → ((e : ℕ) × (a ≡ Ok e)) ⊎ (a ≡ full)
+wrote_or (Ok e) = inl (e, refl)
+wrote_or (Err x) = inr refl
 
 -- a record on the list, or no room for it
 listed_begun : (a : Wrote) (st : Progress) → (list_after a st).begun ≡ st.begun
 unfolding list_after
-listed_begun (wrote.At e) st = refl
-listed_begun wrote.Full st = refl
+listed_begun (Ok e) st = refl
+listed_begun (Err x) st = refl
 
 no_room : (size at n : ℕ) → n ≤ 65537 → room_for size at n ≡ false → min size 4294967295 < at + n
 no_room size at n h e =
@@ -50,21 +52,21 @@ no_room size at n h e =
     (λ (f : 4294967295 < at + n). omega arith)
     (le_or_lt (at + n) 4294967295)
 
-module _ (i x l w t : List ℕ) (st : Progress) (er : Error) {l' : List ℕ} {a : Wrote} {r : Progress} (z : st.refused ≡ 0) (is : (a, l') ≡ recorded l st.list_at er) (e : r ≡ list_after a st) where
+module _ (i x l w t : List ℕ) (st : Progress) (er : Error) {l' : List ℕ} {a : Wrote} {r : Progress} (z : (refused_of st) ≡ 0) (is : (a, l') ≡ recorded l st.list_at er) (e : r ≡ list_after a st) where
   pub record_kept : Kept (world i x l w t st) (world i x l' w t r)
   record_kept = let b : r.begun ≡ st.begun = ap (λ (s : Progress). s.begun) e ∙ listed_begun a st in record { begun = omega arith; over = λ f. absurd (f z) }
 
   pub record_listed : length (enc_error er) ≤ 65537 → Acts (emit (report er)) (world i x l w t st) (world i x l' w t r)
   record_listed h =
       ⊎_elim
-      (λ (q : (p : ℕ) × (a ≡ wrote.At p)).
+      (λ (q : (p : ℕ) × (a ≡ Ok p)).
       let g = recorded_at l st.list_at er is q.1 in
       let len : length l' ≡ length l = ap length g.3 ∙ length_over l st.list_at (enc_error er) g.0 in
       let front : take (st.list_at + length (enc_error er)) l' ≡ take st.list_at l ++ enc_error er = ap (take (st.list_at + length (enc_error er))) g.3 ∙ take_over l st.list_at (enc_error er) (let k = g.0 in omega arith) in
       let rest : drop (st.list_at + length (enc_error er)) l' ≡ drop (st.list_at + length (enc_error er)) l = ap (drop (st.list_at + length (enc_error er))) g.3 ∙ drop_over l st.list_at (enc_error er) (let k = g.0 in omega arith) in
       let s : list_s (st.list_at + length (enc_error er)) (min (st.errors + 1) max_unfound) st ≡ r = sym (e ∙ sym (list_at st q.1 refl) ∙ ap (λ (n : ℕ). list_s n (min (st.errors + 1) max_unfound) st) g.2) in
       subst (λ (v : Progress). Acts (emit (report er)) (world i x l w t st) (world i x l' w t v)) s (list_in i x l w t st er refl z (error_some er) g.0 g.1 refl len front rest))
-      (λ (q : a ≡ wrote.Full).
+      (λ (q : a ≡ full).
       let g = recorded_no l st.list_at er is q in
       let full = no_room (length l) st.list_at (length (enc_error er)) h g.0 in
       subst (λ (y : List ℕ). Acts (emit (report er)) (world i x l w t st) (world i x y w t r)) (sym g.1) (list_full i x l w t st er z (λ _ _. full) (e ∙ sym (list-full-at st q refl))))
@@ -77,10 +79,9 @@ plain_short k = let a = plain_length k in omega arith
 pub no_value_short : (n : List ℕ) → length n ≤ 255 → length (enc_error (no_value n)) ≤ 65537
 no_value_short n h = let a = no_value_length n in omega arith
 
-pub reference_short : (k : Referred) (n : List ℕ) (has : Bool) (m : List ℕ) → length n ≤ 255 → length m ≤ 255 → length (enc_error (reference k n (option_of has m))) ≤ 65537
-unfolding option_of
-reference_short k n true m h g = let a = attribute_length n k m in omega arith
-reference_short k n false m h g = let a = bare_length n k in omega arith
+pub reference_short : (k : Referred) (n : List ℕ) (o : Option (List ℕ)) → length n ≤ 255 → Short o → length (enc_error (reference k n o)) ≤ 65537
+reference_short k n (some m) h g = let a = attribute_length n k m in let b = g m refl in omega arith
+reference_short k n none h g = let a = bare_length n k in omega arith
 
 -- the text of a number that the code holds
 pub shown_text_law : (x : Number) → in_range x ≡ true → ranged_text (told (shown x)) ≡ value_text (numeric x)

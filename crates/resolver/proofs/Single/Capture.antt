@@ -1,4 +1,5 @@
 -- A text of its own in the workspace: made aside at the front, then moved to the back.
+use Rattle.state.specs.Progress.{refused_of}
 use mathlib.Core.Path.{◌≡◌, refl, ap, sym, ◌∙◌}
 use mathlib.Core.List.{List, [], ◌∷◌, ◌++◌}
 use mathlib.Core.Bool.{true}
@@ -14,7 +15,7 @@ use Rattle.buffers.specs.Relations.Append.{Keeps}
 use Rattle.resolution.specs.Effect.{Bytes, keep_text, State, Out, M, Done, ret, capture}
 use Rattle.resolution.specs.Resolve.{held}
 use Rattle.resolution.specs.Exec.{Machine, Limits, exec, and_then, step}
-use Rattle.state.specs.Progress.{Progress}
+use Rattle.state.specs.declared.Progress.{Progress}
 use Rattle.values.specs.declared.Value.TheVariants as val
 use Rattle.resolver.specs.Relations.Meets.{World, world, Live, LocalsStay, locals_same, locals_cleared, Moved, Ended, ended, stopped, if_aside, Holds, in_work}
 use Rattle.state.specs.Setters.{aside_s, kept_s}
@@ -99,7 +100,7 @@ module _ (i x l w t : List ℕ) (st : Progress) (u : World) where
     abbrev pub w4 : World
     w4 = world u.store u.text u.list w3 u.trail (kept_s st.front to st.aside u.st)
 
-    pub ended_capture : (m : M Done) (L : Limits) (s : State) (k : Machine) → u.st.refused ≡ 0 → Live L w0 s k → Ended L w1 u (m s) (opened k) → Ended L w0 w4 (capture m s) k
+    pub ended_capture : (m : M Done) (L : Limits) (s : State) (k : Machine) → (refused_of u.st) ≡ 0 → Live L w0 s k → Ended L w1 u (m s) (opened k) → Ended L w0 w4 (capture m s) k
     unfolding capture exec step and_then
     ended_capture m L s k z lw (ended k' e lv nn mv) =
         let md = made (m s) lw lv mv in
@@ -149,7 +150,7 @@ module _ (i x l w t : List ℕ) (st : Progress) (u : World) where
         })
     ended_capture m L s k z lw (stopped c e nz r) = absurd (nz (sym r ∙ z))
 
-    pub holds_capture : (j a : List ℕ) (m : M Done) (L : Limits) (s : State) (k : Machine) → u.st.refused ≡ 0 → Live L w0 s k → Ended L w1 u (m s) (opened k) → Holds j a w3 to (val.Work to u.st.back) (textual (m s).text)
+    pub holds_capture : (j a : List ℕ) (m : M Done) (L : Limits) (s : State) (k : Machine) → (refused_of u.st) ≡ 0 → Live L w0 s k → Ended L w1 u (m s) (opened k) → Holds j a w3 to (val.Work to u.st.back) (textual (m s).text)
     holds_capture j a m L s k z lw (ended k' e lv nn mv) =
         let md = made (m s) lw lv mv in
         let a1 = md.sum in let a2 = md.low in let a3 = md.high in let sz = kp.size in
@@ -160,13 +161,13 @@ module _ (i x l w t : List ℕ) (st : Progress) (u : World) where
     holds_capture j a m L s k z lw (stopped c e nz r) = absurd (nz (sym r ∙ z))
 
   -- the text was not made
-  pub capture_stopped : (m : M Done) (L : Limits) (s : State) (k : Machine) → (u.st.refused ≡ 0 → ⊥) → Ended L w1 u (m s) (opened k) → Ended L w0 u (capture m s) k
+  pub capture_stopped : (m : M Done) (L : Limits) (s : State) (k : Machine) → ((refused_of u.st) ≡ 0 → ⊥) → Ended L w1 u (m s) (opened k) → Ended L w0 u (capture m s) k
   unfolding capture exec step and_then
   capture_stopped m L s k f (ended k' e lv nn mv) = absurd (f lv.go)
   capture_stopped m L s k f (stopped c e nz r) = stopped c (exec_append L (m s).trace (keep_text ∷ []) (opened k) ∙ rw e) nz r
 
   -- where it was, it lies as it should
-  pub capture_lies : (m : M Done) (L : Limits) (s : State) (k : Machine) → u.st.refused ≡ 0 → Live L w0 s k → Ended L w1 u (m s) (opened k) → (st.front ≤ u.st.front) × (u.st.front ≤ u.st.back) × (u.st.back ≤ length u.work)
+  pub capture_lies : (m : M Done) (L : Limits) (s : State) (k : Machine) → (refused_of u.st) ≡ 0 → Live L w0 s k → Ended L w1 u (m s) (opened k) → (st.front ≤ u.st.front) × (u.st.front ≤ u.st.back) × (u.st.back ≤ length u.work)
   capture_lies m L s k z lw (ended k' e lv nn mv) = let md = made (m s) lw lv mv in let a1 = md.sum in (omega arith, md.low, md.high)
   capture_lies m L s k z lw (stopped c e nz r) = absurd (nz (sym r ∙ z))
 

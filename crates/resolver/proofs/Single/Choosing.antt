@@ -1,4 +1,5 @@
 -- Steps of choosing a variant: the value that chooses, and the choice that the definition makes by it.
+use Rattle.records.specs.Relations.Answer.{Next}
 use mathlib.Core.Path.{◌≡◌, refl, ap, sym, subst, ◌∙◌}
 use mathlib.Core.List.{List}
 use mathlib.Core.Option.{Option}
@@ -6,7 +7,6 @@ use Prim.Native.Nat.{ℕ}
 use Rattle.decimals.specs.Relations.Shown.{shown, told}
 use Rattle.decimals.specs.declared.types.Number as CodeNumber
 use Rattle.numbers.specs.Value.{Value, textual, numeric}
-use Rattle.records.specs.declared.Next.{Next}
 use Rattle.records.specs.Got.{got}
 use Rattle.records.specs.Images.{Store, store_of}
 use Rattle.arguments.specs.Relations.Given.{between}
@@ -87,7 +87,3 @@ module _ (i a w : List ℕ) (at : ℕ) (c : CodeValue.Value) (r : Next) where
 
   pub choice_is : ((st : Store) (f : ℕ) → store_of i ≡ got st f → ByHeld st.locale) → Choice
   choice_is h v low st f hc hs = held_picks st.locale low v hc (h st f hs)
-
--- the choice by a value that was told is the choice by where it was told from
-pub choice_held : (i a w : List ℕ) (at : ℕ) (r : Next) {c d : CodeValue.Value} → c ≡ d → Choice i a w at c r → Choice i a w at d r
-choice_held i a w at r e h v low st f hc hs = h v low st f (subst (λ (y : CodeValue.Value). Holds i a w low y v) (sym e) hc) hs

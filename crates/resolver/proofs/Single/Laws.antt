@@ -7,7 +7,7 @@ use native.Mathlib.Omega.{arith}
 use native.Mathlib.Nat.{le_trans}
 use lib.ListN.{take, drop}
 use lib.Seq.{drop-drop}
-use Rattle.state.specs.Progress.{Progress}
+use Rattle.state.specs.declared.Progress.{Progress}
 use Rattle.resolution.specs.Effect.{Bytes, Trace, State, Out, M, ret, ◌>>=◌, ◌>>◌, is_dirty}
 use Rattle.resolution.specs.Exec.{Machine, Limits, Ran, ran, refused, exec, and_then, step}
 use Rattle.resolver.specs.Relations.Meets.{World, Live, LocalsStay, locals_same, locals_cleared, Outs, Moved, Ended, ended, stopped, Runs, Kept, Acts, trail_of, if_aside, Env}

@@ -27,11 +27,8 @@ use Rattle.arguments.specs.Relations.Given.{between}
 use Rattle.arguments.proofs.Laws.{between_in}
 use Rattle.values.specs.declared.Value as CodeValue
 use Rattle.values.specs.declared.Value.TheVariants as val
-use Rattle.values.specs.declared.Local as CodeLocal
-use Rattle.values.specs.declared.Local.TheVariants as loc
+use Rattle.std.specs.Prelude as rust
 use Rattle.resolver.specs.declared.scope.value.NamedSpan.{NamedSpan}
-use Rattle.resolver.specs.declared.scope.value.NamedRead as CodeNamed
-use Rattle.resolver.specs.declared.scope.value.NamedRead.TheVariants as named
 use Rattle.resolver.specs.Relations.Meets.{takes, literal_text, named_texts, TextIn, NamedIn, named_more, in_store, in_work, a_number}
 use Rattle.resolver.specs.Relations.Leaves.{LocalIs, is_there, is_missing}
 use Rattle.resolver.specs.Relations.Values.{literal_valued, LiteralIs, a_string, is_digits, NamedReads, TakenAt, LiteralAt}
@@ -49,14 +46,14 @@ number_ruled s at h c = ruled_elim is_number s at h c
 
 -- reading a named argument
 module _ (s : List ℕ) (at : ℕ) where
-  unread_as : ((x : List ℕ × Literal) (f : ℕ) → named_at s at ≡ got x f → ⊥) → NamedReads s at named.Bad
+  unread_as : ((x : List ℕ × Literal) (f : ℕ) → named_at s at ≡ got x f → ⊥) → NamedReads s at rust.None
   unread_as h = record {
     inside = λ n q. let z : ◌≡◌ {A = ℕ} 0 1 = cc in absurd (omega arith);
     reads = λ n q. let z : ◌≡◌ {A = ℕ} 0 1 = cc in absurd (omega arith);
     unread = λ _. h;
   }
 
-  pub read_no_name : span_at s at ≡ bad → NamedReads s at named.Bad
+  pub read_no_name : span_at s at ≡ bad → NamedReads s at rust.None
   read_no_name g = unread_as (λ x f h. named_elim s at h (λ n p l hn hl w. id_elim s at hn (λ q hs _ _. never g hs)))
 
   module _ {b q : ℕ} (hn : span_at s at ≡ got b q) where
@@ -66,11 +63,11 @@ module _ (s : List ℕ) (at : ℕ) where
         c (ap (λ (y : List ℕ × Literal). y.0) w ∙ en ∙ ap (λ (j : ℕ). part s j (p - j)) (sym eb) ∙ ap (λ (j : ℕ). part s b (j - b)) (sym eq))
         (subst (λ (j : ℕ). literal_at s j ≡ got x.1 f) (sym eq) (hl ∙ ap (λ (y : List ℕ × Literal). got y.1 f) (sym w))))))
 
-    pub read_no_tag : byte_at s q ≡ bad → NamedReads s at named.Bad
+    pub read_no_tag : byte_at s q ≡ bad → NamedReads s at rust.None
     read_no_tag g = unread_as (λ x f h. named_parts h (λ _ hl. literal_elim s q hl (λ p t hb _ _. never g hb) (λ p t hb _ _. never g hb)))
 
     module _ {tag p : ℕ} (hb : byte_at s q ≡ got tag p) where
-      pub read_no_text : span_at s p ≡ bad → NamedReads s at named.Bad
+      pub read_no_text : span_at s p ≡ bad → NamedReads s at rust.None
       read_no_text g = unread_as (λ x f h. named_parts h (λ _ hl. literal_elim s q hl
           (λ p' t hb' ht _. both hb hb' (λ _ ep. string_ruled s p' ht (λ a hs _ _. never (ap (span_at s) (sym ep) ∙ g) hs)))
           (λ p' t hb' ht _. both hb hb' (λ _ ep. number_ruled s p' ht (λ a hs _ _. never (ap (span_at s) (sym ep) ∙ g) hs)))))
@@ -84,7 +81,7 @@ module _ (s : List ℕ) (at : ℕ) where
             let y : t ≡ part s a (e - a) = ew ∙ ap (λ (j : ℕ). part s j (f - j)) (sym ea) ∙ ap (λ (j : ℕ). part s a (j - a)) (sym ee) in
             (en, sym ee, is_digits et (ap is_number (sym y) ∙ ok) (w ∙ ap Literal.number y)))))))
 
-        pub read_all : {r : NamedSpan} → r ≡ record { from = b; to = q; tag = tag; start = a; end = e } → NamedReads s at (named.Is r)
+        pub read_all : {r : NamedSpan} → r ≡ record { from = b; to = q; tag = tag; start = a; end = e } → NamedReads s at (rust.Some r)
         read_all {r} er =
             let i = span_in s at hn in
             let j = span_in s p ht in
@@ -94,7 +91,7 @@ module _ (s : List ℕ) (at : ℕ) where
               unread = λ h. let z : ◌≡◌ {A = ℕ} 0 1 = cc in absurd (omega arith);
             }
           where
-            same : {m n : NamedSpan} → named.Is m ≡ named.Is n → m ≡ n
+            same : {m n : NamedSpan} → rust.Some m ≡ rust.Some n → m ≡ n
             same h = cc
 
 -- the bytes that a literal takes
@@ -184,20 +181,20 @@ pub seek_start : {s : List ℕ} (a : List ℕ) {w : List ℕ} {low f : ℕ} (nam
 seek_start a name {ns = ns} h n = record { rest = ns; left = h; texts = n; same = refl }
 
 module _ {s a w : List ℕ} {low f : ℕ} {name : Bytes} {i p end : ℕ} {whole : Option Value} (k : Seeks s a w low f name i p end whole) where
-  pub seek_end : i ≤ 0 → {found : CodeLocal.Local} → found ≡ loc.Missing → LocalIs s a w low found whole
+  pub seek_end : i ≤ 0 → {found : rust.Option CodeValue.Value} → found ≡ rust.None → LocalIs s a w low found whole
   seek_end z q = many_nil [] ◌∷◌ named_at s i p z k.left (λ e _. is_missing q (k.same ∙ ap (λ (l : Named). first_named name (named_texts l)) e ∙ seek_nil name))
 
-  module _ {r : CodeNamed.NamedRead} (z : 0 < i) (read : NamedReads s p r) where
-    pub seek_never : {C : Type 0} → r ≡ named.Bad → C
+  module _ {r : rust.Option NamedSpan} (z : 0 < i) (read : NamedReads s p r) where
+    pub seek_never : {C : Type 0} → r ≡ rust.None → C
     seek_never h = named_never s p read i z k.left h
 
-    module _ {sp : NamedSpan} (h : r ≡ named.Is sp) where
+    module _ {sp : NamedSpan} (h : r ≡ rust.Some sp) where
       seek_with : {C : Type 0} → ((x : List ℕ × Literal) (t : Named) → x.0 ≡ part s sp.from (sp.to - sp.from) → LiteralIs s sp.tag sp.start sp.end x.1 → many [] ◌∷◌ (i - 1) named_at s sp.end ≡ got t f
           → NamedIn w low end (x ∷ t) → whole ≡ first_named name (named_texts (x ∷ t)) → C) → C
       seek_with c = named_first s p read i z k.left h (λ x t en li ht e.
           c x t en li ht (subst (NamedIn w low end) e k.texts) (k.same ∙ ap (λ (l : Named). first_named name (named_texts l)) e))
 
-      pub seek_here : {found : CodeLocal.Local} {c : CodeValue.Value} → same_bytes (part s sp.from (sp.to - sp.from)) name ≡ true → LiteralAt s sp.tag sp.start sp.end end c → found ≡ loc.Is c
+      pub seek_here : {found : rust.Option CodeValue.Value} {c : CodeValue.Value} → same_bytes (part s sp.from (sp.to - sp.from)) name ≡ true → LiteralAt s sp.tag sp.start sp.end end c → found ≡ rust.Some c
           → LocalIs s a w low found whole
       seek_here {found} {c} yt la ef = seek_with (λ x t en li ht ni same.
           let q = named_uncons ni in
@@ -221,3 +218,7 @@ module _ {s a w : List ℕ} {low f : ℕ} {name : Bytes} {i p end : ℕ} {whole 
               texts = subst (λ (j : ℕ). NamedIn w low (end - j) t) (sym (taken_is x li)) q.3;
               same = same ∙ seek_past name x t (ap (λ (b : Bytes). same_bytes b name) en ∙ nt);
             })
+
+-- what was read, under another name
+pub named_as : {s : List ℕ} {at : ℕ} {r q : rust.Option NamedSpan} → r ≡ q → NamedReads s at q → NamedReads s at r
+named_as {s} {at} e h = subst (λ (x : rust.Option NamedSpan). NamedReads s at x) (sym e) h

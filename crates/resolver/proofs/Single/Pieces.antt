@@ -16,13 +16,12 @@ use Rattle.arguments.specs.Relations.Given.{between, between_if}
 use Rattle.arguments.proofs.Laws.{between_in}
 use Rattle.resolution.specs.Effect.{Bytes, write}
 use Rattle.resolution.specs.Resolve.{dotted, braced, error_text}
-use Rattle.state.specs.Progress.{Progress}
+use Rattle.state.specs.declared.Progress.{Progress}
 use Rattle.state.specs.declared.Referring.{Referring}
-use Rattle.state.specs.declared.Reference as CodeReference
-use Rattle.state.specs.declared.Reference.TheVariants as ref
+use Rattle.std.specs.Prelude as rust
 use Rattle.resolver.specs.declared.scope.error.Pieces.{Pieces}
 use Rattle.resolver.specs.Relations.Meets.{World, world, Acts}
-use Rattle.resolver.specs.Relations.Leaves.{ErrorAt, error_words, pieces_text, nameless, parted_pieces, reference_pieces, PiecesAt, ReferenceIs, reads, unread}
+use Rattle.resolver.specs.Relations.Leaves.{ErrorAt, error_words, pieces_text, nameless, parted_pieces, reference_pieces, PiecesAt, ReferenceIs, span_if, reads, unread}
 use Rattle.resolver.proofs.Single.Laws.{append_nil}
 use Rattle.resolver.proofs.Single.Steps.{runs_as, acts_as}
 use Rattle.resolver.proofs.Single.Puts.{acts_join}
@@ -46,24 +45,24 @@ attributed h n a = simp append_assoc
 
 module _ (i : List ℕ) (h k from to start end : ℕ) (w n : Bytes) (lo : from ≤ to) (hi : to ≤ length i) (en : n ≡ part i from (to - from)) (ew : between error_words h k ≡ w) where
   parted : (has : Bool) (a : Option Bytes) → start ≤ end → end ≤ length i → a ≡ option_of has (part i start (end - start))
-      → w ++ (dotted n a ++ (125 ∷ [])) ≡ pieces_text error_words i (parted_pieces has h k (record { from = from; to = to; has = has; start = start; end = end }))
+      → w ++ (dotted n a ++ (125 ∷ [])) ≡ pieces_text error_words i (parted_pieces (span_if has start end) h k (record { from = from; to = to; attribute = span_if has start end; end = end }))
   unfolding parted_pieces option_of dotted between between_if
   parted true a l m e =
       let id : between i from to ≡ n = between_in i from to lo hi ∙ sym en in
-      let t = pieces_are i (parted_pieces true h k (record { from = from; to = to; has = true; start = start; end = end })) ew id refl (between_in i start end l m) in
+      let t = pieces_are i (parted_pieces (rust.Some (start, end)) h k (record { from = from; to = to; attribute = rust.Some (start, end); end = end })) ew id refl (between_in i start end l m) in
       ap (λ (o : Option Bytes). w ++ (dotted n o ++ (125 ∷ []))) e ∙ sym (t ∙ attributed w n (part i start (end - start)))
   parted false a l m e =
       let id : between i from to ≡ n = between_in i from to lo hi ∙ sym en in
-      let t = pieces_are i (parted_pieces false h k (record { from = from; to = to; has = false; start = start; end = end })) ew id refl (no_part i) in
+      let t = pieces_are i (parted_pieces rust.None h k (record { from = from; to = to; attribute = rust.None; end = end })) ew id refl (no_part i) in
       ap (λ (o : Option Bytes). w ++ (dotted n o ++ (125 ∷ []))) e ∙ sym (t ∙ bare_text w n)
 
 -- the text of a reference that was read
-reference_text : (i : List ℕ) (p h k : ℕ) (w : Bytes) (r : CodeReference.Reference) → between error_words h k ≡ w → ReferenceIs i p r
+reference_text : (i : List ℕ) (p h k : ℕ) (w : Bytes) (r : rust.Option Referring) → between error_words h k ≡ w → ReferenceIs i p r
     → (n : Bytes) (q : ℕ) (a : Option Bytes) (f : ℕ) → id_at i p ≡ got n q → optional_at id_at i q ≡ got a f → w ++ (dotted n a ++ (125 ∷ [])) ≡ pieces_text error_words i (reference_pieces h k r)
 unfolding reference_pieces
 reference_text i p h k w r ew (reads from to has start end er lo hi l m is) n q a f hn ha =
     let t = is n q a f hn ha in
-    parted i h k from to start end w n lo hi t.0 ew has a l m t.2 ∙ sym (ap (λ (y : CodeReference.Reference). pieces_text error_words i (reference_pieces h k y)) er)
+    parted i h k from to start end w n lo hi t.0 ew has a l m t.2 ∙ sym (ap (λ (y : rust.Option Referring). pieces_text error_words i (reference_pieces h k y)) er)
 reference_text i p h k w r ew (unread er nv) n q a f hn ha = absurd (nv n q a f hn ha)
 
 module _ (s : List ℕ) (at : ℕ) where
@@ -78,7 +77,7 @@ module _ (s : List ℕ) (at : ℕ) where
     }
 
     -- a message or a term: its name, and its attribute
-    pub pieces_message : {r : CodeReference.Reference} {q : Pieces} → tag ≡ 4 → ReferenceIs s p r → q ≡ reference_pieces 0 1 r → PiecesAt s at q
+    pub pieces_message : {r : rust.Option Referring} {q : Pieces} → tag ≡ 4 → ReferenceIs s p r → q ≡ reference_pieces 0 1 r → PiecesAt s at q
     unfolding braced error_text between between_if
     pieces_message {r} {q} k is eq = pieces_by (λ d i f b. go d i f b ∙ sym (ap (pieces_text error_words s) eq))
       where
@@ -91,7 +90,7 @@ module _ (s : List ℕ) (at : ℕ) where
         go d i f (is_variable n e q ew) = absurd (omega arith)
         go d i f (is_nested y e q ew) = absurd (omega arith)
 
-    pub pieces_term : {r : CodeReference.Reference} {q : Pieces} → tag ≡ 5 → ReferenceIs s p r → q ≡ reference_pieces 4 6 r → PiecesAt s at q
+    pub pieces_term : {r : rust.Option Referring} {q : Pieces} → tag ≡ 5 → ReferenceIs s p r → q ≡ reference_pieces 4 6 r → PiecesAt s at q
     unfolding braced error_text between between_if
     pieces_term {r} {q} k is eq = pieces_by (λ d i f b. go d i f b ∙ sym (ap (pieces_text error_words s) eq))
       where
@@ -150,13 +149,13 @@ module _ (s : List ℕ) (at : ℕ) where
         go d i f (is_variable n e q ew) = never (b6 e) (id_str s p q)
         go d i f (is_nested y e q ew) = rw ew
 
-pub reference_bad : (h k : ℕ) {r : CodeReference.Reference} → r ≡ ref.Bad → nameless ≡ reference_pieces h k r
+pub reference_bad : (h k : ℕ) {r : rust.Option Referring} → r ≡ rust.None → nameless ≡ reference_pieces h k r
 unfolding reference_pieces
 reference_bad h k e = rw e
 
-pub reference_is : (h k : ℕ) {r : CodeReference.Reference} {x : Referring} → r ≡ ref.Is x → {has : Bool} → x.has ≡ has → parted_pieces has h k x ≡ reference_pieces h k r
+pub reference_is : (h k : ℕ) {r : rust.Option Referring} {x : Referring} → r ≡ rust.Some x → {place : rust.Option (ℕ × ℕ)} → x.attribute ≡ place → parted_pieces place h k x ≡ reference_pieces h k r
 unfolding reference_pieces
-reference_is h k {x = x} e f = ap (λ (b : Bool). parted_pieces b h k x) (sym f) ∙ sym (ap (reference_pieces h k) e)
+reference_is h k {x = x} e f = ap (λ (b : rust.Option (ℕ × ℕ)). parted_pieces b h k x) (sym f) ∙ sym (ap (reference_pieces h k) e)
 
 -- the pieces written one after the other
 pub pieces_written : (w i : List ℕ) (p : Pieces) {h n j a : Bytes} {u v z : World} → h ≡ between w p.head p.head_end → n ≡ between i p.from p.to → j ≡ between w p.joint p.joint_end → a ≡ between i p.start p.end

@@ -1,4 +1,9 @@
 -- Steps of the leaves that write: a text, an error, a count.
+use Rattle.refusals.specs.declared.Refusal.{Refusal}
+use Rattle.refusals.specs.Numbers.{number_of}
+use Rattle.refusals.proofs.Numbers.{positive}
+use Rattle.state.specs.Progress.{refused_of}
+use Rattle.refusals.specs.declared.Refusal.TheVariants as refusal
 use mathlib.Core.Path.{◌≡◌, refl, ap, sym, subst, ◌∙◌}
 use mathlib.Core.List.{List, [], ◌∷◌, ◌++◌, append_assoc}
 use mathlib.Core.Bool.{Bool, true, false}
@@ -9,7 +14,7 @@ use lib.Seq.{paste, take-paste, drop-paste, length-paste, take-length, length-ta
 use lib.Dec.{leb}
 use mathlib.Core.Logic.{⊎_elim, ◌⊎◌, inl, inr}
 use borrow.Author.Tests.{le-leb, lt-leb, ltb-true, ltb-false, leb-true, leb-false}
-use Rattle.state.specs.Progress.{Progress}
+use Rattle.state.specs.declared.Progress.{Progress}
 use Rattle.records.specs.Bytes.{part, to_be}
 use Rattle.records.specs.Errors.{Error, enc_record, enc_error, enc_errors}
 use Rattle.records.specs.Encode.{enc_all, enc_whole}
@@ -28,19 +33,23 @@ le_or_lt a b = go (leb a b) refl
     go false e = inr (leb-false a b e)
 
 -- where the world was refused, nothing is asked but that it stays so
-pub acts_over : {A : Type 0} (m : M A) (w : World) → (w.st.refused ≡ 0 → ⊥) → Acts m w w
+pub acts_over : {A : Type 0} (m : M A) (w : World) → ((refused_of w.st) ≡ 0 → ⊥) → Acts m w w
 acts_over m w h = record { kept = kept_same w; runs = λ L s k l. absurd (h l.go) }
 
-module _ (i x l w t : List ℕ) (st : Progress) (n : ℕ) where
-  -- where every live machine refuses with n
-  pub acts_refuse : {A : Type 0} (m : M A) {r : Progress} → st.refused ≡ 0 → (n ≡ 0 → ⊥)
-      → ((L : Limits) (s : State) (k : Machine) → Live L (world i x l w t st) s k → exec L (m s).trace k ≡ refused n)
-      → r ≡ refuse_s n st → Acts m (world i x l w t st) (world i x l w t r)
-  acts_refuse m {r} z nz h e =
+-- a refusal is one
+pub refuse_some : (why : Refusal) (st : Progress) → refused_of (refuse_s why st) ≡ 0 → ⊥
+refuse_some why st q = let p = positive why in omega (arith, q)
+
+module _ (i x l w t : List ℕ) (st : Progress) (why : Refusal) where
+  -- where every live machine is refused
+  pub acts_refuse : {A : Type 0} (m : M A) {r : Progress} → (refused_of st) ≡ 0
+      → ((L : Limits) (s : State) (k : Machine) → Live L (world i x l w t st) s k → exec L (m s).trace k ≡ refused (number_of why))
+      → r ≡ refuse_s why st → Acts m (world i x l w t st) (world i x l w t r)
+  acts_refuse m {r} z h e =
       let b : r.begun ≡ st.begun = ap (λ (q : Progress). q.begun) e in
       record {
         kept = record { begun = omega arith; over = λ f. absurd (f z) };
-        runs = λ L s k lv. stopped n (h L s k lv) nz (ap (λ (q : Progress). q.refused) e);
+        runs = λ L s k lv. stopped (number_of why) (h L s k lv) (λ q. let p = positive why in omega (arith, q)) (ap (λ (q : Progress). (refused_of q)) e);
       }
 
 nest_none : {L : Limits} {w : World} {s : State} {k : Machine} → Live L w s k → w.st.aside ≡ false → k.nest ≡ 0
@@ -168,17 +177,17 @@ listed_length {w = w} {k = k} e l =
     omega arith
 
 module _ (i x l w t : List ℕ) (st : Progress) (b : Bytes) where
-  pub put_text_full : {r : Progress} → st.refused ≡ 0 → st.aside ≡ false → length x < st.text_at + length b → r ≡ refuse_s 15 st → Acts (write b) (world i x l w t st) (world i x l w t r)
-  unfolding write
-  put_text_full z a h e = acts_refuse i x l w t st 15 (write b) z (λ q. omega arith)
+  pub put_text_full : {r : Progress} → (refused_of st) ≡ 0 → st.aside ≡ false → length x < st.text_at + length b → r ≡ refuse_s refusal.ShortText st → Acts (write b) (world i x l w t st) (world i x l w t r)
+  unfolding write number_of
+  put_text_full z a h e = acts_refuse i x l w t st refusal.ShortText (write b) z
       (λ L s k lv. put_text_out L b k (nest_none lv a) (let p = lv.text_len in let q = written_length lv in omega arith)) e
 
-  pub put_work_full : {r : Progress} → st.refused ≡ 0 → st.aside ≡ true → ((st.front ≤ st.back) → st.back ≤ length w → st.back < st.front + length b) → r ≡ refuse_s 16 st → Acts (write b) (world i x l w t st) (world i x l w t r)
-  unfolding write
-  put_work_full z a h e = acts_refuse i x l w t st 16 (write b) z (λ q. omega arith)
+  pub put_work_full : {r : Progress} → (refused_of st) ≡ 0 → st.aside ≡ true → ((st.front ≤ st.back) → st.back ≤ length w → st.back < st.front + length b) → r ≡ refuse_s refusal.ShortWorkspace st → Acts (write b) (world i x l w t st) (world i x l w t r)
+  unfolding write number_of
+  put_work_full z a h e = acts_refuse i x l w t st refusal.ShortWorkspace (write b) z
       (λ L s k lv. put_work_out L b k (nest_some lv a) (let p = lv.work_len in let q = lv.uses in let i = lv.front_in in let j = lv.back_in in let o = h i j in omega arith)) e
 
-  pub put_text_law : {x' : List ℕ} → st.refused ≡ 0 → st.aside ≡ false → st.text_at + length b ≤ length x → x' ≡ paste x st.text_at b (length b) → Acts (write b) (world i x l w t st) (world i x' l w t (text_s (st.text_at + length b) st))
+  pub put_text_law : {x' : List ℕ} → (refused_of st) ≡ 0 → st.aside ≡ false → st.text_at + length b ≤ length x → x' ≡ paste x st.text_at b (length b) → Acts (write b) (world i x l w t st) (world i x' l w t (text_s (st.text_at + length b) st))
   unfolding write
   put_text_law {x'} z a h e =
       let len : length x' ≡ length x = ap length e ∙ length-paste x st.text_at b (length b) h (omega arith) in
@@ -226,7 +235,7 @@ module _ (i x l w t : List ℕ) (st : Progress) (b : Bytes) where
             });
       }
 
-  pub put_work_law : {w' : List ℕ} {h : ℕ} → st.refused ≡ 0 → st.aside ≡ true → st.front + length b ≤ st.back → st.back ≤ length w → w' ≡ paste w st.front b (length b)
+  pub put_work_law : {w' : List ℕ} {h : ℕ} → (refused_of st) ≡ 0 → st.aside ≡ true → st.front + length b ≤ st.back → st.back ≤ length w → w' ≡ paste w st.front b (length b)
       → h ≡ max st.high (st.front + length b + (length w - st.back)) → Acts (write b) (world i x l w t st) (world i x l w' t (front_s (st.front + length b) h st))
   unfolding write
   put_work_law {w'} {h} z a f g e hi =
@@ -314,10 +323,10 @@ errors_few (x ∷ es) = let a = errors_few es in let b = error_some x in let c =
 
 -- an error's record
 module _ (i x l w t : List ℕ) (st : Progress) (er : Error) where
-  pub list_full : {r : Progress} → st.refused ≡ 0 → (5 ≤ st.list_at → st.list_at ≤ length l → min (length l) 4294967295 < st.list_at + length (enc_error er)) → r ≡ refuse_s 7 st
+  pub list_full : {r : Progress} → (refused_of st) ≡ 0 → (5 ≤ st.list_at → st.list_at ≤ length l → min (length l) 4294967295 < st.list_at + length (enc_error er)) → r ≡ refuse_s refusal.ShortList st
       → Acts (emit (report er)) (world i x l w t st) (world i x l w t r)
-  unfolding emit exec step allow allow_if and_then list_limit
-  list_full z h e = acts_refuse i x l w t st 7 (emit (report er)) z (λ q. omega arith)
+  unfolding emit exec step allow allow_if and_then list_limit number_of
+  list_full z h e = acts_refuse i x l w t st refusal.ShortList (emit (report er)) z
       (λ L s k lv.
       let n = listed_length er lv in
       let a = h lv.header_in lv.list_in in
@@ -325,7 +334,7 @@ module _ (i x l w t : List ℕ) (st : Progress) (er : Error) where
       let o : min L.list_len 4294967295 < length (enc_errors (listed k.errors er)) = omega arith in
       rw (lt-leb _ _ o)) e
 
-  pub list_in : {l' : List ℕ} {n m : ℕ} → n ≡ st.list_at + length (enc_error er) → st.refused ≡ 0 → 1 ≤ length (enc_error er) → n ≤ length l → n ≤ 4294967295
+  pub list_in : {l' : List ℕ} {n m : ℕ} → n ≡ st.list_at + length (enc_error er) → (refused_of st) ≡ 0 → 1 ≤ length (enc_error er) → n ≤ length l → n ≤ 4294967295
       → m ≡ min (st.errors + 1) max_unfound → length l' ≡ length l → take n l' ≡ take st.list_at l ++ enc_error er → drop n l' ≡ drop n l
       → Acts (emit (report er)) (world i x l w t st) (world i x l' w t (list_s n m st))
   unfolding emit exec step allow allow_if and_then list_limit listed

@@ -20,12 +20,12 @@ use Rattle.records.proofs.Views.{both, never, id_elim, id_str, optional_elim, te
 use Rattle.records.specs.Optional.{option_of}
 use Rattle.resolution.specs.Effect.{Bytes, report, emit, write, ◌>>◌}
 use Rattle.resolution.specs.Resolve.{dotted, braced, error_text, write_ref_error}
-use Rattle.state.specs.Progress.{Progress}
+use Rattle.state.specs.declared.Progress.{Progress}
 use Rattle.state.specs.declared.Referring.{Referring}
-use Rattle.state.specs.declared.Reference as CodeReference
-use Rattle.state.specs.declared.Reference.TheVariants as ref
+use Rattle.std.specs.Prelude as rust
 use Rattle.resolver.specs.Relations.Meets.{world, Runs, Kept, Acts}
-use Rattle.resolver.specs.Relations.Leaves.{ErrorAt, RefErrorAt, ReferenceIs, reads, unread}
+use Rattle.resolver.specs.Relations.Leaves.{ErrorAt, RefErrorAt, ReferenceIs, attribute_in, span_if, reads, unread}
+use Rattle.resolver.proofs.Attributes.{Short, span_attribute, span_short}
 use Rattle.resolver.proofs.Single.Laws.{kept_same, kept_then, runs_then}
 use Rattle.resolver.proofs.Single.Steps.{runs_as}
 
@@ -70,25 +70,25 @@ module _ (s : List ℕ) (at : ℕ) {b : List ℕ} {e : ℕ} (h : str_at s at ≡
           let sm = id_short s i hx in (sym eb, rw eb short, ow ∙ ap some (sym em), rw em sm, sym eg)))))
 
 -- what `read_reference` answers
-module _ (s : List ℕ) (at : ℕ) {r : CodeReference.Reference} where
-  pub reference_unread : r ≡ ref.Bad → str_at s at ≡ bad → ReferenceIs s at r
+module _ (s : List ℕ) (at : ℕ) {r : rust.Option Referring} where
+  pub reference_unread : r ≡ rust.None → str_at s at ≡ bad → ReferenceIs s at r
   reference_unread er h = unread er (λ n p a f hn ho. never h (id_str s at hn))
 
   module _ {b e : ℕ} (in₁ : (b ≤ e) × (e ≤ length s)) (h : str_at s at ≡ got (part s b (e - b)) e) where
-    pub reference_flagless : r ≡ ref.Bad → byte_at s e ≡ bad → ReferenceIs s at r
+    pub reference_flagless : r ≡ rust.None → byte_at s e ≡ bad → ReferenceIs s at r
     reference_flagless er k = unread er (λ n p a f hn ho. name_none s at h k hn ho)
 
     module _ {flag q : ℕ} (k : byte_at s e ≡ got flag q) where
-      pub reference_bare : flag ≡ 0 → r ≡ ref.Is (record { from = b; to = e; has = false; start = q; end = q }) → ReferenceIs s at r
+      pub reference_bare : flag ≡ 0 → r ≡ rust.Some (record { from = b; to = e; attribute = rust.None; end = q }) → ReferenceIs s at r
       unfolding option_of
       reference_bare z er = reads b e false q q er in₁.0 in₁.1 (omega arith) (local_byte.inside s e in₁.1 k)
           (λ n p a f hn ho. let y = bare_name s at h k hn ho z in let l = length_part s b (e - b) (omega arith) in (y.0, (let j = y.1 in omega arith), y.2, omega arith, sym y.3))
 
       module _ (nz : flag ≡ 0 → ⊥) where
-        pub reference_attributeless : r ≡ ref.Bad → str_at s q ≡ bad → ReferenceIs s at r
+        pub reference_attributeless : r ≡ rust.None → str_at s q ≡ bad → ReferenceIs s at r
         reference_attributeless er u = unread er (λ n p a f hn ho. attribute_none s at h k hn ho nz u)
 
-        pub reference_attribute : {c f : ℕ} → (c ≤ f) × (f ≤ length s) → str_at s q ≡ got (part s c (f - c)) f → r ≡ ref.Is (record { from = b; to = e; has = true; start = c; end = f }) → ReferenceIs s at r
+        pub reference_attribute : {c f : ℕ} → (c ≤ f) × (f ≤ length s) → str_at s q ≡ got (part s c (f - c)) f → r ≡ rust.Some (record { from = b; to = e; attribute = rust.Some (c, f); end = f }) → ReferenceIs s at r
         unfolding option_of
         reference_attribute {c} {f} in₂ u er = reads b e true c f er in₁.0 in₁.1 in₂.0 in₂.1
             (λ n p a g hn ho.
@@ -98,27 +98,26 @@ module _ (s : List ℕ) (at : ℕ) {r : CodeReference.Reference} where
             (y.0, (let j = y.1 in omega arith), y.2, (let j = y.3 in omega arith), sym y.4))
 
 -- what the answer says
-module _ (s : List ℕ) (at : ℕ) {c : CodeReference.Reference} where
-  reference_never : ReferenceIs s at c → c ≡ ref.Bad → (n : Bytes) (p : ℕ) (a : Option Bytes) (f : ℕ) → id_at s at ≡ got n p → optional_at id_at s p ≡ got a f → ⊥
+module _ (s : List ℕ) (at : ℕ) {c : rust.Option Referring} where
+  reference_never : ReferenceIs s at c → c ≡ rust.None → (n : Bytes) (p : ℕ) (a : Option Bytes) (f : ℕ) → id_at s at ≡ got n p → optional_at id_at s p ≡ got a f → ⊥
   reference_never (reads from to has start end er h₁ h₂ h₃ h₄ y) e = let o : ◌≡◌ {A = ℕ} 0 1 = cc in absurd (omega arith)
   reference_never (unread er y) e = y
 
   module _ {v : Referring} where
-    pub reference_in : ReferenceIs s at c → c ≡ ref.Is v → (v.from ≤ v.to) × (v.to ≤ length s) × (v.start ≤ v.end) × (v.end ≤ length s)
+    pub reference_in : ReferenceIs s at c → c ≡ rust.Some v → (v.from ≤ v.to) × (v.to ≤ length s) × (v.end ≤ length s)
     reference_in (reads from to has start end er h₁ h₂ h₃ h₄ y) e =
-        let q : record { from = from; to = to; has = has; start = start; end = end } ≡ v = (cc) in
-        subst (λ (u : Referring). (u.from ≤ u.to) × (u.to ≤ length s) × (u.start ≤ u.end) × (u.end ≤ length s)) q (h₁, h₂, h₃, h₄)
+        let q : record { from = from; to = to; attribute = span_if has start end; end = end } ≡ v = (cc) in
+        subst (λ (u : Referring). (u.from ≤ u.to) × (u.to ≤ length s) × (u.end ≤ length s)) q (h₁, h₂, h₄)
     reference_in (unread er y) e = let o : ◌≡◌ {A = ℕ} 0 1 = cc in absurd (omega arith)
 
-    pub reference_known : ReferenceIs s at c → c ≡ ref.Is v → (n : Bytes) (p : ℕ) (a : Option Bytes) (f : ℕ) → id_at s at ≡ got n p → optional_at id_at s p ≡ got a f
-        → (n ≡ part s v.from (v.to - v.from)) × (length (part s v.from (v.to - v.from)) ≤ 255) × (a ≡ option_of v.has (part s v.start (v.end - v.start))) × (length (part s v.start (v.end - v.start)) ≤ 255)
+    pub reference_known : ReferenceIs s at c → c ≡ rust.Some v → (n : Bytes) (p : ℕ) (a : Option Bytes) (f : ℕ) → id_at s at ≡ got n p → optional_at id_at s p ≡ got a f
+        → (n ≡ part s v.from (v.to - v.from)) × (length (part s v.from (v.to - v.from)) ≤ 255) × (a ≡ attribute_in s v.attribute) × Short (attribute_in s v.attribute)
     reference_known (reads from to has start end er h₁ h₂ h₃ h₄ y) e n p a f hn ho =
-        let q : record { from = from; to = to; has = has; start = start; end = end } ≡ v = (cc) in
+        let q : record { from = from; to = to; attribute = span_if has start end; end = end } ≡ v = (cc) in
         let z = y n p a f hn ho in
         let l = length_part s from (to - from) (omega arith) in
-        let m = length_part s start (end - start) (omega arith) in
-        subst (λ (u : Referring). (n ≡ part s u.from (u.to - u.from)) × (length (part s u.from (u.to - u.from)) ≤ 255) × (a ≡ option_of u.has (part s u.start (u.end - u.start))) × (length (part s u.start (u.end - u.start)) ≤ 255)) q
-        (z.0, (let j = z.1 in omega arith), z.2, (let j = z.3 in omega arith))
+        subst (λ (u : Referring). (n ≡ part s u.from (u.to - u.from)) × (length (part s u.from (u.to - u.from)) ≤ 255) × (a ≡ attribute_in s u.attribute) × Short (attribute_in s u.attribute)) q
+        (z.0, (let j = z.1 in omega arith), z.2 ∙ sym (span_attribute s start end h₃ h₄ has), span_short s start end h₃ h₄ has z.3)
     reference_known (unread er y) e n p a f hn ho = let o : ◌≡◌ {A = ℕ} 0 1 = cc in absurd (omega arith)
 
 -- an error's record, then its text
@@ -161,7 +160,7 @@ module _ (i : List ℕ) (at : ℕ) (kind : Referred) (x l w : List ℕ) (st : Pr
         go tag' p' ep (is_variable m y q ew) = let o : ◌≡◌ {A = ℕ} 0 1 = cc in absurd (omega arith)
         go tag' p' ep (is_nested u y q ew) = let o : ◌≡◌ {A = ℕ} 0 1 = cc in absurd (omega arith)
 
-    pub ref_unread : {c : CodeReference.Reference} → ReferenceIs i p c → c ≡ ref.Bad → RefErrorAt i at kind x l w st x l w st
+    pub ref_unread : {c : rust.Option Referring} → ReferenceIs i p c → c ≡ rust.None → RefErrorAt i at kind x l w st x l w st
     ref_unread k e = record {
       kept = λ t. kept_same _;
       message = λ _ t d n a f h. message_read d h (λ q g hn ho. absurd (reference_never i p k e n q a g hn ho));
@@ -169,10 +168,10 @@ module _ (i : List ℕ) (at : ℕ) (kind : Referred) (x l w : List ℕ) (st : Pr
     }
 
     -- the code read a name, and its attribute if it has one
-    module _ (name : Bytes) (has : Bool) (attribute : Bytes) {x' l' w' : List ℕ} {s₁ r : Progress}
-        (known : (n : Bytes) (q : ℕ) (a : Option Bytes) (f : ℕ) → id_at i p ≡ got n q → optional_at id_at i q ≡ got a f → (n ≡ name) × (length name ≤ 255) × (a ≡ option_of has attribute) × (length attribute ≤ 255))
+    module _ (name : Bytes) (attribute : Option Bytes) {x' l' w' : List ℕ} {s₁ r : Progress}
+        (known : (n : Bytes) (q : ℕ) (a : Option Bytes) (f : ℕ) → id_at i p ≡ got n q → optional_at id_at i q ≡ got a f → (n ≡ name) × (length name ≤ 255) × (a ≡ attribute) × Short attribute)
         (listing : (t : List ℕ) → Kept (world i x l w t st) (world i x l' w t s₁))
-        (lists : length name ≤ 255 → length attribute ≤ 255 → (t : List ℕ) → Acts (emit (report (reference kind name (option_of has attribute)))) (world i x l w t st) (world i x l' w t s₁))
+        (lists : length name ≤ 255 → Short attribute → (t : List ℕ) → Acts (emit (report (reference kind name attribute))) (world i x l w t st) (world i x l' w t s₁))
         (puts : ErrorAt i at x w s₁ x' w' r) where
       both_run : (t : List ℕ) (d : ℕ) (y : Inline) (f : ℕ) → inline d i at ≡ got y f → (q : ℕ) (n : Bytes) (a : Option Bytes) (g : ℕ) → id_at i p ≡ got n q → optional_at id_at i q ≡ got a g
           → Runs (emit (report (reference kind n a)) >> write (braced (error_text y))) (world i x l w t st) (world i x' l' w' t r)

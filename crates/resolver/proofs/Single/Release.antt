@@ -1,4 +1,5 @@
 -- What an action left at the workspace's back is freed: the back goes where it was before.
+use Rattle.state.specs.Progress.{refused_of}
 use mathlib.Core.Path.{◌≡◌, ap, sym, subst, ◌∙◌}
 use mathlib.Core.List.{[], ◌∷◌}
 use mathlib.Core.Bool.{true≢false}
@@ -12,15 +13,15 @@ use Rattle.records.specs.Decode.{many, named_at}
 use Rattle.records.proofs.Views.{both}
 use Rattle.resolution.specs.Effect.{free, Locals, State, Out, M, ◌>>=◌, release}
 use Rattle.resolution.specs.Exec.{Machine, Limits, refused, exec, and_then, step}
-use Rattle.state.specs.Progress.{Progress}
+use Rattle.state.specs.declared.Progress.{Progress}
 use Rattle.resolver.specs.Relations.Meets.{World, world, Live, Ended, ended, stopped, Runs, Kept, LocalsAt, no_locals, some_locals, LocalsStay, locals_same, locals_cleared, named_texts}
 use Rattle.state.specs.Setters.{back_s}
 use Rattle.resolver.proofs.Single.Laws.{exec_append, drop_more, kept_same, ended_then}
 use Rattle.resolver.proofs.Single.Locals.{named_stays}
 
 -- where an action ended refused, it was stopped
-pub ended_over : {A : Type 0} {C : Type 0} {L : Limits} {w u : World} {r : Out A} {k : Machine} → (u.st.refused ≡ 0 → ⊥) → Ended L w u r k
-    → ((n : ℕ) → exec L r.trace k ≡ refused n → (n ≡ 0 → ⊥) → u.st.refused ≡ n → C) → C
+pub ended_over : {A : Type 0} {C : Type 0} {L : Limits} {w u : World} {r : Out A} {k : Machine} → ((refused_of u.st) ≡ 0 → ⊥) → Ended L w u r k
+    → ((n : ℕ) → exec L r.trace k ≡ refused n → (n ≡ 0 → ⊥) → (refused_of u.st) ≡ n → C) → C
 ended_over f (ended k' e lv n mv) c = absurd (f lv.go)
 ended_over f (stopped n e z r) c = c n e z r
 
@@ -88,13 +89,13 @@ module _ (w u : World) where
   release_back m er h L s k lw = subst (λ (q : Progress). Ended L w (world u.store u.text u.list u.work u.trail q) (release m s) k) (sym er) (ended_release m L s k lw (h L s k lw))
 
   -- refused before it was freed
-  pub stopped_release : {A : Type 0} (m : M A) (L : Limits) (s : State) (k : Machine) → (u.st.refused ≡ 0 → ⊥) → Ended L w u (m s) k → Ended L w u (release m s) k
+  pub stopped_release : {A : Type 0} (m : M A) (L : Limits) (s : State) (k : Machine) → ((refused_of u.st) ≡ 0 → ⊥) → Ended L w u (m s) k → Ended L w u (release m s) k
   unfolding release exec step and_then
   stopped_release m L s k f h = ended_over f h (λ n e z r. stopped n (exec_append L (m s).trace (free (m s).kept ∷ []) k ∙ rw e) z r)
 
-  pub release_over : {A : Type 0} (m : M A) → (u.st.refused ≡ 0 → ⊥) → Runs m w u → Runs (release m) w u
+  pub release_over : {A : Type 0} (m : M A) → ((refused_of u.st) ≡ 0 → ⊥) → Runs m w u → Runs (release m) w u
   release_over m f h L s k lw = stopped_release m L s k f (h L s k lw)
 
 -- an action after one that ended refused does nothing
-pub runs_stopped : {A B : Type 0} {w u : World} (m : M A) (f : A → M B) → (u.st.refused ≡ 0 → ⊥) → Runs m w u → Runs (m >>= f) w u
+pub runs_stopped : {A B : Type 0} {w u : World} (m : M A) (f : A → M B) → ((refused_of u.st) ≡ 0 → ⊥) → Runs m w u → Runs (m >>= f) w u
 runs_stopped {u = u} m f z h L s k lw = ended_then m f L s k (h L s k lw) (kept_same u) (λ k' lv mv. absurd (z lv.go))

@@ -1,8 +1,13 @@
 -- Laws of NUMBER's result: in range where no merge was refused.
+use Rattle.resolver.proofs.Single.Puts.{refuse_some}
+use Rattle.state.specs.Progress.{refused_of}
+use Rattle.refusals.specs.declared.Refusal.TheVariants as refusal
 use mathlib.Core.Path.{◌≡◌, refl, ap, sym, subst, ◌∙◌}
 use mathlib.Core.List.{List, [], ◌∷◌}
 use mathlib.Core.Bool.{Bool, true, false, ◌&&◌, not}
 use mathlib.Core.Option.{some}
+use Rattle.std.specs.Prelude.{Ok, Err}
+use Rattle.numbers.specs.Relations.Shown.{too_long_error}
 use Prim.Native.Nat.{ℕ, ◌≤◌}
 use native.Mathlib.Omega.{arith}
 use lib.Dec.{ltb, leb}
@@ -17,13 +22,12 @@ use Rattle.decimals.specs.declared.types.Style.{Style}
 use Rattle.decimals.specs.declared.types.Display.{Display}
 use Rattle.decimals.specs.declared.types.Number as CodeNumber
 use Rattle.decimals.specs.declared.types.Options as CodeOptions
-use Rattle.numbers.specs.declared.merge.Merged.TheVariants as merges
 use Rattle.records.specs.Got.{got}
 use Rattle.records.specs.Tree.{Named}
 use Rattle.records.specs.Decode.{many, named_at}
 use Rattle.resolution.specs.Effect.{M, Done, ret, ◌>>◌}
 use Rattle.resolution.specs.Resolve.{note_merges, merges_of}
-use Rattle.state.specs.Progress.{Progress}
+use Rattle.state.specs.declared.Progress.{Progress}
 use Rattle.values.specs.declared.Value as CodeValue
 use Rattle.values.specs.declared.Value.TheVariants as val
 use Rattle.resolver.specs.Relations.Meets.{World, world, named_texts, NamedIn, Runs, a_number, a_wrong}
@@ -32,7 +36,7 @@ use Rattle.state.specs.Setters.{refuse_s}
 use Rattle.resolver.specs.Relations.Values.{merged_all}
 use Rattle.resolver.proofs.Single.Laws.{kept_same, runs_ret, runs_then}
 use Rattle.resolver.proofs.Single.Steps.{runs_over, runs_as}
-use Rattle.resolver.proofs.Single.Merges.{notes_fine, notes_long}
+use Rattle.resolver.proofs.Single.Merges.{long_or, notes_fine, notes_long}
 
 -- a merge that was not refused leaves the fraction's minimum in range
 module _ (o : Options) (h : or_zero o.minimum_fraction_digits ≤ fraction_limit) where
@@ -64,13 +68,13 @@ module _ (o : Options) (h : or_zero o.minimum_fraction_digits ≤ fraction_limit
   one_ranged name nothing e = h
   one_ranged name wrong e = h
 
-all_ranged : (es : List (List ℕ × Value)) (o : Options) {c : CodeOptions.Options} → merged_all es o ≡ merges.Is c → or_zero o.minimum_fraction_digits ≤ fraction_limit → or_zero (merge es o).minimum_fraction_digits ≤ fraction_limit
+all_ranged : (es : List (List ℕ × Value)) (o : Options) {c : CodeOptions.Options} → merged_all es o ≡ Ok c → or_zero o.minimum_fraction_digits ≤ fraction_limit → or_zero (merge es o).minimum_fraction_digits ≤ fraction_limit
 unfolding merged_all merge
 all_ranged [] o e h = h
 all_ranged (x ∷ es) o {c} e h = go (too_long x.0 x.1) refl e (λ q k. all_ranged es (merge_one x.0 x.1 o) q k)
   where
-    go : (t : Bool) → too_long x.0 x.1 ≡ t → elim t [ true ↦ merges.TooLong | false ↦ merged_all es (merge_one x.0 x.1 o) ] ≡ merges.Is c
-        → (merged_all es (merge_one x.0 x.1 o) ≡ merges.Is c → or_zero (merge_one x.0 x.1 o).minimum_fraction_digits ≤ fraction_limit → or_zero (merge es (merge_one x.0 x.1 o)).minimum_fraction_digits ≤ fraction_limit)
+    go : (t : Bool) → too_long x.0 x.1 ≡ t → long_or t (merged_all es (merge_one x.0 x.1 o)) ≡ Ok c
+        → (merged_all es (merge_one x.0 x.1 o) ≡ Ok c → or_zero (merge_one x.0 x.1 o).minimum_fraction_digits ≤ fraction_limit → or_zero (merge es (merge_one x.0 x.1 o)).minimum_fraction_digits ≤ fraction_limit)
         → or_zero (merge es (merge_one x.0 x.1 o)).minimum_fraction_digits ≤ fraction_limit
     go true f q g = let z : ◌≡◌ {A = ℕ} 0 1 = cc in absurd (omega arith)
     go false f q g = g q (one_ranged o h x.0 x.1 f)
@@ -123,7 +127,7 @@ merges_as : {w v : World} (vs : List Value) (ns : List (List ℕ × Value)) {m :
 merges_as vs ns e h = runs_as (ap (λ (y : M Done). y >> ret (some (number_function vs ns))) e) h
 
 module _ (i w : List ℕ) (st : Progress) (at count base : ℕ) {first : CodeValue.Value} where
-  pub number_over : {c : CodeValue.Value} → (st.refused ≡ 0 → ⊥) → NumberAt i w st at count base first st c
+  pub number_over : {c : CodeValue.Value} → ((refused_of st) ≡ 0 → ⊥) → NumberAt i w st at count base first st c
   number_over h = record { kept = λ x l t. kept_same _; runs = λ ns f vs low _ _ _ x l t. runs_over _ _ h; holds = λ ns f vs low _ _ _ args back z. absurd (h z) }
 
   pub number_other : ((m : CodeNumber.Number) → first ≡ val.Number m → ⊥) → NumberAt i w st at count base first st val.Wrong
@@ -134,17 +138,17 @@ module _ (i w : List ℕ) (st : Progress) (at count base : ℕ) {first : CodeVal
   }
 
   module _ {m : CodeNumber.Number} (e : first ≡ val.Number m) where
-    pub number_long : {r : Progress} → st.refused ≡ 0 → ((x : Options) (ns : Named) (f low : ℕ) → m.options ≡ shown_options x → many [] ◌∷◌ count named_at i at ≡ got ns f → NamedIn w low base ns → merges.TooLong ≡ merged_all (named_texts ns) x)
-        → r ≡ refuse_s 17 st → NumberAt i w st at count base first r val.Wrong
+    pub number_long : {r : Progress} → (refused_of st) ≡ 0 → ((x : Options) (ns : Named) (f low : ℕ) → m.options ≡ shown_options x → many [] ◌∷◌ count named_at i at ≡ got ns f → NamedIn w low base ns → Err too_long_error ≡ merged_all (named_texts ns) x)
+        → r ≡ refuse_s refusal.ManyDigits st → NumberAt i w st at count base first r val.Wrong
     number_long {r} z h er = subst (λ (y : Progress). NumberAt i w st at count base first y val.Wrong) (sym er) (record {
       kept = λ x l t. record { begun = omega arith; over = λ n. absurd (n z) };
       runs = λ ns f vs low all fi ni x l t. is_first e fi (λ n k ev em _.
           merges_as vs (named_texts ns) (ap (λ (y : List Value). merges_of y (named_texts ns)) ev ∙ (first_merges n k (named_texts ns)).0)
-          (runs_then (notes_long i x l w t st z (named_texts ns) n.options (sym (h n.options ns f low (ap (λ (y : CodeNumber.Number). y.options) em) all ni))) (kept_same _) (λ _. runs_over _ _ (λ q. omega arith))));
-      holds = λ ns f vs low all fi ni args back _ q. absurd (omega arith);
+          (runs_then (notes_long i x l w t st z (named_texts ns) n.options (sym (h n.options ns f low (ap (λ (y : CodeNumber.Number). y.options) em) all ni))) (kept_same _) (λ _. runs_over _ _ (refuse_some refusal.ManyDigits st))));
+      holds = λ ns f vs low all fi ni args back _ q. absurd (refuse_some refusal.ManyDigits st q);
     })
 
-    pub number_merged : {o : CodeOptions.Options} → ((x : Options) (ns : Named) (f low : ℕ) → m.options ≡ shown_options x → many [] ◌∷◌ count named_at i at ≡ got ns f → NamedIn w low base ns → merges.Is o ≡ merged_all (named_texts ns) x)
+    pub number_merged : {o : CodeOptions.Options} → ((x : Options) (ns : Named) (f low : ℕ) → m.options ≡ shown_options x → many [] ◌∷◌ count named_at i at ≡ got ns f → NamedIn w low base ns → Ok o ≡ merged_all (named_texts ns) x)
         → NumberAt i w st at count base first st (val.Number (record { negative = m.negative; digits = m.digits; scale = m.scale; options = o }))
     unfolding with_options
     number_merged {o} h = record {

@@ -1,4 +1,5 @@
 -- Steps of the leaves over variables: an action under an equation, an expression that was cut short.
+use Rattle.state.specs.Progress.{refused_of}
 use mathlib.Core.Path.{◌≡◌, ap, sym, subst, ◌∙◌}
 use mathlib.Core.List.{List}
 use mathlib.Core.Bool.{true, false}
@@ -10,7 +11,7 @@ use Rattle.records.specs.Decode.{expression, inline}
 use Rattle.records.proofs.Views.{both, never, select_elim, expression_elim}
 use Rattle.resolution.specs.Effect.{M, write}
 use Rattle.resolution.specs.Resolve.{braced, error_of, cut_short, mark}
-use Rattle.state.specs.Progress.{Progress}
+use Rattle.state.specs.declared.Progress.{Progress}
 use Rattle.resolver.specs.Relations.Meets.{World, Runs, Acts}
 use Rattle.resolver.specs.Relations.Leaves.{ErrorAt, CutAt}
 use Rattle.resolver.proofs.Single.Laws.{kept_same, runs_ret, runs_dirty}
@@ -24,12 +25,12 @@ pub acts_as : {A : Type 0} {w v : World} {m n : M A} → m ≡ n → Acts n w v 
 acts_as {w = w} {v = v} e h = subst (λ n. Acts n w v) (sym e) h
 
 -- where the world was refused, nothing is asked
-pub runs_over : {A : Type 0} (m : M A) (w : World) → (w.st.refused ≡ 0 → ⊥) → Runs m w w
+pub runs_over : {A : Type 0} (m : M A) (w : World) → ((refused_of w.st) ≡ 0 → ⊥) → Runs m w w
 runs_over m w h = (acts_over m w h).runs
 
 -- an expression that was cut short
 module _ (s : List ℕ) (at : ℕ) (x w : List ℕ) (st : Progress) where
-  pub cut_over : (st.refused ≡ 0 → ⊥) → CutAt s at x w st x w st
+  pub cut_over : ((refused_of st) ≡ 0 → ⊥) → CutAt s at x w st x w st
   cut_over h = record { kept = λ l t. kept_same _; runs = λ l t d i f q. runs_over _ _ h }
 
   pub cut_clean : st.dirty ≡ false → CutAt s at x w st x w st

@@ -1,4 +1,7 @@
 -- Laws of values: string literals, kept at the workspace's back; named arguments, one after the other.
+use Rattle.refusals.specs.Numbers.{number_of}
+use Rattle.state.specs.Progress.{refused_of}
+use Rattle.refusals.specs.declared.Refusal.TheVariants as refusal
 use mathlib.Core.Path.{◌≡◌, refl, ap, sym, subst, ◌∙◌}
 use mathlib.Core.List.{List, [], ◌∷◌, ◌++◌}
 use mathlib.Core.Bool.{Bool, true, false, not}
@@ -10,8 +13,7 @@ use lib.Seq.{take-take}
 use borrow.Author.Tests.{le-leb, lt-leb}
 use Rattle.numbers.specs.Number.{literal}
 use Rattle.numbers.specs.Value.{Value, textual, numeric}
-use Rattle.buffers.specs.Relations.Append.{over, appended}
-use Rattle.buffers.specs.declared.Wrote.{Wrote}
+use Rattle.buffers.specs.Relations.Append.{over, appended, Wrote}
 use Rattle.unescape.specs.Unescape.{unescape, has_backslash}
 use Rattle.unescape.proofs.Reading.{unescape_plain}
 use Rattle.buffers.proofs.Place.{appended_fits, length_over, drop_over, front_over, part_over}
@@ -25,12 +27,11 @@ use Rattle.records.proofs.Views.{many_cons, many_nil}
 use Rattle.resolution.specs.Effect.{Bytes, put, open_text, keep_text, State, Out, M, ret, ◌>>=◌, write, capture}
 use Rattle.resolution.specs.Resolve.{held, string_if, string_value, literal_value, named_values}
 use Rattle.resolution.specs.Exec.{Machine, Limits, ran, refused, exec, and_then, step, allow, allow_if, put_at, put_work}
-use Rattle.state.specs.Progress.{Progress}
+use Rattle.state.specs.declared.Progress.{Progress}
 use Rattle.values.specs.declared.Value as CodeValue
 use Rattle.values.specs.declared.Value.TheVariants as val
 use Rattle.resolver.specs.declared.scope.value.NamedSpan.{NamedSpan}
-use Rattle.resolver.specs.declared.scope.value.NamedRead as CodeNamed
-use Rattle.resolver.specs.declared.scope.value.NamedRead.TheVariants as named
+use Rattle.std.specs.Prelude as rust
 use Rattle.resolver.specs.Relations.Meets.{World, world, takes_if, takes, literal_text, named_texts, TextIn, NamedIn, named_none, named_more, Live, Moved, Ended, ended, stopped, Runs, Kept, locals_same, in_store, in_work}
 use Rattle.resolver.specs.Relations.Leaves.{StringAt, NamedAt}
 use Rattle.state.specs.Setters.{refuse_s, held_s}
@@ -104,7 +105,7 @@ text_of w base t h x = sym (ap (λ (n : ℕ). part w (base - n) n) (takes_marked
 
 -- a string literal: what the code does in each case
 module _ (i : List ℕ) (a e : ℕ) (w : List ℕ) (st : Progress) where
-  pub string_over : {c : CodeValue.Value} → (st.refused ≡ 0 → ⊥) → StringAt i a e w st w st c
+  pub string_over : {c : CodeValue.Value} → ((refused_of st) ≡ 0 → ⊥) → StringAt i a e w st w st c
   string_over h = record { kept = λ x l t. kept_same _; runs = λ _ _ x l t. runs_over _ _ h; size = refl; holds = λ _ _ args x l t L s k lv. absurd (h lv.go); text = λ _ _ x l t L s k lv. absurd (h lv.go) }
 
   pub string_here : has_backslash (part i a (e - a)) ≡ false → StringAt i a e w st w st (val.Store a e)
@@ -116,11 +117,12 @@ module _ (i : List ℕ) (a e : ℕ) (w : List ℕ) (st : Progress) where
     text = λ p q x l t L s k lv z. plain_text w st.back (part i a (e - a)) h;
   }
 
-  module _ (h : has_backslash (part i a (e - a)) ≡ true) (z : st.refused ≡ 0) where
-    pub string_full : {c : CodeValue.Value} {r : Progress} → (st.front ≤ st.back → st.back ≤ length w → st.back < st.front + length (unescape (part i a (e - a)))) → r ≡ refuse_s 16 st → StringAt i a e w st w r c
+  module _ (h : has_backslash (part i a (e - a)) ≡ true) (z : (refused_of st) ≡ 0) where
+    pub string_full : {c : CodeValue.Value} {r : Progress} → (st.front ≤ st.back → st.back ≤ length w → st.back < st.front + length (unescape (part i a (e - a)))) → r ≡ refuse_s refusal.ShortWorkspace st → StringAt i a e w st w r c
+    unfolding number_of
     string_full {r = r} f g =
         let b : r.begun ≡ st.begun = ap (λ (q : Progress). q.begun) g in
-        let o : r.refused ≡ 16 = ap (λ (q : Progress). q.refused) g in
+        let o : (refused_of r) ≡ 16 = ap (λ (q : Progress). (refused_of q)) g in
         record {
           kept = λ x l t. record { begun = omega arith; over = λ n. absurd (n z) };
           runs = λ p q x l t. runs_as (string_marked _ h) (λ L s k lv.
@@ -232,8 +234,8 @@ module _ (i : Bytes) {t : Bytes} (a e : ℕ) {w : List ℕ} {st : Progress} (et 
       at : a ≤ e → e ≤ length i → StringAt i a e w st w st (val.Store a e)
       at p q = string_here i a e w st (subst (λ (m : Bytes). has_backslash m ≡ false) (et ∙ between_in i a e p q) h)
 
-  module _ (h : has_backslash t ≡ true) (z : st.refused ≡ 0) where
-    pub string_refused : {c : CodeValue.Value} {r : Progress} → (st.front ≤ st.back → st.back ≤ length w → st.back < st.front + length (unescape t)) → r ≡ refuse_s 16 st → StringAt i a e w st w r c
+  module _ (h : has_backslash t ≡ true) (z : (refused_of st) ≡ 0) where
+    pub string_refused : {c : CodeValue.Value} {r : Progress} → (st.front ≤ st.back → st.back ≤ length w → st.back < st.front + length (unescape t)) → r ≡ refuse_s refusal.ShortWorkspace st → StringAt i a e w st w r c
     string_refused f g =
         let q = marked_part i a e et h in
         string_full i a e w st (subst (λ (m : Bytes). has_backslash m ≡ true) q h) z (subst (λ (m : Bytes). st.front ≤ st.back → st.back ≤ length w → st.back < st.front + length (unescape m)) q f) g
@@ -245,14 +247,14 @@ module _ (i : Bytes) {t : Bytes} (a e : ℕ) {w : List ℕ} {st : Progress} (et 
         string_kept i a e w st (subst (λ (m : Bytes). has_backslash m ≡ true) q h) z (subst (λ (m : Bytes). n ≡ length (unescape m)) q en) f g (subst (λ (m : Bytes). w' ≡ over w (st.back - n) (unescape m)) q ew) eh er
 
 -- the first of named arguments that were read, and the rest
-module _ (s : List ℕ) (at : ℕ) {r : CodeNamed.NamedRead} (read : NamedReads s at r) (n : ℕ) {ns : Named} {f : ℕ} (z : 0 < n) (all : many [] ◌∷◌ n named_at s at ≡ got ns f) where
-  pub named_first : {C : Type 0} {sp : NamedSpan} → r ≡ named.Is sp
+module _ (s : List ℕ) (at : ℕ) {r : rust.Option NamedSpan} (read : NamedReads s at r) (n : ℕ) {ns : Named} {f : ℕ} (z : 0 < n) (all : many [] ◌∷◌ n named_at s at ≡ got ns f) where
+  pub named_first : {C : Type 0} {sp : NamedSpan} → r ≡ rust.Some sp
       → ((x : List ℕ × Literal) (t : Named) → x.0 ≡ part s sp.from (sp.to - sp.from) → LiteralIs s sp.tag sp.start sp.end x.1 → many [] ◌∷◌ (n - 1) named_at s sp.end ≡ got t f → ns ≡ x ∷ t → C) → C
   named_first {sp = sp} h c = many_cons [] ◌∷◌ named_at s n at z all (λ x e t hx ht w.
       let q = read.reads sp h x e hx in
       c x t q.0 q.2 (subst (λ (j : ℕ). many [] ◌∷◌ (n - 1) named_at s j ≡ got t f) q.1 ht) w)
 
-  pub named_never : {C : Type 0} → r ≡ named.Bad → C
+  pub named_never : {C : Type 0} → r ≡ rust.None → C
   named_never h = many_cons [] ◌∷◌ named_at s n at z all (λ x e t hx ht w. absurd (read.unread h x e hx))
 
 ret_keeps : {A : Type 0} (a : A) (s : State) → (ret a s).kept ≡ 0
@@ -292,7 +294,7 @@ string_keeps t s = go (has_backslash t) refl
 
 -- a string literal and the named arguments after it
 module _ (i w w₁ w' x l t : List ℕ) (st s₁ v : Progress) (b name : Bytes) (bs : Named) (L : Limits) (s : State) (k : Machine) (lv : Live L (world i x l w t st) s k)
-    (text : s₁.refused ≡ 0 → TextIn w₁ st.back (Literal.string b)) (kp : Kept (world i x l w₁ t s₁) (world i x l w' t v)) (fine : v.refused ≡ 0)
+    (text : (refused_of s₁) ≡ 0 → TextIn w₁ st.back (Literal.string b)) (kp : Kept (world i x l w₁ t s₁) (world i x l w' t v)) (fine : (refused_of v) ≡ 0)
     (runs : Runs (named_values bs) (world i x l w₁ t s₁) (world i x l w' t v)) (more : (s' : State) (k' : Machine) → Live L (world i x l w₁ t s₁) s' k' → NamedIn w' v.back s₁.back bs) where
   then_in : (k' : Machine) → Live L (world i x l w₁ t s₁) (string_value b s).state k' → Moved (world i x l w t st) (world i x l w₁ t s₁) (string_value b s)
       → Ended L (world i x l w₁ t s₁) (world i x l w' t v) (named_values bs (string_value b s).state) k' → NamedIn w' v.back st.back ((name, Literal.string b) ∷ bs)
@@ -339,21 +341,21 @@ module _ (i : List ℕ) (at n : ℕ) (w : List ℕ) (st : Progress) where
     named = λ ns f all x l t L s k lv y. many_nil [] ◌∷◌ named_at i n at z all (λ e _. subst (NamedIn w st.back st.back) (sym e) (named_none (omega arith) lv.back_in));
   }
 
-  module _ {r : CodeNamed.NamedRead} (z : 0 < n) (read : NamedReads i at r) where
-    pub named_unread : r ≡ named.Bad → NamedAt i at n w st w st
+  module _ {r : rust.Option NamedSpan} (z : 0 < n) (read : NamedReads i at r) where
+    pub named_unread : r ≡ rust.None → NamedAt i at n w st w st
     named_unread h = record {
       kept = λ x l t. kept_same _;
       runs = λ ns f all. named_never i at read n z all h;
       named = λ ns f all. named_never i at read n z all h;
     }
 
-    module _ {sp : NamedSpan} (h : r ≡ named.Is sp) {w' : List ℕ} {v : Progress} where
+    module _ {sp : NamedSpan} (h : r ≡ rust.Some sp) {w' : List ℕ} {v : Progress} where
       digits_go : NamedAt i sp.end (n - 1) w st w' v → (a : List ℕ × Literal) (bs : Named) (f : ℕ) (x l t : List ℕ) → (sp.tag ≡ 1 → ⊥) → LiteralIs i sp.tag sp.start sp.end a.1 → many [] ◌∷◌ (n - 1) named_at i sp.end ≡ got bs f → Runs (named_values (a ∷ bs)) (world i x l w t st) (world i x l w' t v)
       digits_go rest a bs f x l t nt (a_string e _) more = absurd (nt e)
       digits_go rest a bs f x l t nt (is_digits e _ ea) more = cons_runs a bs (digits_runs a.1 _ _ ea) (rest.kept x l t) (rest.runs bs f more x l t)
 
       digits_in : NamedAt i sp.end (n - 1) w st w' v → (a : List ℕ × Literal) (bs : Named) (f : ℕ) → (sp.tag ≡ 1 → ⊥) → LiteralIs i sp.tag sp.start sp.end a.1 → many [] ◌∷◌ (n - 1) named_at i sp.end ≡ got bs f
-          → (x l t : List ℕ) (L : Limits) (s : State) (k : Machine) → Live L (world i x l w t st) s k → v.refused ≡ 0 → NamedIn w' v.back st.back (a ∷ bs)
+          → (x l t : List ℕ) (L : Limits) (s : State) (k : Machine) → Live L (world i x l w t st) s k → (refused_of v) ≡ 0 → NamedIn w' v.back st.back (a ∷ bs)
       digits_in rest a bs f nt (a_string e _) more x l t L s k lv y = absurd (nt e)
       digits_in rest a bs f nt (is_digits e _ ea) more x l t L s k lv y =
           let q = rest.named bs f more x l t L s k lv y in
@@ -377,7 +379,7 @@ module _ (i : List ℕ) (at n : ℕ) (w : List ℕ) (st : Progress) where
         string_go a bs f x l t (a_string e ea) more = cons_runs a bs (string_runs a.1 _ ea (str.runs ins.2 ins.3 x l t)) (rest.kept x l t) (rest.runs bs f more x l t)
 
         strings_in : (a : List ℕ × Literal) (bs : Named) (f : ℕ) → LiteralIs i sp.tag sp.start sp.end a.1 → many [] ◌∷◌ (n - 1) named_at i sp.end ≡ got bs f
-            → (x l t : List ℕ) (L : Limits) (s : State) (k : Machine) → Live L (world i x l w t st) s k → v.refused ≡ 0 → NamedIn w' v.back st.back (a ∷ bs)
+            → (x l t : List ℕ) (L : Limits) (s : State) (k : Machine) → Live L (world i x l w t st) s k → (refused_of v) ≡ 0 → NamedIn w' v.back st.back (a ∷ bs)
         strings_in a bs f (is_digits e _ _) more x l t L s k lv y = absurd (omega arith)
         strings_in a bs f (a_string e ea) more x l t L s k lv y =
             subst (λ (q : Literal). NamedIn w' v.back st.back ((a.0, q) ∷ bs)) (sym ea)
@@ -392,12 +394,12 @@ module _ (i : List ℕ) (at n : ℕ) (w : List ℕ) (st : Progress) where
         }
 
 -- the same, where the code's state after the literal is another name for it
-pub named_string_as : (i : List ℕ) (at n : ℕ) (w : List ℕ) (st : Progress) {r : CodeNamed.NamedRead} → 0 < n → NamedReads i at r → {sp : NamedSpan} → r ≡ named.Is sp → {w₁ w₂ w' : List ℕ} {s₁ s₂ v : Progress} {c : CodeValue.Value}
+pub named_string_as : (i : List ℕ) (at n : ℕ) (w : List ℕ) (st : Progress) {r : rust.Option NamedSpan} → 0 < n → NamedReads i at r → {sp : NamedSpan} → r ≡ rust.Some sp → {w₁ w₂ w' : List ℕ} {s₁ s₂ v : Progress} {c : CodeValue.Value}
     → sp.tag ≡ 1 → StringAt i sp.start sp.end w st w₁ s₁ c → w₂ ≡ w₁ → s₂ ≡ s₁ → NamedAt i sp.end (n - 1) w₂ s₂ w' v → NamedAt i at n w st w' v
 named_string_as i at n w st z read {sp} h {w₁} {w₂} {w'} {s₁} {s₂} {v} is str ew es rest =
     named_string i at n w st z read h is str (subst (λ (y : Progress). NamedAt i sp.end (n - 1) w₁ y w' v) es (subst (λ (y : List ℕ). NamedAt i sp.end (n - 1) y s₂ w' v) ew rest))
 
-pub named_digits_as : (i : List ℕ) (at n : ℕ) (w : List ℕ) (st : Progress) {r : CodeNamed.NamedRead} → 0 < n → NamedReads i at r → {sp : NamedSpan} → r ≡ named.Is sp → {w₂ w' : List ℕ} {s₂ v : Progress}
+pub named_digits_as : (i : List ℕ) (at n : ℕ) (w : List ℕ) (st : Progress) {r : rust.Option NamedSpan} → 0 < n → NamedReads i at r → {sp : NamedSpan} → r ≡ rust.Some sp → {w₂ w' : List ℕ} {s₂ v : Progress}
     → (sp.tag ≡ 1 → ⊥) → w₂ ≡ w → s₂ ≡ st → NamedAt i sp.end (n - 1) w₂ s₂ w' v → NamedAt i at n w st w' v
 named_digits_as i at n w st z read {sp} h {w₂} {w'} {s₂} {v} nt ew es rest =
     named_digits i at n w st z read h nt (subst (λ (y : Progress). NamedAt i sp.end (n - 1) w y w' v) es (subst (λ (y : List ℕ). NamedAt i sp.end (n - 1) y s₂ w' v) ew rest))

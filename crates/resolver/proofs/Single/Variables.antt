@@ -32,11 +32,10 @@ use Rattle.resolution.specs.Effect.{Bytes, report, Locals, State, Out, M, ret, �
 use Rattle.resolution.specs.Resolve.{found_or, variable_in, get_variable, write_variable, or_wrong, braced}
 use Rattle.resolution.specs.Format.{value_of, values_of}
 use Rattle.resolution.specs.Exec.{Machine, Limits}
-use Rattle.state.specs.Progress.{Progress}
+use Rattle.state.specs.declared.Progress.{Progress}
 use Rattle.values.specs.declared.Value as CodeValue
 use Rattle.values.specs.declared.Value.TheVariants as val
-use Rattle.values.specs.declared.Local as CodeLocal
-use Rattle.values.specs.declared.Local.TheVariants as loc
+use Rattle.std.specs.Prelude as rust
 use Rattle.resolver.specs.Relations.Meets.{World, world, Live, named_texts, NamedIn, LocalsAt, no_locals, some_locals, Ended, Runs, Kept, Acts, Holds, in_store, in_args, in_work, a_number, is_nothing, a_wrong, lent, env, Setup}
 use Rattle.resolver.specs.Relations.Leaves.{LocalIs, is_there, is_missing, variable_of, MissingAt, VariableAt, VariableValueAt}
 use Rattle.resolver.specs.Relations.Values.{value_of_some, Ranged}
@@ -99,23 +98,23 @@ first_ranged n s {l} h = arguments_image_elim s (accepted_read s l h).1 (λ k _ 
 
 -- an argument as a value
 module _ (i s w : List ℕ) (low : ℕ) where
-  pub argument_text : (a e : ℕ) → Within s (goal.Text a e) → LocalIs i s w low (loc.Is (val.Args a e)) (value_of_some (meant s (goal.Text a e)))
+  pub argument_text : (a e : ℕ) → Within s (rust.Some (goal.Text a e)) → LocalIs i s w low (rust.Some (val.Args a e)) (value_of_some (meant s (rust.Some (goal.Text a e))))
   unfolding meant value_of_some value_of Within
   argument_text a e h = is_there _ _ refl refl (in_args a e refl h.0 h.1 (ap textual (between_in s a e h.0 h.1)))
 
-  pub argument_number : (f : Bool) (d k : ℕ) {o : CodeOptions.Options} → o ≡ shown_options default_options → Ranged (meant s (goal.Number f d k))
-      → LocalIs i s w low (loc.Is (val.Number (record { negative = f; digits = d; scale = k; options = o }))) (value_of_some (meant s (goal.Number f d k)))
+  pub argument_number : (f : Bool) (d k : ℕ) {o : CodeOptions.Options} → o ≡ shown_options default_options → Ranged (meant s (rust.Some (goal.Number f d k)))
+      → LocalIs i s w low (rust.Some (val.Number (record { negative = f; digits = d; scale = k; options = o }))) (value_of_some (meant s (rust.Some (goal.Number f d k))))
   unfolding meant value_of_some value_of Ranged in_range default_options or_zero
   argument_number f d k e h = is_there _ _ refl refl (a_number (record { negative = f; digits = d; scale = k; options = default_options }) (rw e) (ranged f d k h.0 h.1) refl)
     where
       ranged : (f : Bool) (d k : ℕ) → d < digits_limit → k ≤ scale_limit → in_range (record { negative = f; digits = d; scale = k; options = default_options }) ≡ true
       ranged f d k a b = rw (lt-ltb d digits_limit a, le-leb k scale_limit b)
 
-  pub argument_nothing : LocalIs i s w low (loc.Is val.Nothing) (value_of_some (meant s goal.Nothing))
+  pub argument_nothing : LocalIs i s w low (rust.Some val.Nothing) (value_of_some (meant s (rust.Some goal.Nothing)))
   unfolding meant value_of_some value_of
   argument_nothing = is_there _ _ refl refl (is_nothing refl refl)
 
-  pub argument_missing : LocalIs i s w low loc.Missing (value_of_some (meant s goal.Missing))
+  pub argument_missing : LocalIs i s w low rust.None (value_of_some (meant s rust.None))
   unfolding meant value_of_some
   argument_missing = is_missing refl refl
 
@@ -185,8 +184,8 @@ module _ (args : List (Bytes × Value)) (name : Bytes) {B : Type 0} (f : Option 
   value_missing s e = value_by s s.locals refl e
 
 -- an answer of the search, by what it is
-pub argument_as : (i s w : List ℕ) (low : ℕ) {found g : Given} {r : CodeLocal.Local} → found ≡ g → (Within s g → Ranged (meant s g) → LocalIs i s w low r (value_of_some (meant s g))) → Within s found → Ranged (meant s found) → LocalIs i s w low r (value_of_some (meant s found))
-argument_as i s w low {r = r} e h = subst (λ (y : Given). Within s y → Ranged (meant s y) → LocalIs i s w low r (value_of_some (meant s y))) (sym e) h
+pub argument_as : (i s w : List ℕ) (low : ℕ) {found g : rust.Option Given} {r : rust.Option CodeValue.Value} → found ≡ g → (Within s g → Ranged (meant s g) → LocalIs i s w low r (value_of_some (meant s g))) → Within s found → Ranged (meant s found) → LocalIs i s w low r (value_of_some (meant s found))
+argument_as i s w low {r = r} e h = subst (λ (y : rust.Option Given). Within s y → Ranged (meant s y) → LocalIs i s w low r (value_of_some (meant s y))) (sym e) h
 
 -- a value that lies above a place lies above a lower one
 holds_lower : {i a w : List ℕ} {low back : ℕ} {c : CodeValue.Value} {v : Value} → back ≤ low → Holds i a w low c v → Holds i a w back c v
@@ -197,12 +196,12 @@ holds_lower h (a_number n p q r) = a_number n p q r
 holds_lower h (is_nothing p q) = is_nothing p q
 holds_lower h (a_wrong p q) = a_wrong p q
 
-local_lower : {i a w : List ℕ} {low back : ℕ} {r : CodeLocal.Local} {o : Option Value} → back ≤ low → LocalIs i a w low r o → LocalIs i a w back r o
+local_lower : {i a w : List ℕ} {low back : ℕ} {r : rust.Option CodeValue.Value} {o : Option Value} → back ≤ low → LocalIs i a w low r o → LocalIs i a w back r o
 local_lower h (is_there c v p q k) = is_there c v p q (holds_lower h k)
 local_lower h (is_missing p q) = is_missing p q
 
 -- a variable among a term's arguments
-pub variable_inside : (args : List (Bytes × Value)) (name i a : List ℕ) {w : World} {l : Locals} {r : CodeLocal.Local} → LocalsAt w l → w.st.local ≡ true
+pub variable_inside : (args : List (Bytes × Value)) (name i a : List ℕ) {w : World} {l : Locals} {r : rust.Option CodeValue.Value} → LocalsAt w l → w.st.local ≡ true
     → ((low f : ℕ) (ns : Named) → many [] ◌∷◌ w.st.local_count named_at w.store w.st.local_at ≡ got ns f → NamedIn w.work low w.st.local_base ns → LocalIs i a w.work low r (first_named name (named_texts ns)))
     → LocalIs i a w.work w.st.back r (variable_of args name l)
 unfolding variable_of
@@ -210,7 +209,7 @@ variable_inside args name i a (no_locals b _) h k = let z : ◌≡◌ {A = ℕ} 
 variable_inside args name i a {w} {r = r} (some_locals ns f low b m e lo x) h k = subst (λ (o : Locals). LocalIs i a w.work w.st.back r (variable_of args name o)) (sym e) (local_lower lo (k low f ns m x))
 
 -- a variable among the formatting's
-pub variable_given : (name i a : List ℕ) (g : Given) {goal : List (Bytes × Argument)} {w : World} {l : Locals} {r : CodeLocal.Local} → judge a ≡ accepted goal → LocalsAt w l → w.st.local ≡ false
+pub variable_given : (name i a : List ℕ) (g : rust.Option Given) {goal : List (Bytes × Argument)} {w : World} {l : Locals} {r : rust.Option CodeValue.Value} → judge a ≡ accepted goal → LocalsAt w l → w.st.local ≡ false
     → Within a g → meant a g ≡ first_named name goal
     → ((low : ℕ) → Within a g → Ranged (meant a g) → LocalIs i a w.work low r (value_of_some (meant a g))) → LocalIs i a w.work w.st.back r (variable_of (values_of goal) name l)
 variable_given name i a g {goal} {w = w} {l = l} {r = r} ha lc h wi e k =
@@ -231,26 +230,26 @@ part_small s a n h = let q = length-take n (drop a s) in omega arith
 
 -- a variable written
 module _ (s args places : List ℕ) (a b : ℕ) (x l w t : List ℕ) (st : Progress) where
-  module _ {r : CodeLocal.Local} (fd : (u : Setup (env s (lent args places))) (L : Limits) (q : State) (k : Machine) → Live L (world s x l w t st) q k → LocalIs s args w st.back r (variable_of (values_of u.given) (part s a (b - a)) q.locals)) where
-    found_there : {C : Type 0} {c : CodeValue.Value} → r ≡ loc.Is c → {o : Option Value} → LocalIs s args w st.back r o → ((v : Value) → o ≡ some v → Holds s args w st.back c v → C) → C
+  module _ {r : rust.Option CodeValue.Value} (fd : (u : Setup (env s (lent args places))) (L : Limits) (q : State) (k : Machine) → Live L (world s x l w t st) q k → LocalIs s args w st.back r (variable_of (values_of u.given) (part s a (b - a)) q.locals)) where
+    found_there : {C : Type 0} {c : CodeValue.Value} → r ≡ rust.Some c → {o : Option Value} → LocalIs s args w st.back r o → ((v : Value) → o ≡ some v → Holds s args w st.back c v → C) → C
     found_there {c = c} e (is_there c' v p q h) k = let y : c' ≡ c = same (sym p ∙ e) in k v q (subst (λ (z : CodeValue.Value). Holds s args w st.back z v) y h)
       where
-        same : {m n : CodeValue.Value} → loc.Is m ≡ loc.Is n → m ≡ n
+        same : {m n : CodeValue.Value} → rust.Some m ≡ rust.Some n → m ≡ n
         same h = cc
     found_there e (is_missing p q) k = let z : ◌≡◌ {A = ℕ} 0 1 = cc in absurd (omega arith)
 
-    found_none : r ≡ loc.Missing → {o : Option Value} → LocalIs s args w st.back r o → o ≡ none
+    found_none : r ≡ rust.None → {o : Option Value} → LocalIs s args w st.back r o → o ≡ none
     found_none e (is_there c' v p q h) = let z : ◌≡◌ {A = ℕ} 0 1 = cc in absurd (omega arith)
     found_none e (is_missing p q) = q
 
-    write_found_part : {c : CodeValue.Value} {v : World} → r ≡ loc.Is c → Kept (world s x l w t st) v → ((y : Value) → Holds s args w st.back c y → Acts (write (value_text y)) (world s x l w t st) v) → VariableAt (env s (lent args places)) a b (world s x l w t st) v
+    write_found_part : {c : CodeValue.Value} {v : World} → r ≡ rust.Some c → Kept (world s x l w t st) v → ((y : Value) → Holds s args w st.back c y → Acts (write (value_text y)) (world s x l w t st) v) → VariableAt (env s (lent args places)) a b (world s x l w t st) v
     unfolding write_variable
     write_found_part e kp h = record {
       kept = kp;
       runs = λ u p q n z L m k lv. found_there e (fd u L m k lv) (λ y ey hy. run_found (values_of u.given) (part s a (b - a)) (λ o. write_variable (part s a (b - a)) o) kp (h y hy).runs L m k lv ey);
     }
 
-    resolve_found_part : {c : CodeValue.Value} → r ≡ loc.Is c → VariableValueAt (env s (lent args places)) a b (world s x l w t st) (world s x l w t st) c
+    resolve_found_part : {c : CodeValue.Value} → r ≡ rust.Some c → VariableValueAt (env s (lent args places)) a b (world s x l w t st) (world s x l w t st) c
     unfolding or_wrong ret
     resolve_found_part {c} e = record {
       kept = kept_same _;
@@ -258,7 +257,7 @@ module _ (s args places : List ℕ) (a b : ℕ) (x l w t : List ℕ) (st : Progr
       holds = λ u p q n z L m k lv _. found_there e (fd u L m k lv) (λ y ey hy. subst (λ (o : Value). Holds s args w st.back c o) (sym (value_found (values_of u.given) (part s a (b - a)) (λ o. or_wrong o) m ey)) hy);
     }
 
-    module _ {l' : List ℕ} {s₁ : Progress} (e : r ≡ loc.Missing) (ms : MissingAt l st (part s a (b - a)) l' s₁) where
+    module _ {l' : List ℕ} {s₁ : Progress} (e : r ≡ rust.None) (ms : MissingAt l st (part s a (b - a)) l' s₁) where
       write_missing_part : {v : World} → Acts (write (123 ∷ 36 ∷ part s a (b - a) ++ (125 ∷ []))) (world s x l' w t s₁) v → VariableAt (env s (lent args places)) a b (world s x l w t st) v
       unfolding write_variable braced
       write_missing_part h = record {
@@ -275,17 +274,17 @@ module _ (s args places : List ℕ) (a b : ℕ) (x l w t : List ℕ) (st : Progr
       }
 
   -- a variable whose name is a part of the store, if it is one
-  module _ {n : Bytes} (en : n ≡ between s a b) {r : CodeLocal.Local} (fd : (u : Setup (env s (lent args places))) (L : Limits) (q : State) (k : Machine) → Live L (world s x l w t st) q k → LocalIs s args w st.back r (variable_of (values_of u.given) n q.locals)) where
+  module _ {n : Bytes} (en : n ≡ between s a b) {r : rust.Option CodeValue.Value} (fd : (u : Setup (env s (lent args places))) (L : Limits) (q : State) (k : Machine) → Live L (world s x l w t st) q k → LocalIs s args w st.back r (variable_of (values_of u.given) n q.locals)) where
     fd_at : a ≤ b → b ≤ length s → (u : Setup (env s (lent args places))) (L : Limits) (q : State) (k : Machine) → Live L (world s x l w t st) q k → LocalIs s args w st.back r (variable_of (values_of u.given) (part s a (b - a)) q.locals)
     fd_at p q u L j k lv = subst (λ (m : Bytes). LocalIs s args w st.back r (variable_of (values_of u.given) m j.locals)) (en ∙ between_in s a b p q) (fd u L j k lv)
 
-    pub write_found : {c : CodeValue.Value} {v : World} → r ≡ loc.Is c → Kept (world s x l w t st) v → ((y : Value) → Holds s args w st.back c y → Acts (write (value_text y)) (world s x l w t st) v) → VariableAt (env s (lent args places)) a b (world s x l w t st) v
+    pub write_found : {c : CodeValue.Value} {v : World} → r ≡ rust.Some c → Kept (world s x l w t st) v → ((y : Value) → Holds s args w st.back c y → Acts (write (value_text y)) (world s x l w t st) v) → VariableAt (env s (lent args places)) a b (world s x l w t st) v
     write_found e kp h = record { kept = kp; runs = λ u p q. (write_found_part (fd_at p q) e kp h).runs u p q }
 
-    pub resolve_found : {c : CodeValue.Value} → r ≡ loc.Is c → VariableValueAt (env s (lent args places)) a b (world s x l w t st) (world s x l w t st) c
+    pub resolve_found : {c : CodeValue.Value} → r ≡ rust.Some c → VariableValueAt (env s (lent args places)) a b (world s x l w t st) (world s x l w t st) c
     resolve_found e = record { kept = kept_same _; runs = λ u p q. (resolve_found_part (fd_at p q) e).runs u p q; holds = λ u p q. (resolve_found_part (fd_at p q) e).holds u p q }
 
-    module _ {l' : List ℕ} {s₁ : Progress} (e : r ≡ loc.Missing) (ms : MissingAt l st n l' s₁) where
+    module _ {l' : List ℕ} {s₁ : Progress} (e : r ≡ rust.None) (ms : MissingAt l st n l' s₁) where
       ms_at : a ≤ b → b ≤ length s → MissingAt l st (part s a (b - a)) l' s₁
       ms_at p q = subst (λ (m : Bytes). MissingAt l st m l' s₁) (en ∙ between_in s a b p q) ms
 
@@ -301,3 +300,7 @@ module _ (s args places : List ℕ) (a b : ℕ) (x l w t : List ℕ) (st : Progr
         runs = λ u p q. (resolve_missing_part (fd_at p q) e (ms_at p q)).runs u p q;
         holds = λ u p q. (resolve_missing_part (fd_at p q) e (ms_at p q)).holds u p q;
       }
+
+-- a variable's value, under another name
+pub local_as : {i a w : List ℕ} {low : ℕ} {r q : rust.Option CodeValue.Value} {o : Option Value} → r ≡ q → LocalIs i a w low q o → LocalIs i a w low r o
+local_as {i} {a} {w} {low} {o = o} e h = subst (λ (x : rust.Option CodeValue.Value). LocalIs i a w low x o) (sym e) h

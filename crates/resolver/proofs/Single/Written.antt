@@ -15,7 +15,7 @@ use Rattle.resolution.specs.Effect.{Bytes, report, ◌>>◌, emit, write}
 use Rattle.resolution.specs.Resolve.{braced, write_ref_error, write_result}
 use Rattle.values.specs.declared.Value as CodeValue
 use Rattle.values.specs.declared.Value.TheVariants as val
-use Rattle.resolver.specs.Relations.Meets.{World, Env, lent, env, Kept, Acts, Holds, in_store, in_args, in_work, a_number, is_nothing, a_wrong}
+use Rattle.resolver.specs.Relations.Meets.{World, lent, env, Kept, Acts, Holds, in_store, in_args, in_work, a_number, is_nothing, a_wrong}
 use Rattle.resolver.specs.Relations.Leaves.{ResultIs, has_result, is_no_function, ResultAt}
 use Rattle.resolver.proofs.Single.Laws.{kept_then, acts_then}
 use Rattle.resolver.proofs.Single.Steps.{runs_as}
@@ -95,7 +95,3 @@ module _ (s args places : List ℕ) (a b : ℕ) {found : Bool} {c : CodeValue.Va
     result_none {w} {u} {v} f kp h g = result_in (kept_then kp g.kept) (λ p q.
         let e = en ∙ between_in s a b p q in
         none_part f kp (subst (λ (m : Bytes). length m ≤ 255 → Acts (emit (report (reference Referred.function m none))) w u) e h) (subst (λ (m : Bytes). Acts (write (123 ∷ m ++ (40 ∷ 41 ∷ 125 ∷ []))) u v) e g))
-
--- what holds of a value that was told holds of where it was told from
-pub result_held : {e : Env} {a b : ℕ} {found : Bool} {c d : CodeValue.Value} {w v : World} → c ≡ d → ResultAt e a b found c w v → ResultAt e a b found d w v
-result_held {e} {a} {b} {found} {w = w} {v = v} h r = subst (λ (y : CodeValue.Value). ResultAt e a b found y w v) h r

@@ -1,4 +1,5 @@
 -- What the code's buffers and state say of the definition's machine and state, and what it is for the code to run an action.
+use Rattle.state.specs.Progress.{refused_of}
 use Rattle.std.specs.Prelude.{◌≡◌, List, [], ◌∷◌, ◌++◌, Bool, true, false, ℕ, ◌+◌, ◌-◌, ◌≤◌, min, length, take, drop, ltb}
 use Rattle.std.proofs.Math.Option.{none, some}
 use Rattle.numbers.specs.Number.{Number, literal, in_range}
@@ -16,7 +17,7 @@ use Rattle.records.specs.Errors.{enc_error}
 use Rattle.records.specs.Encode.{enc_all}
 use Rattle.entries.specs.Lookup.{Find, find_in}
 unfoldable pub use Rattle.trail.specs.Relations.Trail.{prefixed, pattern_bytes, trail_of}
-use Rattle.state.specs.Progress.{Progress}
+use Rattle.state.specs.declared.Progress.{Progress}
 use Rattle.values.specs.declared.Value as CodeValue
 use Rattle.values.specs.declared.Value.TheVariants as val
 use Rattle.arguments.specs.Relations.Given.{between}
@@ -76,7 +77,7 @@ pub data LocalsAt (w : World) (l : Locals) : Type 0 where
 
 -- the world is at the machine k, and at the state s of the resolution
 pub record Live (L : Limits) (w : World) (s : State) (k : Machine) : Type 0 where
-  pub go : w.st.refused ≡ 0
+  pub go : (refused_of w.st) ≡ 0
   pub text_len : length w.text ≡ L.text_len
   pub list_len : length w.list ≡ L.list_len
   pub work_len : length w.work ≡ L.work_len
@@ -132,7 +133,7 @@ pub record Moved {A : Type 0} (w v : World) (r : Out A) : Type 0 where
 -- from w at the machine k, an action that gave r ended in v: at the machine that its trace leads to, or refused as the trace is
 pub data Ended {A : Type 0} (L : Limits) (w v : World) (r : Out A) (k : Machine) : Type 0 where
   ended : (k' : Machine) → exec L r.trace k ≡ ran k' → Live L v r.state k' → k'.nest ≡ k.nest → Moved w v r → Ended L w v r k
-  stopped : (n : ℕ) → exec L r.trace k ≡ refused n → (n ≡ 0 → ⊥) → v.st.refused ≡ n → Ended L w v r k
+  stopped : (n : ℕ) → exec L r.trace k ≡ refused n → (n ≡ 0 → ⊥) → (refused_of v.st) ≡ n → Ended L w v r k
 
 abbrev pub Runs : {A : Type 0} → M A → World → World → Type 0
 Runs m w v = (L : Limits) (s : State) (k : Machine) → Live L w s k → Ended L w v (m s) k
@@ -140,7 +141,7 @@ Runs m w v = (L : Limits) (s : State) (k : Machine) → Live L w s k → Ended L
 -- what holds of every step: what was begun stays so, and what was refused
 pub record Kept (w v : World) : Type 0 where
   pub begun : w.st.begun ≤ v.st.begun
-  pub over : (w.st.refused ≡ 0 → ⊥) → v.st.refused ≡ w.st.refused
+  pub over : ((refused_of w.st) ≡ 0 → ⊥) → (refused_of v.st) ≡ (refused_of w.st)
 
 -- w becomes v as the action says
 pub record Acts {A : Type 0} (m : M A) (w v : World) : Type 0 where

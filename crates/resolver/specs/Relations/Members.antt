@@ -1,4 +1,5 @@
 -- What each of the writers that call each other ensures: it runs the definition of what stands at its position.
+use Rattle.state.specs.Progress.{refused_of}
 use Rattle.std.specs.Prelude.{◌≡◌, List, [], ◌∷◌, Bool, true, ℕ, suc, ◌+◌, ◌≤◌}
 use Rattle.std.proofs.Math.Option.{Option}
 use Rattle.numbers.specs.Value.{Value}
@@ -53,7 +54,7 @@ pub record ValueAt (e : Env) (left at : ℕ) (w v : World) (x : CodeValue.Value)
   pub runs : (u : Setup e) (y : Inline) (f : ℕ) → inline left e.store at ≡ got y f
       → (n : ℕ) (t : Trail) → Here e w 0 n t → Runs (resolve_inline (setting_of e u) (find_of e u) (cross_of e u n) t y) w v
   pub holds : (u : Setup e) (y : Inline) (f : ℕ) → inline left e.store at ≡ got y f
-      → (n : ℕ) (t : Trail) → Here e w 0 n t → (L : Limits) (s : State) (k : Machine) → Live L w s k → v.st.refused ≡ 0
+      → (n : ℕ) (t : Trail) → Here e w 0 n t → (L : Limits) (s : State) (k : Machine) → Live L w s k → (refused_of v.st) ≡ 0
       → Holds e.store e.given.args v.work v.st.back x (resolve_inline (setting_of e u) (find_of e u) (cross_of e u n) t y s).value
 
 -- a select, past its tag, whose parts nest at most `left` deep
@@ -99,7 +100,7 @@ pub record PositionalAt (e : Env) (left at : ℕ) (w v : World) (first : CodeVal
       → (n : ℕ) (t : Trail) → Here e w 0 n t → Runs (positional_values (setting_of e u) (find_of e u) (cross_of e u n) t xs) w v
   pub ends : (k c : ℕ) (xs : Inlines) (f : ℕ) → number_at 2 e.store at ≡ got k c → inlines_at (inline left) k e.store c ≡ got xs f → end ≡ f
   pub first_is : (u : Setup e) (k c : ℕ) (xs : Inlines) (f : ℕ) → number_at 2 e.store at ≡ got k c → inlines_at (inline left) k e.store c ≡ got xs f
-      → (n : ℕ) (t : Trail) → Here e w 0 n t → (L : Limits) (s : State) (m : Machine) → Live L w s m → v.st.refused ≡ 0
+      → (n : ℕ) (t : Trail) → Here e w 0 n t → (L : Limits) (s : State) (m : Machine) → Live L w s m → (refused_of v.st) ≡ 0
       → FirstIs first (positional_values (setting_of e u) (find_of e u) (cross_of e u n) t xs s).value
 
 -- the same, where the first value is not kept
@@ -113,7 +114,7 @@ pub record CalledAt (e : Env) (left at : ℕ) (w v : World) (found : Bool) (c : 
       → (n : ℕ) (t : Trail) → Here e w 0 n t
       → Runs (release (get_arguments (setting_of e u) (find_of e u) (cross_of e u n) t xs ns >>= λ g. call_function (find_of e u) i g)) w v
   pub result : (u : Setup e) (i : Bytes) (p : ℕ) (xs : Inlines) (ns : Named) (f : ℕ) → id_at e.store at ≡ got i p → arguments_at (inline left) e.store p ≡ got (xs, ns) f
-      → (n : ℕ) (t : Trail) → Here e w 0 n t → (L : Limits) (s : State) (m : Machine) → Live L w s m → v.st.refused ≡ 0
+      → (n : ℕ) (t : Trail) → Here e w 0 n t → (L : Limits) (s : State) (m : Machine) → Live L w s m → (refused_of v.st) ≡ 0
       → ResultIs e.store e.given.args v.work v.st.back found c
       (release (get_arguments (setting_of e u) (find_of e u) (cross_of e u n) t xs ns >>= λ g. call_function (find_of e u) i g) s).value
 
@@ -123,7 +124,7 @@ pub record TextValueAt (e : Env) (left at : ℕ) (w v : World) (x : CodeValue.Va
   pub runs : (u : Setup e) (y : Inline) (f : ℕ) → inline left e.store at ≡ got y f
       → (n : ℕ) (t : Trail) → Here e w 0 n t → Runs (held (capture (write_inline (setting_of e u) (find_of e u) (cross_of e u n) t y))) w v
   pub holds : (u : Setup e) (y : Inline) (f : ℕ) → inline left e.store at ≡ got y f
-      → (n : ℕ) (t : Trail) → Here e w 0 n t → (L : Limits) (s : State) (k : Machine) → Live L w s k → v.st.refused ≡ 0
+      → (n : ℕ) (t : Trail) → Here e w 0 n t → (L : Limits) (s : State) (k : Machine) → Live L w s k → (refused_of v.st) ≡ 0
       → Holds e.store e.given.args v.work v.st.back x (held (capture (write_inline (setting_of e u) (find_of e u) (cross_of e u n) t y)) s).value
 
 -- the same, where its tag is known, and that it is one of these

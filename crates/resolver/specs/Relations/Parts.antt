@@ -1,15 +1,14 @@
 -- What the parts of a writer ensure that stand outside of the writers that call each other: what the writer then ensures, for whatever came before.
-use Rattle.std.specs.Prelude.{◌≡◌, List, Bool, true, ℕ, ◌+◌, ◌-◌, eqb}
+use Rattle.records.specs.Relations.Answer.{Num}
+use Rattle.std.specs.Prelude.{Some, None}
+use Rattle.std.specs.Prelude.{◌≡◌, List, Bool, true, ℕ, ◌+◌, ◌-◌}
 use Rattle.records.specs.Got.{got}
 use Rattle.records.specs.Bytes.{byte_at}
-use Rattle.records.specs.declared.Num.{Num}
-use Rattle.records.specs.declared.Num.TheVariants as num
-use Rattle.state.specs.Progress.{Progress}
+use Rattle.state.specs.declared.Progress.{Progress}
 use Rattle.state.specs.Setters.{aside_s}
 use Rattle.values.specs.declared.Value as CodeValue
-use Rattle.state.specs.declared.Reference.{Reference}
+use Rattle.std.specs.Prelude as rust
 use Rattle.state.specs.declared.Referring.{Referring}
-use Rattle.state.specs.declared.Reference.TheVariants as ref
 use Rattle.resolver.specs.Relations.Meets.{Lent, World, world, Env, env}
 use Rattle.resolver.specs.Relations.Leaves.{ReferenceIs}
 use Rattle.resolver.specs.Relations.Members.{InlineAt, ValueAt, TextValueAt, CalledAt, TermAt}
@@ -33,11 +32,11 @@ abbrev pub CallWritten : Env → ℕ → Bool → CodeValue.Value → World → 
 CallWritten e p found c w v = (left at tag : ℕ) (w₀ : World) → byte_at e.store at ≡ got tag p → tag ≡ 3 → CalledAt e (left - 1) p w₀ w found c → InlineAt e left at w₀ v
 
 -- a text of its own, once it is made: where an inline expression was written aside, its value
-pub record TextKept (start was : ℕ) (w : List ℕ) (st : Progress) (w' : List ℕ) (r : Progress) (c : CodeValue.Value) : Type 0 where
+pub record TextKept (start : ℕ) (was : Bool) (w : List ℕ) (st : Progress) (w' : List ℕ) (r : Progress) (c : CodeValue.Value) : Type 0 where
   pub kept : (e : Env) (left at : ℕ) (x l w₀ t : List ℕ) (s₀ : Progress) {s₁ : Progress} → s₁ ≡ aside_s true s₀ → (i x₁ l₁ t₁ : List ℕ) → InlineAt e left at (world e.store x l w₀ t s₁) (world i x₁ l₁ w t₁ st)
-      → start ≡ s₀.front → eqb was 1 ≡ s₀.aside → TextValueAt e left at (world e.store x l w₀ t s₀) (world i x₁ l₁ w' t₁ r) c
+      → start ≡ s₀.front → was ≡ s₀.aside → TextValueAt e left at (world e.store x l w₀ t s₀) (world i x₁ l₁ w' t₁ r) c
 
 -- the Flag of a term reference's arguments, its tag at `at`, and the position past it
 pub data TermFlag (s : List ℕ) (at : ℕ) (r : Num) : Type 0 where
-  flagged : (flag p : ℕ) (q : Reference) (y : Referring) → r ≡ num.At flag p → ReferenceIs s (at + 1) q → q ≡ ref.Is y → byte_at s y.end ≡ got flag p → TermFlag s at r
-  unflagged : r ≡ num.Bad → ((image : Lent) (left : ℕ) (w : World) → TermAt (env s image) left at w w) → TermFlag s at r
+  flagged : (flag p : ℕ) (q : rust.Option Referring) (y : Referring) → r ≡ Some (flag, p) → ReferenceIs s (at + 1) q → q ≡ rust.Some y → byte_at s y.end ≡ got flag p → TermFlag s at r
+  unflagged : r ≡ None → ((image : Lent) (left : ℕ) (w : World) → TermAt (env s image) left at w w) → TermFlag s at r

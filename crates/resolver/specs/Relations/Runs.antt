@@ -1,5 +1,6 @@
 -- The parts of a formatting: the message that is found, the run, and what the buffers hold in the end.
-use Rattle.std.specs.Prelude.{◌≡◌, Bool, true, false, ℕ, ◌-◌, ◌≤◌, ◌<◌, ◌%◌, min, length, take, drop, eqb}
+use Rattle.state.specs.Progress.{refused_of}
+use Rattle.std.specs.Prelude.{◌≡◌, Bool, true, false, ℕ, ◌-◌, ◌≤◌, ◌<◌, min, length, take, drop, eqb, Result, Ok, Err}
 use Rattle.std.proofs.Math.Option.{Option, none, some}
 use Rattle.records.specs.Got.{got}
 use Rattle.records.specs.Bytes.{part}
@@ -17,11 +18,12 @@ use Rattle.resolution.specs.Resolve.{as_message}
 use Rattle.resolution.specs.Exec.{Machine, Ran, ran, refused, exec}
 use Rattle.resolution.specs.Format.{Answer, finished, refused_before, refused_running, Buffers, Formatted, limits_of, zeros, refuse, format_arguments, format}
 use Rattle.theorems.specs.Finished.{trace_of}
-use Rattle.state.specs.Progress.{Progress}
+use Rattle.state.specs.declared.Progress.{Progress}
+use Rattle.refusals.specs.declared.Refusal.{Refusal}
+use Rattle.refusals.specs.declared.Refusal.TheVariants as refusal
+use Rattle.refusals.specs.Numbers.{number_of}
 use Rattle.resolver.specs.Relations.Meets.{Env, Setup, setting_of, find_of}
 use Rattle.state.specs.Setters.{max_unfound}
-use Rattle.resolver.specs.declared.format.Part as CodePart
-use Rattle.resolver.specs.declared.format.Part.TheVariants as PartAnswer
 
 -- the same with a count of lookups unfound that stops at 2^64 - 1, as the code counts; no store reaches that
 unfoldable pub stopped_of : Answer → Answer
@@ -32,37 +34,41 @@ stopped_of (refused_running n) = refused_running n
 unfoldable pub stopped : Formatted → Formatted
 stopped f = record { answer = stopped_of f.answer; buffers = f.buffers }
 
+-- where a pattern stands in the store, or the refusal
+abbrev pub Part : Type 0
+Part = Result ℕ Refusal
+
 -- the part of an entry by its position, or 12
-unfoldable pub part_answer : Option ℕ → CodePart.Part
-part_answer none = PartAnswer.Refused 12
-part_answer (some q) = PartAnswer.At q
+unfoldable pub part_answer : Option ℕ → Part
+part_answer none = Err refusal.NoPattern
+part_answer (some q) = Ok q
 
 -- the part of the message that an id has, or 11
-unfoldable pub message_at : Option Location → Bytes → Option Bytes → CodePart.Part
+unfoldable pub message_at : Option Location → Bytes → Option Bytes → Part
 message_at (some (Location.message q)) s a = part_answer (part_in a s q)
-message_at (some (Location.term q)) s a = PartAnswer.Refused 11
-message_at (some Location.function) s a = PartAnswer.Refused 11
-message_at none s a = PartAnswer.Refused 11
+message_at (some (Location.term q)) s a = Err refusal.NoMessage
+message_at (some Location.function) s a = Err refusal.NoMessage
+message_at none s a = Err refusal.NoMessage
 
-unfoldable pub message_in : Bytes → Bytes → Option Bytes → CodePart.Part
+unfoldable pub message_in : Bytes → Bytes → Option Bytes → Part
 message_in s id a = message_at (locate s id) s a
 
 -- the same of a store that was read: 11, 12, or the pattern that is asked for
-pub data MessageFound (s : Bytes) (v : Store) (id : Bytes) (a : Option Bytes) (r : CodePart.Part) : Type 0 where
-  no_message : r ≡ PartAnswer.Refused 11 → as_message (find_in v.items id) ≡ none → MessageFound s v id a r
-  no_such_part : (e : Entry) → r ≡ PartAnswer.Refused 12 → as_message (find_in v.items id) ≡ some e → part_of a e ≡ none → MessageFound s v id a r
-  pattern_found : (e : Entry) (q : ℕ) (p : Pattern) (f : ℕ) → r ≡ PartAnswer.At q → as_message (find_in v.items id) ≡ some e → part_of a e ≡ some p
+pub data MessageFound (s : Bytes) (v : Store) (id : Bytes) (a : Option Bytes) (r : Part) : Type 0 where
+  no_message : r ≡ Err refusal.NoMessage → as_message (find_in v.items id) ≡ none → MessageFound s v id a r
+  no_such_part : (e : Entry) → r ≡ Err refusal.NoPattern → as_message (find_in v.items id) ≡ some e → part_of a e ≡ none → MessageFound s v id a r
+  pattern_found : (e : Entry) (q : ℕ) (p : Pattern) (f : ℕ) → r ≡ Ok q → as_message (find_in v.items id) ≡ some e → part_of a e ≡ some p
       → entry_pattern_at s q ≡ got p f → MessageFound s v id a r
 
 -- the pattern that is asked for, by its position, or the refusal before the run: 4, 8, 11, 12
-pub data PatternFound (s id : Bytes) (a : Option Bytes) (r : CodePart.Part) : Type 0 where
-  refuses : (n : ℕ) → r ≡ PartAnswer.Refused n → ((image : Bytes) (b : Buffers) → format s id a image b ≡ refuse n b) → PatternFound s id a r
-  finds : (q : ℕ) (st : Store) (used : ℕ) (p : Pattern) (f : ℕ) → r ≡ PartAnswer.At q → store_of s ≡ got st used → entry_pattern_at s q ≡ got p f
+pub data PatternFound (s id : Bytes) (a : Option Bytes) (r : Part) : Type 0 where
+  refuses : (n : Refusal) → r ≡ Err n → ((image : Bytes) (b : Buffers) → format s id a image b ≡ refuse (number_of n) b) → PatternFound s id a r
+  finds : (q : ℕ) (st : Store) (used : ℕ) (p : Pattern) (f : ℕ) → r ≡ Ok q → store_of s ≡ got st used → entry_pattern_at s q ≡ got p f
       → ((image : Bytes) (b : Buffers) → format s id a image b ≡ format_arguments st p (judge image) b) → PatternFound s id a r
 
 -- the state and the buffers are at the machine k, and no message is being formatted: no workspace text is open, and nothing is in use
 pub record Rests (x l w : Bytes) (p : Progress) (k : Machine) : Type 0 where
-  pub go : p.refused ≡ 0
+  pub go : (refused_of p) ≡ 0
   pub text_in : p.text_at ≤ length x
   pub header_in : 5 ≤ p.list_at
   pub list_in : p.list_at ≤ length l
@@ -88,7 +94,7 @@ pub record Grown (x l : Bytes) (p : Progress) (x' l' : Bytes) (r : Progress) : T
 -- what the state, the buffers and a number of placeables begun say of a run's outcome
 pub data RanAs (o : Ran) (x l : Bytes) (p : Progress) (x' l' w' : Bytes) (r : Progress) (begun : ℕ) : Type 0 where
   ran_as : (m : Machine) → o ≡ ran m → Rests x' l' w' r m → begun ≡ m.begun → Grown x l p x' l' r → RanAs o x l p x' l' w' r begun
-  refused_as : (n : ℕ) → o ≡ refused n → (n ≡ 0 → ⊥) → n < 256 → r.refused ≡ n → RanAs o x l p x' l' w' r begun
+  refused_as : (n : ℕ) → o ≡ refused n → (n ≡ 0 → ⊥) → n < 256 → (refused_of r) ≡ n → RanAs o x l p x' l' w' r begun
 
 -- the run of the pattern at q, from a machine at rest with nothing begun
 pub record RunOn (e : Env) (q : ℕ) (x l w : Bytes) (p : Progress) (x' l' w' : Bytes) (r : Progress) : Type 0 where
@@ -96,12 +102,12 @@ pub record RunOn (e : Env) (q : ℕ) (x l w : Bytes) (p : Progress) (x' l' w' : 
   pub list_size : length l' ≡ length l
   pub work_size : length w' ≡ length w
   pub runs : (u : Setup e) (t : Pattern) (f : ℕ) → entry_pattern_at e.store q ≡ got t f → (k : Machine) → k.begun ≡ 0 → Rests x l w p k
-      → RanAs (exec (limits_of (record { text = x; list = l; work = w })) (trace_of (setting_of e u) (find_of e u) t) k) x l p x' l' w' r r.begun × (r.refused ≡ 0 → r.begun ≤ 101)
+      → RanAs (exec (limits_of (record { text = x; list = l; work = w })) (trace_of (setting_of e u) (find_of e u) t) k) x l p x' l' w' r r.begun × ((refused_of r) ≡ 0 → r.begun ≤ 101)
 
 -- what is answered, and what the buffers hold in the end: the list gets its header, or all three are cleared
 unfoldable pub closed_if : Bool → Progress → ℕ → Buffers → Formatted
 closed_if true p n b = record { answer = finished p.text_at p.errors n p.unfound p.high; buffers = record { text = b.text; list = headed b.list p.list_at; work = zeros b.work } }
-closed_if false p n b = record { answer = refused_running (p.refused % 256); buffers = record { text = zeros b.text; list = zeros b.list; work = zeros b.work } }
+closed_if false p n b = record { answer = refused_running (refused_of p); buffers = record { text = zeros b.text; list = zeros b.list; work = zeros b.work } }
 
 unfoldable pub closed : Progress → ℕ → Buffers → Formatted
-closed p n b = closed_if (eqb p.refused 0) p n b
+closed p n b = closed_if (eqb (refused_of p) 0) p n b

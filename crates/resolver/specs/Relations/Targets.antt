@@ -5,16 +5,16 @@ use Rattle.records.specs.Errors.{no_value}
 use Rattle.texts.specs.Relations.Report.{referred_of}
 use Rattle.texts.specs.declared.errors.Referred.TheVariants as referred
 use Rattle.resolution.specs.Effect.{report, emit}
-use Rattle.state.specs.Progress.{Progress}
+use Rattle.state.specs.declared.Progress.{Progress}
 use Rattle.state.specs.Setters.{counted_s}
 use Rattle.resolver.specs.Relations.Meets.{Lent, World, world, Kept, Acts, env}
 use Rattle.resolver.specs.Relations.Leaves.{ErrorAt, RefErrorAt}
 use Rattle.resolver.specs.Relations.Members.{TrackAt, MessageAt, FoundTermAt}
-use Rattle.entries.specs.declared.Found.{Found}
-use Rattle.entries.specs.declared.Found.TheVariants as found
+use Rattle.entries.specs.declared.Holder.{Holder as Held}
+use Rattle.entries.specs.declared.Holder.TheVariants as found
+use Rattle.std.specs.Prelude as rust
 use Rattle.state.specs.declared.Referring.{Referring}
-use Rattle.resolver.specs.declared.reference.Holder.{Holder}
-use Rattle.resolver.specs.declared.reference.Holder.TheVariants as holder
+use Rattle.resolver.specs.declared.reference.NoEntry.{NoEntry}
 use Rattle.resolver.specs.declared.reference.Target as CodeTarget
 use Rattle.resolver.specs.declared.reference.Target.TheVariants as target
 
@@ -53,22 +53,26 @@ abbrev pub TargetAt : Bool → List ℕ → ℕ → CodeTarget.Target → Type 0
 TargetAt true s at r = TermTarget s at r
 TargetAt false s at r = MessageTarget s at r
 
+-- no entry of the kind that is asked for; and whether the Id has none of any kind
+abbrev pub no_entry : Bool → rust.Result ℕ NoEntry
+no_entry lost = rust.Err (record { lost = lost })
+
 -- the entry of a holder that is of the kind asked for; else whether the Id has no entry of any kind
-unfoldable pub holder_of : Bool → Found → Holder
-holder_of true (found.Message q) = holder.Not false
-holder_of false (found.Message q) = holder.Is q
-holder_of true (found.Term q) = holder.Is q
-holder_of false (found.Term q) = holder.Not false
-holder_of true found.Function = holder.Not false
-holder_of false found.Function = holder.Not false
-holder_of true found.Nothing = holder.Not true
-holder_of false found.Nothing = holder.Not true
+unfoldable pub holder_of : Bool → rust.Option Held → rust.Result ℕ NoEntry
+holder_of true (rust.Some (found.Message q)) = no_entry false
+holder_of false (rust.Some (found.Message q)) = rust.Ok q
+holder_of true (rust.Some (found.Term q)) = rust.Ok q
+holder_of false (rust.Some (found.Term q)) = no_entry false
+holder_of true (rust.Some found.Function) = no_entry false
+holder_of false (rust.Some found.Function) = no_entry false
+holder_of true rust.None = no_entry true
+holder_of false rust.None = no_entry true
 
 -- what stands for a part that an entry lacks: a message without a value is NoValue
-unfoldable pub lacking_if : Bool → Referring → CodeTarget.Target
-lacking_if true y = target.Missing false
-lacking_if false y = target.NoValue y.from y.to
+unfoldable pub lacking_if : rust.Option (ℕ × ℕ) → Referring → CodeTarget.Target
+lacking_if (rust.Some s) y = target.Missing false
+lacking_if rust.None y = target.NoValue y.from y.to
 
 unfoldable pub lacking_of : Bool → Referring → CodeTarget.Target
 lacking_of true y = target.Missing false
-lacking_of false y = lacking_if y.has y
+lacking_of false y = lacking_if y.attribute y

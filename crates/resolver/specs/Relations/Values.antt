@@ -4,29 +4,27 @@ use Rattle.std.proofs.Math.Option.{Option, none, some}
 use Rattle.numbers.specs.Number.{Options, is_number, digits_limit, scale_limit}
 use Rattle.numbers.specs.Value.{Value, too_long, merge_one}
 use Rattle.decimals.specs.Relations.Shown.{shown_options}
-use Rattle.numbers.specs.Relations.Shown.{merged_of}
+use Rattle.numbers.specs.Relations.Shown.{merged_of, too_long_error}
+use Rattle.decimals.specs.declared.types.Number as CodeNumber
+use Rattle.std.specs.Prelude as rust
+use Rattle.std.specs.Prelude.{Some, None, Ok, Err}
 use Rattle.decimals.specs.declared.types.Options as CodeOptions
-use Rattle.numbers.specs.declared.merge.Merged as CodeMerged
-use Rattle.numbers.specs.declared.merge.Merged.TheVariants as merges
+use Rattle.numbers.specs.declared.merge.TooLong.{TooLong}
 use Rattle.records.specs.Got.{got}
 use Rattle.records.specs.Bytes.{part}
 use Rattle.records.specs.Tree.{Literal}
 use Rattle.records.specs.Decode.{named_at}
 use Rattle.records.specs.Images.{Argument}
 use Rattle.resolution.specs.Format.{value_of}
-use Rattle.literals.specs.declared.literal.Literal as CodeLiteral
-use Rattle.literals.specs.declared.literal.Literal.TheVariants as literals
 use Rattle.values.specs.declared.Value as CodeValue
 use Rattle.values.specs.declared.Value.TheVariants as val
 use Rattle.resolver.specs.declared.scope.value.NamedSpan.{NamedSpan}
-use Rattle.resolver.specs.declared.scope.value.NamedRead as CodeNamed
-use Rattle.resolver.specs.declared.scope.value.NamedRead.TheVariants as named
 use Rattle.resolver.specs.Relations.Meets.{takes, literal_text, TextIn, Holds}
 
 -- the value of what was read as a number literal: an error where it was none
-unfoldable pub literal_valued : CodeLiteral.Literal → CodeValue.Value
-literal_valued (literals.Is n) = val.Number n
-literal_valued literals.Bad = val.Wrong
+unfoldable pub literal_valued : rust.Option CodeNumber.Number → CodeValue.Value
+literal_valued (Some n) = val.Number n
+literal_valued None = val.Wrong
 
 -- a literal, by its tag and where its bytes stand
 pub data LiteralIs (s : List ℕ) (tag a e : ℕ) (x : Literal) : Type 0 where
@@ -34,10 +32,10 @@ pub data LiteralIs (s : List ℕ) (tag a e : ℕ) (x : Literal) : Type 0 where
   is_digits : tag ≡ 2 → is_number (part s a (e - a)) ≡ true → x ≡ Literal.number (part s a (e - a)) → LiteralIs s tag a e x
 
 -- a named argument, by positions
-pub record NamedReads (s : List ℕ) (at : ℕ) (r : CodeNamed.NamedRead) : Type 0 where
-  pub inside : (n : NamedSpan) → r ≡ named.Is n → (n.from ≤ n.to) × (n.to ≤ length s) × (n.start ≤ n.end) × (n.end ≤ length s)
-  pub reads : (n : NamedSpan) → r ≡ named.Is n → (x : List ℕ × Literal) (f : ℕ) → named_at s at ≡ got x f → (x.0 ≡ part s n.from (n.to - n.from)) × (f ≡ n.end) × LiteralIs s n.tag n.start n.end x.1
-  pub unread : r ≡ named.Bad → (x : List ℕ × Literal) (f : ℕ) → named_at s at ≡ got x f → ⊥
+pub record NamedReads (s : List ℕ) (at : ℕ) (r : rust.Option NamedSpan) : Type 0 where
+  pub inside : (n : NamedSpan) → r ≡ rust.Some n → (n.from ≤ n.to) × (n.to ≤ length s) × (n.start ≤ n.end) × (n.end ≤ length s)
+  pub reads : (n : NamedSpan) → r ≡ rust.Some n → (x : List ℕ × Literal) (f : ℕ) → named_at s at ≡ got x f → (x.0 ≡ part s n.from (n.to - n.from)) × (f ≡ n.end) × LiteralIs s n.tag n.start n.end x.1
+  pub unread : r ≡ rust.None → (x : List ℕ × Literal) (f : ℕ) → named_at s at ≡ got x f → ⊥
 
 -- the bytes that a literal's text takes at the workspace's back
 abbrev pub TakenAt : List ℕ → ℕ → ℕ → ℕ → ℕ → Type 0
@@ -61,12 +59,12 @@ Ranged (some (Argument.number f d k)) = (d < digits_limit) × (k ≤ scale_limit
 Ranged (some Argument.nothing) = Unit {0}
 
 -- one option merged: its name from `from` to `to`, its literal's text up to `base` in the workspace
-abbrev pub MergedAt : List ℕ → List ℕ → ℕ → ℕ → ℕ → ℕ → ℕ → ℕ → CodeOptions.Options → CodeMerged.Merged → Type 0
+abbrev pub MergedAt : List ℕ → List ℕ → ℕ → ℕ → ℕ → ℕ → ℕ → ℕ → CodeOptions.Options → rust.Result CodeOptions.Options TooLong → Type 0
 MergedAt s w from to tag a e base o r =
     (x : Literal) (p : Options) → LiteralIs s tag a e x → from ≤ to → to ≤ length s → a ≤ e → e ≤ length s → takes x ≤ base → base ≤ length w → TextIn w base x → o ≡ shown_options p
     → r ≡ merged_of (part s from (to - from)) (literal_text x) p
 
 -- options merged in order, up to one that is refused
-unfoldable pub merged_all : List (List ℕ × Value) → Options → CodeMerged.Merged
-merged_all [] o = merges.Is (shown_options o)
-merged_all (e ∷ es) o = elim (too_long e.0 e.1) [ true ↦ merges.TooLong | false ↦ merged_all es (merge_one e.0 e.1 o) ]
+unfoldable pub merged_all : List (List ℕ × Value) → Options → rust.Result CodeOptions.Options TooLong
+merged_all [] o = Ok (shown_options o)
+merged_all (e ∷ es) o = elim (too_long e.0 e.1) [ true ↦ Err too_long_error | false ↦ merged_all es (merge_one e.0 e.1 o) ]

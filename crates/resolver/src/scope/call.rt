@@ -4,19 +4,19 @@ ghost use Rattle.std.proofs.Math.Option.{Option, some, none};
 ghost use Rattle.decimals.specs.Decimal as NumbersOptions;
 ghost use Rattle.decimals.specs.Relations.Shown.{shown_options};
 ghost use Rattle.records.specs.Got.{got};
-ghost use Rattle.state.specs.Progress.{progress_of};
 ghost use Rattle.records.specs.Tree.{Named};
 ghost use Rattle.records.specs.Decode.{many, named_at};
 ghost use Rattle.resolver.specs.Relations.Meets.{NamedIn, named_texts};
 ghost use Rattle.resolver.specs.Relations.Leaves.{NumberAt};
 ghost use Rattle.resolver.specs.Relations.Values.{MergedAt, merged_all};
 
-use crate::scope::value::{NamedRead, read_named, taken};
+use crate::scope::value::{read_named, taken};
 use arguments::text_of;
 use decimals::types::{Number, Options};
-use literals::literal::{Literal, read_literal};
-use numbers::merge::{Merged, merge_number, merge_text};
-use state::{REFUSED, refuse};
+use literals::literal::read_literal;
+use numbers::merge::{TooLong, merge_number, merge_text};
+use refusals::Refusal;
+use state::Progress;
 use unescape::{has_backslash, unescaped_len};
 use values::Value;
 
@@ -31,25 +31,25 @@ pub(crate) fn merge_one(
     e: usize,
     base: usize,
     o: Options,
-) -> Merged
+) -> Result<Options, TooLong>
     ensures { MergedAt s.now work.now from to tag a e base o result }
 {
     let name = text_of(s, from, to);
     let src = text_of(s, a, e);
     if tag == 2 {
-        let Literal::Is(n) = read_literal(src) else {
-            return Merged::Is(o);
+        let Some(n) = read_literal(src) else {
+            return Ok(o);
         };
         return merge_number(name, n, o);
     }
     if !has_backslash(src) {
-        return Merged::Is(merge_text(name, src, o));
+        return Ok(merge_text(name, src, o));
     }
     let n = unescaped_len(src);
     if base < n {
-        return Merged::Is(o);
+        return Ok(o);
     }
-    Merged::Is(merge_text(name, text_of(work, base - n, base), o))
+    Ok(merge_text(name, text_of(work, base - n, base), o))
 }
 
 // Merges the named arguments at `at`, whose texts end at `base` in the workspace.
@@ -60,60 +60,55 @@ pub(crate) fn merge_named(
     count: usize,
     base: usize,
     options: Options,
-) -> Merged
+) -> Result<Options, TooLong>
     ensures { (x : NumbersOptions.Options) (ns : Named) (f low : ℕ) → options ≡ shown_options x → many [] ◌∷◌ count named_at s.now at ≡ got ns f → NamedIn work.now low base ns → result ≡ merged_all (named_texts ns) x }
 {
     let mut o = options;
     let mut p = at;
     let mut end = base;
-    let mut i = count;
-    while 0 < i {
-        let NamedRead::Is(n) = read_named(s, p) else {
-            return Merged::Is(o);
+    for _ in 0..count {
+        let Some(n) = read_named(s, p) else {
+            return Ok(o);
         };
         let e = n.end;
-        let Merged::Is(next) = merge_one(s, work, n.from, n.to, n.tag, n.start, e, end, o) else {
-            return Merged::TooLong;
-        };
-        o = next;
+        o = merge_one(s, work, n.from, n.to, n.tag, n.start, e, end, o)?;
         let k = taken(s, n.tag, n.start, e);
         if end < k {
-            return Merged::Is(o);
+            return Ok(o);
         }
         end = end - k;
         p = e;
-        i -= 1;
     }
-    Merged::Is(o)
+    Ok(o)
 }
 
 // The Rust's NUMBER: a number first, else Error.
 pub(crate) fn number_function(
     s: &[u8],
     work: &[u8],
-    st: &mut [usize; 16],
+    st: &mut Progress,
     at: usize,
     count: usize,
     base: usize,
     first: Value,
 ) -> Value
-    ensures { NumberAt s.now work.now (progress_of st.old) at count base first (progress_of st.new) result }
+    ensures { NumberAt s.now work.now st.old at count base first st.new result }
 {
-    if st[REFUSED] != 0 {
+    if st.is_refused() {
         return Value::Wrong;
     }
     match first {
         Value::Number(n) => {
             let o = n.options;
             match merge_named(s, work, at, count, base, o) {
-                Merged::Is(merged) => Value::Number(Number {
+                Ok(merged) => Value::Number(Number {
                     negative: n.negative,
                     digits: n.digits,
                     scale: n.scale,
                     options: merged,
                 }),
-                Merged::TooLong => {
-                    refuse(st, 17);
+                Err(TooLong) => {
+                    st.refuse(Refusal::ManyDigits);
                     Value::Wrong
                 }
             }

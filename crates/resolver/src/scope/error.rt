@@ -3,8 +3,8 @@ ghost use Rattle.std.specs.Prelude.{◌≡◌};
 ghost use Rattle.resolver.specs.Relations.Leaves.{PiecesAt, nameless, reference_pieces};
 
 use crate::scope::reference::read_reference;
-use records::{Num, read_byte, read_str};
-use state::Reference;
+use records::{read_byte, read_str};
+use state::Referring;
 
 // A part of the words, one of the store, one of the words, one of the store. The words are `{???{-{$.()`.
 #[derive(Clone, Copy)]
@@ -36,33 +36,33 @@ fn no_name() -> Pieces
 }
 
 // Of a message or a term: its Id, and a dot and its attribute if it has one.
-fn reference_pieces(head: usize, stop: usize, r: Reference) -> Pieces
+fn reference_pieces(head: usize, stop: usize, r: Option<Referring>) -> Pieces
     ensures { result ≡ reference_pieces head stop r }
 {
-    let Reference::Is(x) = r else {
+    let Some(x) = r else {
         return no_name();
     };
-    if x.has {
-        return Pieces {
-            head: head,
+    match x.attribute {
+        Some((start, end)) => Pieces {
+            head,
             head_end: stop,
             from: x.from,
             to: x.to,
             joint: 8,
             joint_end: 9,
-            start: x.start,
-            end: x.end,
-        };
-    }
-    Pieces {
-        head: head,
-        head_end: stop,
-        from: x.from,
-        to: x.to,
-        joint: 0,
-        joint_end: 0,
-        start: 0,
-        end: 0,
+            start,
+            end,
+        },
+        None => Pieces {
+            head,
+            head_end: stop,
+            from: x.from,
+            to: x.to,
+            joint: 0,
+            joint_end: 0,
+            start: 0,
+            end: 0,
+        },
     }
 }
 
@@ -70,7 +70,7 @@ fn reference_pieces(head: usize, stop: usize, r: Reference) -> Pieces
 pub(crate) fn error_pieces(store: &[u8], at: usize) -> Pieces
     ensures { PiecesAt store.now at result }
 {
-    let Num::At(tag, p) = read_byte(store, at) else {
+    let Some((tag, p)) = read_byte(store, at) else {
         return no_name();
     };
     if tag == 4 {
@@ -79,7 +79,7 @@ pub(crate) fn error_pieces(store: &[u8], at: usize) -> Pieces
     if tag == 5 {
         return reference_pieces(4, 6, read_reference(store, p));
     }
-    let Num::At(a, e) = read_str(store, p) else {
+    let Some((a, e)) = read_str(store, p) else {
         return no_name();
     };
     if tag == 3 {

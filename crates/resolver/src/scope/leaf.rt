@@ -1,7 +1,5 @@
 // Inline expressions that hold no other, written or resolved; what follows a call that is written; and a text of its own, once it is made.
 ghost use Rattle.std.specs.Prelude.{◌≡◌, List, ℕ};
-ghost use Rattle.state.specs.Progress.{progress_of};
-ghost use Rattle.values.specs.Stored.{value_of, found_in};
 ghost use Rattle.resolver.specs.Relations.Meets.{world, env, lent};
 ghost use Rattle.resolver.specs.Relations.Targets.{in_order};
 ghost use Rattle.resolver.specs.Relations.Parts.{LeafWritten, LeafResolved, CallWritten, TextKept};
@@ -10,9 +8,9 @@ use crate::scope::put::put_value;
 use crate::scope::value::{literal_number, literal_string};
 use crate::scope::variable::{resolve_variable, write_result, write_variable};
 use buffers::move_back;
-use records::{Num, read_str};
-use state::{BACK, FRONT, REFUSED, set_kept};
-use values::{Value, hold};
+use records::read_str;
+use state::Progress;
+use values::{Resolved, Value};
 use writes::put::put_literal;
 
 // A string literal, a number literal or a variable, past its tag, written.
@@ -23,13 +21,13 @@ pub(crate) fn write_leaf<'a>(
     text: &mut [u8],
     list: &mut [u8],
     work: &mut [u8],
-    st: &mut [usize; 16],
+    st: &mut Progress,
     tag: usize,
     p: usize,
 )
-    ensures { (t : List ℕ) → LeafWritten (env store.now (lent args.now places.now)) tag p (world store.now text.old list.old work.old t (progress_of st.old)) (world store.now text.new list.new work.new t (progress_of st.new)) }
+    ensures { (t : List ℕ) → LeafWritten (env store.now (lent args.now places.now)) tag p (world store.now text.old list.old work.old t st.old) (world store.now text.new list.new work.new t st.new) }
 {
-    let Num::At(a, e) = read_str(store, p) else {
+    let Some((a, e)) = read_str(store, p) else {
         return;
     };
     if tag == 1 {
@@ -52,28 +50,28 @@ pub(crate) fn resolve_leaf<'a>(
     places: &'a [usize; 256],
     list: &mut [u8],
     work: &mut [u8],
-    st: &mut [usize; 16],
-    value: &mut [usize; 10],
+    st: &mut Progress,
+    value: &mut Resolved,
     tag: usize,
     p: usize,
 )
-    ensures { (x t : List ℕ) → LeafResolved (env store.now (lent args.now places.now)) tag p (world store.now x list.old work.old t (progress_of st.old)) (world store.now x list.new work.new t (progress_of st.new)) (value_of value.new) }
+    ensures { (x t : List ℕ) → LeafResolved (env store.now (lent args.now places.now)) tag p (world store.now x list.old work.old t st.old) (world store.now x list.new work.new t st.new) value.new.value }
 {
-    let Num::At(a, e) = read_str(store, p) else {
+    let Some((a, e)) = read_str(store, p) else {
         return;
     };
     if tag == 1 {
         let v = literal_string(store, work, st, a, e);
-        hold(value, v);
+        value.hold(v);
         return;
     }
     if tag == 2 {
-        hold(value, literal_number(store, a, e));
+        value.hold(literal_number(store, a, e));
         return;
     }
     if tag == 6 {
         let v = resolve_variable(store, args, places, list, st, a, e);
-        hold(value, v);
+        value.hold(v);
     }
 }
 
@@ -84,13 +82,13 @@ pub(crate) fn write_called<'a>(
     text: &mut [u8],
     list: &mut [u8],
     work: &mut [u8],
-    st: &mut [usize; 16],
-    value: &[usize; 10],
+    st: &mut Progress,
+    value: &Resolved,
     p: usize,
 )
-    ensures { (t g : List ℕ) → CallWritten (env store.now (lent args.now g)) p (found_in value.now) (value_of value.now) (world store.now text.old list.old work.old t (progress_of st.old)) (world store.now text.new list.new work.new t (progress_of st.new)) }
+    ensures { (t g : List ℕ) → CallWritten (env store.now (lent args.now g)) p value.now.found value.now.value (world store.now text.old list.old work.old t st.old) (world store.now text.new list.new work.new t st.new) }
 {
-    let Num::At(a, e) = read_str(store, p) else {
+    let Some((a, e)) = read_str(store, p) else {
         return;
     };
     write_result(store, args, text, list, work, st, value, a, e);
@@ -112,24 +110,24 @@ fn in_order(start: usize, front: usize, back: usize, room: usize) -> bool
 // A text that was made at the workspace's front, from `start` on, is moved to its back; `was` says whether it interrupted one that is made aside.
 pub(crate) fn keep_text(
     work: &mut [u8],
-    st: &mut [usize; 16],
-    value: &mut [usize; 10],
+    st: &mut Progress,
+    value: &mut Resolved,
     start: usize,
-    was: usize,
+    was: bool,
 )
-    ensures { TextKept start was work.old (progress_of st.old) work.new (progress_of st.new) (value_of value.new) }
+    ensures { TextKept start was work.old st.old work.new st.new value.new.value }
 {
-    if st[REFUSED] != 0 {
+    if st.is_refused() {
         return;
     }
-    let front = st[FRONT];
-    let back = st[BACK];
+    let front = st.front;
+    let back = st.back;
     if !in_order(start, front, back, work.len()) {
         return;
     }
     let n = front - start;
     let to = back - n;
     move_back(work, start, n, to);
-    set_kept(st, start, to, was);
-    hold(value, Value::Work(to, back));
+    st.set_kept(start, to, was);
+    value.hold(Value::Work(to, back));
 }

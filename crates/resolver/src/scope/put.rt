@@ -1,15 +1,14 @@
 // What stands in the text for a value, or for an expression that has an error.
 ghost use Rattle.std.specs.Prelude.{◌≡◌, List, ℕ};
 ghost use Rattle.resolution.specs.Effect.{write};
-ghost use Rattle.state.specs.Progress.{progress_of};
 ghost use Rattle.resolver.specs.Relations.Meets.{world, Acts, text_inside, bytes_of};
 ghost use Rattle.resolver.specs.Relations.Leaves.{ErrorAt, CutAt, pieces_text};
 ghost use Rattle.writes.specs.Written.{written};
 
 use crate::scope::error::{Pieces, error_pieces};
 use arguments::text_of;
-use records::{Num, read_byte};
-use state::{DIRTY, REFUSED};
+use records::read_byte;
+use state::Progress;
 use values::Value;
 use writes::put::{put, put_braced, put_number, put_work};
 
@@ -19,10 +18,10 @@ pub(crate) fn put_value<'a>(
     args: &'a [u8],
     text: &mut [u8],
     work: &mut [u8],
-    st: &mut [usize; 16],
+    st: &mut Progress,
     value: Value,
 )
-    ensures { (text.new, work.new, progress_of st.new) ≡ written (bytes_of store.now args.now work.old value) text.old work.old (progress_of st.old) }
+    ensures { (text.new, work.new, st.new) ≡ written (bytes_of store.now args.now work.old value) text.old work.old st.old }
 {
     match value {
         Value::Work(a, e) => put_work(text, work, st, a, e),
@@ -49,10 +48,10 @@ fn put_pieces(
     words: &[u8],
     text: &mut [u8],
     work: &mut [u8],
-    st: &mut [usize; 16],
+    st: &mut Progress,
     p: Pieces,
 )
-    ensures { (i l t : List ℕ) → Acts (write (pieces_text words.now store.now p)) (world i text.old l work.old t (progress_of st.old)) (world i text.new l work.new t (progress_of st.new)) }
+    ensures { (i l t : List ℕ) → Acts (write (pieces_text words.now store.now p)) (world i text.old l work.old t st.old) (world i text.new l work.new t st.new) }
 {
     let head = text_of(words, p.head, p.head_end);
     let id = text_of(store, p.from, p.to);
@@ -67,30 +66,24 @@ pub(crate) fn put_error(
     store: &[u8],
     text: &mut [u8],
     work: &mut [u8],
-    st: &mut [usize; 16],
+    st: &mut Progress,
     at: usize,
 )
-    ensures { ErrorAt store.now at text.old work.old (progress_of st.old) text.new work.new (progress_of st.new) }
+    ensures { ErrorAt store.now at text.old work.old st.old text.new work.new st.new }
 {
     let p = error_pieces(store, at);
     put_pieces(store, b"{???{-{$.()", text, work, st, p);
 }
 
 // The end of `maybe_track`: where the expression was cut short, its error.
-pub(crate) fn put_cut(
-    store: &[u8],
-    text: &mut [u8],
-    work: &mut [u8],
-    st: &mut [usize; 16],
-    at: usize,
-)
-    ensures { CutAt store.now at text.old work.old (progress_of st.old) text.new work.new (progress_of st.new) }
+pub(crate) fn put_cut(store: &[u8], text: &mut [u8], work: &mut [u8], st: &mut Progress, at: usize)
+    ensures { CutAt store.now at text.old work.old st.old text.new work.new st.new }
 {
-    if st[REFUSED] != 0 {
+    if st.is_refused() {
         return;
     }
-    if st[DIRTY] == 1 {
-        let Num::At(tag, p) = read_byte(store, at) else {
+    if st.dirty {
+        let Some((tag, p)) = read_byte(store, at) else {
             return;
         };
         if tag == 8 {

@@ -1,50 +1,48 @@
 // References: the Id and the attribute, and what stands in the place of one that is missing.
 ghost use Rattle.std.specs.Prelude.{◌≡◌, List, [], ◌∷◌, ◌++◌, true, false, ℕ, ◌+◌, ◌-◌, ◌≤◌, ◌<◌, length};
 ghost use Rattle.std.proofs.Math.Option.{Option, some, none};
-ghost use Rattle.state.specs.Progress.{progress_of};
 ghost use Rattle.texts.specs.Relations.Report.{referred_of};
-ghost use Rattle.resolver.specs.Relations.Leaves.{ReferenceIs, RefErrorAt};
+ghost use Rattle.records.specs.Optional.{lent};
+ghost use Rattle.resolver.specs.Relations.Leaves.{ReferenceIs, RefErrorAt, attribute_in};
 
 use crate::scope::put::put_error;
+use arguments::text_of;
 use reader::read_marked;
-use records::{Num, read_byte};
-use state::{Reference, Referring};
+use records::read_byte;
+use state::{Progress, Referring};
 use texts::Referred;
 use writes::list::list_reference;
 
 // The Id and the attribute of a message or a term reference.
-pub(crate) fn read_reference(store: &[u8], at: usize) -> Reference
+pub(crate) fn read_reference(store: &[u8], at: usize) -> Option<Referring>
     ensures { ReferenceIs store.now at result }
 {
     let row = read_marked(store, at);
-    let id = row.first;
-    let Num::At(a, e) = id else {
-        return Reference::Bad;
-    };
-    let mark = row.second;
-    let Num::At(flag, p) = mark else {
-        return Reference::Bad;
-    };
+    let (from, to) = row.first?;
+    let (flag, past) = row.second?;
     if flag == 0 {
-        return Reference::Is(Referring {
-            from: a,
-            to: e,
-            has: false,
-            start: p,
-            end: p,
+        return Some(Referring {
+            from,
+            to,
+            attribute: None,
+            end: past,
         });
     }
-    let attribute = row.third;
-    let Num::At(b, f) = attribute else {
-        return Reference::Bad;
-    };
-    Reference::Is(Referring {
-        from: a,
-        to: e,
-        has: true,
-        start: b,
-        end: f,
+    let (start, end) = row.third?;
+    Some(Referring {
+        from,
+        to,
+        attribute: Some((start, end)),
+        end,
     })
+}
+
+// The bytes of a reference's attribute, if it has one.
+pub(crate) fn attribute_of<'a>(store: &'a [u8], r: Referring) -> Option<&'a [u8]>
+    ensures { lent result ≡ attribute_in store.now r.attribute }
+{
+    let (start, end) = r.attribute?;
+    Some(text_of(store, start, end))
 }
 
 // `write_ref_error` of a message or a term reference, its tag at `at`.
@@ -53,22 +51,20 @@ pub(crate) fn ref_error(
     text: &mut [u8],
     list: &mut [u8],
     work: &mut [u8],
-    st: &mut [usize; 16],
+    st: &mut Progress,
     kind: Referred,
     at: usize,
 )
-    ensures { RefErrorAt store.now at (referred_of kind) text.old list.old work.old (progress_of st.old) text.new list.new work.new (progress_of st.new) }
+    ensures { RefErrorAt store.now at (referred_of kind) text.old list.old work.old st.old text.new list.new work.new st.new }
 {
-    let Num::At(_, p) = read_byte(store, at) else {
+    let Some((_, p)) = read_byte(store, at) else {
         return;
     };
-    let Reference::Is(r) = read_reference(store, p) else {
+    let Some(r) = read_reference(store, p) else {
         return;
     };
     let from = r.from;
     let to = r.to;
-    let start = r.start;
-    let end = r.end;
-    list_reference(list, st, kind, &store[from..to], r.has, &store[start..end]);
+    list_reference(list, st, kind, &store[from..to], attribute_of(store, r));
     put_error(store, text, work, st, at);
 }

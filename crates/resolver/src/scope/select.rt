@@ -4,15 +4,13 @@ ghost use Rattle.numbers.specs.Value as values;
 ghost use Rattle.records.specs.Got.{got};
 ghost use Rattle.records.specs.Images.{Store, store_of};
 ghost use Rattle.resolution.specs.Resolve.{chosen};
-ghost use Rattle.values.specs.Stored.{value_of};
 ghost use Rattle.variants.specs.Relations.Pick.{PickAt};
 ghost use Rattle.resolver.specs.Relations.Meets.{Holds};
 
 use crate::scope::put::text_in;
 use arguments::text_of;
 use heads::locale_of;
-use records::Next;
-use values::{Value, held};
+use values::{Resolved, Value};
 use variants::{choose_default, choose_number, choose_text};
 
 // The pattern of the variant that a value chooses among those at `at`. None and an error match no key.
@@ -20,12 +18,12 @@ pub(crate) fn choose<'a>(
     s: &'a [u8],
     args: &'a [u8],
     work: &[u8],
-    value: &[usize; 10],
+    value: &Resolved,
     at: usize,
-) -> Next
-    ensures { (v : values.Value) (low : ℕ) (st : Store) (e : ℕ) → Holds s.now args.now work.now low (value_of value.now) v → store_of s.now ≡ got st e → PickAt s.now at (chosen st.locale v) result }
+) -> Option<usize>
+    ensures { (v : values.Value) (low : ℕ) (st : Store) (e : ℕ) → Holds s.now args.now work.now low value.now.value v → store_of s.now ≡ got st e → PickAt s.now at (chosen st.locale v) result }
 {
-    let c = held(value);
+    let c = value.value;
     match c {
         Value::Work(a, e) => choose_text(s, at, text_of(work, a, e)),
         Value::Number(n) => choose_number(s, at, locale_of(s), n),

@@ -13,21 +13,17 @@ ghost use Rattle.resolver.specs.Relations.Meets.{world, env, Setup, Live, NamedI
 ghost use Rattle.resolver.specs.Relations.Leaves.{LocalIs, variable_of, StringAt, NamedAt, NamedSet};
 ghost use Rattle.arguments.specs.Relations.Given.{Within, meant, between};
 ghost use Rattle.resolver.specs.Relations.Values.{literal_valued, TakenAt, LiteralAt, NamedReads, Ranged, value_of_some};
-ghost use Rattle.state.specs.Progress.{progress_of};
 ghost use Rattle.state.specs.Setters.{held_s};
 
 use arguments::{Given, find_argument, text_of};
 use decimals::bytes::same_bytes;
-use decimals::types::{Number, default_options};
-use literals::literal::{Literal, read_literal};
+use decimals::types::{Number, Options};
+use literals::literal::read_literal;
 use reader::read_marked;
-use records::Num;
-use state::{
-    BACK, FRONT, HIGH, LOCAL, LOCAL_AT, LOCAL_BASE, LOCAL_COUNT, REFUSED, refuse, set_held,
-    set_locals,
-};
+use refusals::Refusal;
+use state::Progress;
 use unescape::{has_backslash, unescape_into, unescaped_len};
-use values::{Local, Value};
+use values::Value;
 use workspace::highest;
 use writes::put::has_room;
 
@@ -41,35 +37,20 @@ pub(crate) struct NamedSpan {
     pub end: usize,
 }
 
-#[derive(Clone, Copy)]
-pub(crate) enum NamedRead {
-    Is(NamedSpan),
-    Bad,
-}
-
 // Reads a named argument.
-pub(crate) fn read_named(s: &[u8], at: usize) -> NamedRead
+pub(crate) fn read_named(s: &[u8], at: usize) -> Option<NamedSpan>
     ensures { NamedReads s.now at result }
 {
     let row = read_marked(s, at);
-    let name = row.first;
-    let Num::At(from, to) = name else {
-        return NamedRead::Bad;
-    };
-    let mark = row.second;
-    let Num::At(tag, _) = mark else {
-        return NamedRead::Bad;
-    };
-    let text = row.third;
-    let Num::At(start, end) = text else {
-        return NamedRead::Bad;
-    };
-    NamedRead::Is(NamedSpan {
-        from: from,
-        to: to,
-        tag: tag,
-        start: start,
-        end: end,
+    let (from, to) = row.first?;
+    let (tag, _) = row.second?;
+    let (start, end) = row.third?;
+    Some(NamedSpan {
+        from,
+        to,
+        tag,
+        start,
+        end,
     })
 }
 
@@ -77,7 +58,7 @@ pub(crate) fn read_named(s: &[u8], at: usize) -> NamedRead
 pub(crate) fn literal_number(s: &[u8], a: usize, e: usize) -> Value
     ensures { result ≡ literal_valued (literal_of (between s.now a e)) }
 {
-    let Literal::Is(n) = read_literal(text_of(s, a, e)) else {
+    let Some(n) = read_literal(text_of(s, a, e)) else {
         return Value::Wrong;
     };
     Value::Number(n)
@@ -87,13 +68,13 @@ pub(crate) fn literal_number(s: &[u8], a: usize, e: usize) -> Value
 pub(crate) fn literal_string(
     s: &[u8],
     work: &mut [u8],
-    st: &mut [usize; 16],
+    st: &mut Progress,
     a: usize,
     e: usize,
 ) -> Value
-    ensures { StringAt s.now a e work.old (progress_of st.old) work.new (progress_of st.new) result }
+    ensures { StringAt s.now a e work.old st.old work.new st.new result }
 {
-    if st[REFUSED] != 0 {
+    if st.is_refused() {
         return Value::Wrong;
     }
     let src = text_of(s, a, e);
@@ -102,39 +83,32 @@ pub(crate) fn literal_string(
     }
     let n = unescaped_len(src);
     if !has_room(&*st, n, work.len()) {
-        refuse(st, 16);
+        st.refuse(Refusal::ShortWorkspace);
         return Value::Wrong;
     }
-    let back = st[BACK];
-    unescape_into(src, work, back - n);
+    let back = st.back;
+    let _ = unescape_into(src, work, back - n);
     keep(st, n, work.len());
     Value::Work(back - n, back)
 }
 
 // n bytes more are kept at the workspace's back, of `len` in all.
-fn keep(st: &mut [usize; 16], n: usize, len: usize)
-    requires { ((progress_of st.old).front + n ≤ (progress_of st.old).back) × ((progress_of st.old).back ≤ len) }
-    ensures { progress_of st.new ≡ held_s ((progress_of st.old).back - n) (max (progress_of st.old).high ((progress_of st.old).front + (len - ((progress_of st.old).back - n)))) (progress_of st.old) }
+fn keep(st: &mut Progress, n: usize, len: usize)
+    requires { (st.old.front + n ≤ st.old.back) × (st.old.back ≤ len) }
+    ensures { st.new ≡ held_s (st.old.back - n) (max st.old.high (st.old.front + (len - (st.old.back - n)))) st.old }
 {
-    let back = st[BACK] - n;
-    let high = highest(st[HIGH], st[FRONT], back, len);
-    set_held(st, back, high);
+    let back = st.back - n;
+    let high = highest(st.high, st.front, back, len);
+    st.set_held(back, high);
 }
 
 // Named arguments, in stored order: the texts of those with a backslash go to the workspace's back.
-pub(crate) fn resolve_named(
-    s: &[u8],
-    work: &mut [u8],
-    st: &mut [usize; 16],
-    at: usize,
-    count: usize,
-)
-    ensures { NamedAt s.now at count work.old (progress_of st.old) work.new (progress_of st.new) }
+pub(crate) fn resolve_named(s: &[u8], work: &mut [u8], st: &mut Progress, at: usize, count: usize)
+    ensures { NamedAt s.now at count work.old st.old work.new st.new }
 {
     let mut p = at;
-    let mut i = count;
-    while 0 < i {
-        let NamedRead::Is(n) = read_named(s, p) else {
+    for _ in 0..count {
+        let Some(n) = read_named(s, p) else {
             return;
         };
         let e = n.end;
@@ -142,17 +116,16 @@ pub(crate) fn resolve_named(
             literal_string(s, work, st, n.start, e);
         }
         p = e;
-        i -= 1;
     }
 }
 
 // A term's named arguments are resolved, and are the local ones from here on.
-pub(crate) fn set_named(s: &[u8], work: &mut [u8], st: &mut [usize; 16], at: usize, count: usize)
-    ensures { NamedSet s.now at count work.old (progress_of st.old) work.new (progress_of st.new) }
+pub(crate) fn set_named(s: &[u8], work: &mut [u8], st: &mut Progress, at: usize, count: usize)
+    ensures { NamedSet s.now at count work.old st.old work.new st.new }
 {
-    let base = st[BACK];
+    let base = st.back;
     resolve_named(s, work, st, at, count);
-    set_locals(st, at, count, base);
+    st.set_locals(at, count, base);
 }
 
 // The bytes that a literal's text takes at the workspace's back.
@@ -198,47 +171,50 @@ pub(crate) fn literal_at(s: &[u8], tag: usize, a: usize, e: usize, base: usize) 
 }
 
 // A term's argument of a name: the first among the named arguments at `at`, whose texts end at `base` in the workspace.
-pub(crate) fn find_local(s: &[u8], at: usize, count: usize, base: usize, name: &[u8]) -> Local
+pub(crate) fn find_local(
+    s: &[u8],
+    at: usize,
+    count: usize,
+    base: usize,
+    name: &[u8],
+) -> Option<Value>
     ensures { (a w : List ℕ) (low f : ℕ) (ns : Named) → many [] ◌∷◌ count named_at s.now at ≡ got ns f → NamedIn w low base ns → LocalIs s.now a w low result (first_named name.now (named_texts ns)) }
 {
     let mut p = at;
     let mut end = base;
-    let mut i = count;
-    while 0 < i {
-        let NamedRead::Is(n) = read_named(s, p) else {
-            return Local::Missing;
+    for _ in 0..count {
+        let Some(n) = read_named(s, p) else {
+            return None;
         };
         let b = n.from;
         let q = n.to;
         let e = n.end;
         if same_bytes(&s[b..q], name) {
-            return Local::Is(literal_at(s, n.tag, n.start, e, end));
+            return Some(literal_at(s, n.tag, n.start, e, end));
         }
         let k = taken(s, n.tag, n.start, e);
         if end < k {
-            return Local::Missing;
+            return None;
         }
         end = end - k;
         p = e;
-        i -= 1;
     }
-    Local::Missing
+    None
 }
 
 // An argument as a value.
-pub(crate) fn argument_value(found: Given) -> Local
+pub(crate) fn argument_value(found: Option<Given>) -> Option<Value>
     ensures { (i s w : List ℕ) (low : ℕ) → Within s found → Ranged (meant s found) → LocalIs i s w low result (value_of_some (meant s found)) }
 {
-    match found {
-        Given::Text(a, e) => Local::Is(Value::Args(a, e)),
-        Given::Number(negative, digits, scale) => Local::Is(Value::Number(Number {
-            negative: negative,
-            digits: digits,
-            scale: scale,
-            options: default_options(),
+    match found? {
+        Given::Text(a, e) => Some(Value::Args(a, e)),
+        Given::Number(negative, digits, scale) => Some(Value::Number(Number {
+            negative,
+            digits,
+            scale,
+            options: Options::default(),
         })),
-        Given::Nothing => Local::Is(Value::Nothing),
-        Given::Missing => Local::Missing,
+        Given::Nothing => Some(Value::Nothing),
     }
 }
 
@@ -247,13 +223,13 @@ pub(crate) fn find_variable(
     s: &[u8],
     args: &[u8],
     places: &[usize; 256],
-    st: &[usize; 16],
+    st: &Progress,
     name: &[u8],
-) -> Local
-    ensures { (u : Setup (env s.now (lent args.now places.now))) (x l w t : List ℕ) (L : Limits) (q : State) (k : Machine) → Live L (world s.now x l w t (progress_of st.now)) q k → LocalIs s.now args.now w (progress_of st.now).back result (variable_of (values_of u.given) name.now q.locals) }
+) -> Option<Value>
+    ensures { (u : Setup (env s.now (lent args.now places.now))) (x l w t : List ℕ) (L : Limits) (q : State) (k : Machine) → Live L (world s.now x l w t st.now) q k → LocalIs s.now args.now w st.now.back result (variable_of (values_of u.given) name.now q.locals) }
 {
-    if st[LOCAL] == 1 {
-        return find_local(s, st[LOCAL_AT], st[LOCAL_COUNT], st[LOCAL_BASE], name);
+    if st.local {
+        return find_local(s, st.local_at, st.local_count, st.local_base, name);
     }
     argument_value(find_argument(args, places, name))
 }

@@ -1,16 +1,15 @@
 // Variables and results, written or as values.
 ghost use Rattle.std.specs.Prelude.{◌≡◌, List, [], ◌∷◌, ◌++◌, true, false, ℕ, ◌+◌, ◌-◌, ◌≤◌, length};
 ghost use Rattle.std.proofs.Math.Option.{Option, some, none};
-ghost use Rattle.state.specs.Progress.{progress_of};
-ghost use Rattle.values.specs.Stored.{value_of, found_in};
 ghost use Rattle.resolver.specs.Relations.Meets.{world, env, lent};
 ghost use Rattle.resolver.specs.Relations.Leaves.{VariableAt, VariableValueAt, ResultAt};
 
 use crate::scope::put::put_value;
 use crate::scope::value::find_variable;
 use arguments::text_of;
+use state::Progress;
 use texts::Referred;
-use values::{Local, Value, held, is_found, is_wrong};
+use values::{Resolved, Value};
 use writes::list::{list_reference, list_variable};
 use writes::put::put_braced;
 
@@ -22,14 +21,14 @@ pub(crate) fn write_variable<'a>(
     text: &mut [u8],
     list: &mut [u8],
     work: &mut [u8],
-    st: &mut [usize; 16],
+    st: &mut Progress,
     a: usize,
     e: usize,
 )
-    ensures { (t : List ℕ) → VariableAt (env store.now (lent args.now places.now)) a e (world store.now text.old list.old work.old t (progress_of st.old)) (world store.now text.new list.new work.new t (progress_of st.new)) }
+    ensures { (t : List ℕ) → VariableAt (env store.now (lent args.now places.now)) a e (world store.now text.old list.old work.old t st.old) (world store.now text.new list.new work.new t st.new) }
 {
     let name = text_of(store, a, e);
-    let Local::Is(v) = find_variable(store, args, places, &*st, name) else {
+    let Some(v) = find_variable(store, args, places, &*st, name) else {
         list_variable(list, st, name);
         put_braced(text, work, st, b"{$", name, b"}");
         return;
@@ -43,14 +42,14 @@ pub(crate) fn resolve_variable(
     args: &[u8],
     places: &[usize; 256],
     list: &mut [u8],
-    st: &mut [usize; 16],
+    st: &mut Progress,
     a: usize,
     e: usize,
 ) -> Value
-    ensures { (x w t : List ℕ) → VariableValueAt (env store.now (lent args.now places.now)) a e (world store.now x list.old w t (progress_of st.old)) (world store.now x list.new w t (progress_of st.new)) result }
+    ensures { (x w t : List ℕ) → VariableValueAt (env store.now (lent args.now places.now)) a e (world store.now x list.old w t st.old) (world store.now x list.new w t st.new) result }
 {
     let name = text_of(store, a, e);
-    let Local::Is(v) = find_variable(store, args, places, &*st, name) else {
+    let Some(v) = find_variable(store, args, places, &*st, name) else {
         list_variable(list, st, name);
         return Value::Wrong;
     };
@@ -64,23 +63,21 @@ pub(crate) fn write_result<'a>(
     text: &mut [u8],
     list: &mut [u8],
     work: &mut [u8],
-    st: &mut [usize; 16],
-    value: &[usize; 10],
+    st: &mut Progress,
+    value: &Resolved,
     a: usize,
     e: usize,
 )
-    ensures { (t g : List ℕ) → ResultAt (env store.now (lent args.now g)) a e (found_in value.now) (value_of value.now) (world store.now text.old list.old work.old t (progress_of st.old)) (world store.now text.new list.new work.new t (progress_of st.new)) }
+    ensures { (t g : List ℕ) → ResultAt (env store.now (lent args.now g)) a e value.now.found value.now.value (world store.now text.old list.old work.old t st.old) (world store.now text.new list.new work.new t st.new) }
 {
     let name = text_of(store, a, e);
-    if is_found(value) {
-        let v = held(value);
-        if is_wrong(v) {
-            put_braced(text, work, st, name, b"()", b"");
-            return;
+    if value.found {
+        match value.value {
+            Value::Wrong => put_braced(text, work, st, name, b"()", b""),
+            v => put_value(store, args, text, work, st, v),
         }
-        put_value(store, args, text, work, st, v);
         return;
     }
-    list_reference(list, st, Referred::Function, name, false, b"");
+    list_reference(list, st, Referred::Function, name, None);
     put_braced(text, work, st, b"{", name, b"()}");
 }

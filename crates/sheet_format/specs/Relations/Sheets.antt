@@ -1,19 +1,19 @@
 -- How far a sheet has come: what the state, the buffers and the placeables begun say of its messages' run.
+use Rattle.state.specs.Progress.{refused_of}
 use Rattle.std.specs.Prelude.{◌≡◌, List, [], ◌∷◌, ℕ, ◌+◌, ◌-◌, ◌*◌, ◌≤◌, length}
 use Rattle.std.proofs.Math.Option.{Option}
 use Rattle.records.specs.Got.{got}
 use Rattle.records.specs.Bytes.{part}
-use Rattle.records.specs.Optional.{option_of}
 use Rattle.records.specs.Decode.{many}
 use Rattle.records.specs.Images.{Store, store_of}
 use Rattle.requests.specs.Image.{Request, request_at, sheet_of}
-use Rattle.requests.specs.Relations.Shown.{Shows}
+use Rattle.requests.specs.Relations.Shown.{Shows, spanned}
 use Rattle.requests.specs.declared.Spans.{Spans}
 use Rattle.resolution.specs.Effect.{Bytes}
 use Rattle.resolution.specs.Exec.{Machine, Limits, start}
 use Rattle.resolution.specs.Format.{limits_of}
 use Rattle.sheets.specs.Sheet.{run_message, run_sheet}
-use Rattle.state.specs.Progress.{Progress}
+use Rattle.state.specs.declared.Progress.{Progress}
 use Rattle.state.specs.Setters.{new_s}
 use Rattle.resolver.specs.Relations.Runs.{Rests, Grown, RanAs}
 
@@ -22,7 +22,7 @@ abbrev pub id_of : Bytes → Spans → Bytes
 id_of sheet q = part sheet q.id (q.id_end - q.id)
 
 abbrev pub attribute_of : Bytes → Spans → Option Bytes
-attribute_of sheet q = option_of q.has (part sheet q.attribute (q.attribute_end - q.attribute))
+attribute_of sheet q = spanned sheet q.attribute
 
 abbrev pub image_of : Bytes → Spans → Bytes
 image_of sheet q = part sheet q.image (q.end - q.image)
@@ -49,7 +49,7 @@ pub record Begins (s sheet l w : Bytes) (p : Progress) : Type 0 where
 -- a message of the sheet, from a machine at rest: its run's outcome, and that it began n placeables
 pub record MessageRan (s sheet : Bytes) (q : Spans) (x l w : Bytes) (p : Progress) (x' l' w' : Bytes) (r : Progress) (n : ℕ) : Type 0 where
   pub runs : (v : Store) (used : ℕ) → store_of s ≡ got v used → (a : Request) → Shows sheet q a → (k : Machine) → Rests x l w p k
-      → RanAs (run_message v (limits x l w) a k) x l p x' l' w' r (k.begun + n) × (r.refused ≡ 0 → n ≤ 101)
+      → RanAs (run_message v (limits x l w) a k) x l p x' l' w' r (k.begun + n) × ((refused_of r) ≡ 0 → n ≤ 101)
 
 -- `left` messages are still to come, from `at` on: those before them led to a machine at rest, and began so many placeables
 pub record Passed (s sheet x l w x₁ l₁ w₁ : Bytes) (p : Progress) (at left begun : ℕ) : Type 0 where

@@ -1,12 +1,12 @@
 -- Error records appended to a list.
-use Rattle.std.specs.Prelude.{ℕ, ◌+◌, Bool, true, false, ◌&&◌, List, [], ◌∷◌, ◌++◌, length, leb, ltb}
+use Rattle.std.specs.Prelude.{ℕ, ◌+◌, Bool, ◌&&◌, List, [], ◌∷◌, ◌++◌, length, leb, ltb}
 use Rattle.records.specs.Bytes.{to_be}
 use Rattle.records.specs.Images as images
 use Rattle.records.specs.Errors as errors
 use Rattle.records.specs.Errors.{Error, enc_error, list_header}
 use Rattle.decimals.specs.Bytes.{given}
-use Rattle.buffers.specs.Relations.Append.{over, attempt}
-use Rattle.buffers.specs.declared.Wrote.{Wrote}
+use Rattle.buffers.specs.Relations.Append.{over, attempt, Wrote}
+use Rattle.std.proofs.Math.Option.{Option, none, some}
 use Rattle.texts.specs.declared.errors.Kind.{Kind}
 use Rattle.texts.specs.declared.errors.Kind.TheVariants as kind
 use Rattle.texts.specs.declared.errors.Referred.{Referred}
@@ -35,10 +35,10 @@ plain_of plain.TooManyPlaceables = Error.too_many_placeables
 unfoldable pub room_for : ℕ → ℕ → ℕ → Bool
 room_for size at n = leb n 65537 && (leb (at + n) 4294967295 && leb (at + n) size)
 
--- how many bytes an attribute of n bytes takes with its Flag: 65,538, more than a record has, where n is no u16
-unfoldable pub attribute_len : Bool → ℕ → ℕ
-attribute_len true n = given (ltb 65535 n) 65538 (3 + n)
-attribute_len false n = 1
+-- how many bytes an attribute takes with its Flag: 65,538, more than a record has, where its length is no u16
+unfoldable pub attribute_len : Option (List ℕ) → ℕ
+attribute_len (some a) = given (ltb 65535 (length a)) 65538 (3 + length a)
+attribute_len none = 1
 
 -- "the next record passes the list buffer" (7): where it does not, it is written
 unfoldable pub recorded : List ℕ → ℕ → Error → Wrote × List ℕ

@@ -1,23 +1,23 @@
--- Whether the pattern is among those left of the trail is whether it is among all.
-use Prim.Native.Nat.{ℕ}
-use Rattle.resolution.specs.Resolve.{on_trail}
-use Rattle.trail.proofs.Trail.{trail_here, trail_next, trail_none}
-use Rattle.trail.specs.Relations.Trail.{pattern_bytes, trail_of}
-use mathlib.Core.Path.{◌∙◌, ap, sym}
+-- A position's bytes are compared with the pattern's, whichever it is of those listed.
+use Prim.Native.Nat.{ℕ, ◌≤◌}
+use lib.ListN.{length, take}
+use mathlib.Core.Path.{◌∙◌}
 use native.Mathlib.Omega.{arith}
+use Rattle.std.proofs.Common.{rules, tests}
+use Rattle.std.proofs.lemmas.Iterator.{YieldsList-from_slice}
+use Rattle.std.proofs.lemmas.Iterator.Search.{any_from_yields_List}
+use Rattle.decimals.specs.Bytes.{same_bytes}
+use Rattle.decimals.proofs.Same.{pointwise_same}
+use Rattle.trail.specs.Relations.Trail.{pattern_bytes}
+use Rattle.trail.proofs.Trail.{any_on_trail}
 use Rattle.trail.proofs.on_trail.Goals as goal
 
-pub loop-i-init : goal.loop-i-init
-loop-i-init c = let e = c.listed-i.ensures in (omega arith, ap (λ (j : ℕ). on_trail (pattern_bytes c.args.s.now c.args.at) (trail_of c.args.s.now c.args.trail.now j)) (sym e))
-
-pub returns-then-same_pattern : goal.returns-then-same_pattern
-returns-then-same_pattern c = sym (c.loop-i.invariant.1 ∙ trail_here _ _ _ _ c.loop-i-test.true (sym c.same_pattern.ensures ∙ c.if-same_pattern.true))
-
-pub loop-i-smaller : goal.loop-i-smaller
-loop-i-smaller c = omega arith
-
-pub loop-i-preserved : goal.loop-i-preserved
-loop-i-preserved c = (omega (arith, c.loop-i.invariant.0), c.loop-i.invariant.1 ∙ trail_next _ _ _ _ c.loop-i-test.true (sym c.same_pattern.ensures ∙ c.if-same_pattern.false))
-
 pub returns : goal.returns
-returns c = sym (c.loop-i.invariant.1 ∙ trail_none _ _ _ _ c.loop-i-test.false)
+returns c =
+    let s = c.args.s.now in
+    let pattern = c.pattern_of-pattern.result.now in
+    let listed = take c.min.result c.args.trail.now in
+    let few : c.min.result ≤ length c.args.trail.now = omega arith in
+    rw (← c.pattern_of-pattern.ensures, ← c.min.ensures)
+    (any_from_yields_List (λ (p : ℕ). same_bytes (pattern_bytes s p) pattern) _ _ c.any.result c.any.ensures.ran (YieldsList-from_slice listed cc) (λ x b q k. search (rules, tests, pointwise_same))
+    ∙ any_on_trail s c.args.trail.now pattern c.min.result few)

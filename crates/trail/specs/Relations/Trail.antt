@@ -1,7 +1,5 @@
 -- The trail: the patterns that are being resolved, by their positions in the store.
-use Rattle.std.specs.Prelude.{ℕ, zero, suc, ◌+◌, ◌-◌, ◌≤◌, ◌<◌, ◌≡◌, List, [], ◌∷◌, length, get_or}
-use Rattle.records.specs.declared.Next.{Next}
-use Rattle.records.specs.declared.Next.TheVariants as next
+use Rattle.std.specs.Prelude.{ℕ, zero, suc, ◌+◌, List, [], ◌∷◌, get_or}
 use Rattle.records.specs.Got.{Got, got, bad}
 use Rattle.records.specs.Bytes.{part, number_at}
 use Rattle.resolution.specs.Effect.{Bytes}
@@ -19,8 +17,3 @@ pattern_bytes store p = prefixed store p (number_at 4 store p)
 unfoldable pub trail_of : List ℕ → List ℕ → ℕ → Trail
 trail_of store a zero = []
 trail_of store a (suc d) = pattern_bytes store (get_or a d 0) ∷ trail_of store a d
-
--- where the bytes of the pattern at p end
-pub data EndAt (s : List ℕ) (p : ℕ) (r : Next) : Type 0 where
-  end_at : (e : ℕ) → r ≡ next.At e → p < e → e ≤ length s → pattern_bytes s p ≡ part s p (e - p) → EndAt s p r
-  no_end : r ≡ next.Bad → number_at 4 s p ≡ bad → EndAt s p r

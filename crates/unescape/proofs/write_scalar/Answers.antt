@@ -3,75 +3,24 @@ use Rattle.buffers.proofs.Place.{set_over, store_2, store_3, store_4}
 use Rattle.scalars.proofs.Scalars.{scalar_1, scalar_2, scalar_3, scalar_4}
 use Rattle.unescape.proofs.Reading.{room_of}
 use Rattle.buffers.specs.Relations.Append.{over}
-use lib.ListN.{length-set}
 use mathlib.Core.Path.{◌∙◌, ap, sym}
 use native.Mathlib.Omega.{arith}
 use Rattle.unescape.proofs.write_scalar.Goals as goal
-
-pub bounds-d-at : goal.bounds-d-at
-bounds-d-at c =
-    let one = room_of c.args.at _ (scalar_1 c.args.v c.if-v-lt128.true) c.requires.0 in
-    omega arith
 
 pub returns-then-v-lt128 : goal.returns-then-v-lt128
 returns-then-v-lt128 c =
     let one = room_of c.args.at _ (scalar_1 c.args.v c.if-v-lt128.true) c.requires.0 in
     set_over _ _ _ (omega arith) ∙ ap (over _ _) (sym (scalar_1 c.args.v c.if-v-lt128.true))
 
-pub bounds-d-at-then-v-lt2048 : goal.bounds-d-at-then-v-lt2048
-bounds-d-at-then-v-lt2048 c =
-    let two = room_of c.args.at _ (scalar_2 c.args.v c.if-v-lt128.false c.if-v-lt2048.true) c.requires.0 in
-    omega arith
-
-pub bounds-d-at-then-v-lt2048-2 : goal.bounds-d-at-then-v-lt2048-2
-bounds-d-at-then-v-lt2048-2 c =
-    let two = room_of c.args.at _ (scalar_2 c.args.v c.if-v-lt128.false c.if-v-lt2048.true) c.requires.0 in
-    simp length-set (omega arith)
-
 pub returns-then-v-lt2048 : goal.returns-then-v-lt2048
 returns-then-v-lt2048 c =
     let two = room_of c.args.at _ (scalar_2 c.args.v c.if-v-lt128.false c.if-v-lt2048.true) c.requires.0 in
     store_2 _ _ _ _ two ∙ ap (over _ _) (sym (scalar_2 c.args.v c.if-v-lt128.false c.if-v-lt2048.true))
 
-pub bounds-d-at-then-v-lt65536 : goal.bounds-d-at-then-v-lt65536
-bounds-d-at-then-v-lt65536 c =
-    let three = room_of c.args.at _ (scalar_3 c.args.v c.if-v-lt128.false c.if-v-lt2048.false c.if-v-lt65536.true) c.requires.0 in
-    omega arith
-
-pub bounds-d-at-then-v-lt65536-2 : goal.bounds-d-at-then-v-lt65536-2
-bounds-d-at-then-v-lt65536-2 c =
-    let three = room_of c.args.at _ (scalar_3 c.args.v c.if-v-lt128.false c.if-v-lt2048.false c.if-v-lt65536.true) c.requires.0 in
-    simp length-set (omega arith)
-
-pub bounds-d-at-then-v-lt65536-3 : goal.bounds-d-at-then-v-lt65536-3
-bounds-d-at-then-v-lt65536-3 c =
-    let three = room_of c.args.at _ (scalar_3 c.args.v c.if-v-lt128.false c.if-v-lt2048.false c.if-v-lt65536.true) c.requires.0 in
-    simp length-set (omega arith)
-
 pub returns-then-v-lt65536 : goal.returns-then-v-lt65536
 returns-then-v-lt65536 c =
     let three = room_of c.args.at _ (scalar_3 c.args.v c.if-v-lt128.false c.if-v-lt2048.false c.if-v-lt65536.true) c.requires.0 in
     store_3 _ _ _ _ _ three ∙ ap (over _ _) (sym (scalar_3 c.args.v c.if-v-lt128.false c.if-v-lt2048.false c.if-v-lt65536.true))
-
-pub bounds-d-at-2 : goal.bounds-d-at-2
-bounds-d-at-2 c =
-    let four = room_of c.args.at _ (scalar_4 c.args.v c.if-v-lt128.false c.if-v-lt2048.false c.if-v-lt65536.false) c.requires.0 in
-    omega arith
-
-pub bounds-d-at-3 : goal.bounds-d-at-3
-bounds-d-at-3 c =
-    let four = room_of c.args.at _ (scalar_4 c.args.v c.if-v-lt128.false c.if-v-lt2048.false c.if-v-lt65536.false) c.requires.0 in
-    simp length-set (omega arith)
-
-pub bounds-d-at-4 : goal.bounds-d-at-4
-bounds-d-at-4 c =
-    let four = room_of c.args.at _ (scalar_4 c.args.v c.if-v-lt128.false c.if-v-lt2048.false c.if-v-lt65536.false) c.requires.0 in
-    simp length-set (omega arith)
-
-pub bounds-d-at-5 : goal.bounds-d-at-5
-bounds-d-at-5 c =
-    let four = room_of c.args.at _ (scalar_4 c.args.v c.if-v-lt128.false c.if-v-lt2048.false c.if-v-lt65536.false) c.requires.0 in
-    simp length-set (omega arith)
 
 pub returns : goal.returns
 returns c =

@@ -2,8 +2,8 @@
 use Rattle.variants.proofs.Keys.{equals_is, equals_no}
 use Rattle.variants.proofs.is_equal.Goals as goal
 
-pub returns-in_default : goal.returns-in_default
-returns-in_default c = equals_no _ _ c.read_literal.ensures c.in_default.is
+pub returns-in-None : goal.returns-in-None
+returns-in-None c = equals_no _ _ c.read_literal.ensures c.in-None.is
 
-pub returns : goal.returns
-returns c = equals_is _ _ c.read_literal.ensures c.in-Is.is c.same_number.ensures
+pub returns-in-Some : goal.returns-in-Some
+returns-in-Some c = equals_is _ _ c.read_literal.ensures c.in-Some.is c.same_number.ensures

@@ -2,8 +2,8 @@
 use Rattle.variants.proofs.Keys.{kind_other, kind_same}
 use Rattle.variants.proofs.variant_matches.Goals as goal
 
-pub returns-then-v-kind : goal.returns-then-v-kind
-returns-then-v-kind c = kind_other _ _ _ c.if-v-kind.true
+pub returns-else-v-kind : goal.returns-else-v-kind
+returns-else-v-kind c = kind_other _ _ _ c.if-v-kind.false
 
-pub returns : goal.returns
-returns c = kind_same _ _ _ c.if-v-kind.false c.key_matches.ensures
+pub returns-then-v-kind : goal.returns-then-v-kind
+returns-then-v-kind c = kind_same _ _ _ c.if-v-kind.true c.key_matches.ensures

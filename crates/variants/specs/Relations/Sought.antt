@@ -1,4 +1,7 @@
 -- What the code holds of a value and of a variant, and the positions that it answers.
+use Rattle.std.specs.Prelude as rust
+use Rattle.records.specs.Relations.Answer.{Next}
+use Rattle.std.specs.Prelude.{Some, None}
 use Rattle.std.specs.Prelude.{◌≡◌, List, Bool, ◌&&◌, ◌||◌, ℕ, ◌-◌, ◌≤◌, length, eqb}
 use Rattle.std.proofs.Math.Option.{Option, none, some}
 use Rattle.decimals.specs.Relations.Shown.{told}
@@ -11,8 +14,6 @@ use Rattle.plural.specs.declared.types.Category.{Category}
 use Rattle.decimals.specs.Bytes.{same_bytes}
 use Rattle.records.specs.Got.{Got, got, bad}
 use Rattle.records.specs.Bytes.{part}
-use Rattle.records.specs.declared.Next.{Next}
-use Rattle.records.specs.declared.Next.TheVariants as next
 use Rattle.variants.specs.Outline.{Outline, outline, outline_at}
 use Rattle.variants.specs.Choice.{chosen_at}
 use Rattle.variants.specs.declared.Asked.{Asked}
@@ -20,17 +21,15 @@ use Rattle.variants.specs.declared.Asked.TheVariants as asked
 use Rattle.variants.specs.declared.Sought.{Sought}
 use Rattle.variants.specs.declared.Sought.TheVariants as sought
 use Rattle.variants.specs.declared.Span.{Span}
-use Rattle.variants.specs.declared.Read.{Read}
-use Rattle.variants.specs.declared.Read.TheVariants as read
 
 -- where a variant stands, and where its pattern
 unfoldable pub place_of : Option Outline → Next
-place_of none = next.Bad
-place_of (some o) = next.At o.place
+place_of none = None
+place_of (some o) = Some o.place
 
 unfoldable pub pattern_place : Option Outline → Next
-pattern_place none = next.Bad
-pattern_place (some o) = next.At o.pattern
+pattern_place none = None
+pattern_place (some o) = Some o.pattern
 
 -- where the pattern of a variant stands that is read at a place
 unfoldable pub one_read : Got Outline → Option Outline
@@ -44,9 +43,9 @@ pattern_at_place s at = pattern_place (one_read (outline_at s at))
 abbrev pub outline_in : List ℕ → ℕ → Span → Outline
 outline_in s at v = outline at v.kind (part s v.from (v.to - v.from)) v.flag v.pattern
 
-pub data Reads (s : List ℕ) (at : ℕ) (r : Read) : Type 0 where
-  reads : (v : Span) → r ≡ read.Is v → outline_at s at ≡ got (outline_in s at v) v.end → v.from ≤ v.to → v.to ≤ length s → Reads s at r
-  reads_none : r ≡ read.Bad → outline_at s at ≡ bad → Reads s at r
+pub data Reads (s : List ℕ) (at : ℕ) (r : rust.Option Span) : Type 0 where
+  reads : (v : Span) → r ≡ rust.Some v → outline_at s at ≡ got (outline_in s at v) v.end → v.from ≤ v.to → v.to ≤ length s → Reads s at r
+  reads_none : r ≡ rust.None → outline_at s at ≡ bad → Reads s at r
 
 -- is a key a literal that equals a number
 unfoldable pub equals : List ℕ → CodeNumber.Number → Bool

@@ -1,11 +1,9 @@
 -- Past what is left of the variants is past all of them.
+use Prim.Native.Nat.{◌-◌}
 use Rattle.records.specs.Relations.Answer.{next_of}
 use Rattle.walks.specs.Outline.{many_outline, variant_outline}
 use mathlib.Core.Path.{◌≡◌}
 use Rattle.walks.proofs.skip_variants.Given as goal
 
-abbrev pub invariant-loop-left : goal.invariant-loop-left
-invariant-loop-left l = next_of (many_outline l.left variant_outline l.s l.at) ≡ next_of (many_outline l.count variant_outline l.s l.from)
-
-abbrev pub decreases-loop-left : goal.decreases-loop-left
-decreases-loop-left l = l.left
+abbrev pub invariant-loop : goal.invariant-loop
+invariant-loop l = next_of (many_outline (l.count - l.counter) variant_outline l.s l.at) ≡ next_of (many_outline l.count variant_outline l.s l.from)

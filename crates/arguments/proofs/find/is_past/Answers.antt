@@ -8,19 +8,13 @@ pub returns-in_default : goal.returns-in_default
 returns-in_default c = past_none _ _ _ c.read_str.ensures c.in_default.is
 
 pub slice_bounds-is_before-count : goal.slice_bounds-is_before-count
-slice_bounds-is_before-count c =
-    let inside = str_in c.args.s.now c.args.at c.read_str.ensures c.in-At.is in
-    let h = inside in omega arith
+slice_bounds-is_before-count c = let h = str_in c.args.s.now c.args.at c.read_str.ensures c.in-Some.is in omega arith
 
 pub slice_bounds-is_before-start : goal.slice_bounds-is_before-start
-slice_bounds-is_before-start c =
-    let inside = str_in c.args.s.now c.args.at c.read_str.ensures c.in-At.is in
-    let h = inside in omega arith
+slice_bounds-is_before-start c = let h = str_in c.args.s.now c.args.at c.read_str.ensures c.in-Some.is in omega arith
 
 pub slice_bounds-is_before-end : goal.slice_bounds-is_before-end
-slice_bounds-is_before-end c =
-    let inside = str_in c.args.s.now c.args.at c.read_str.ensures c.in-At.is in
-    let h = inside in omega arith
+slice_bounds-is_before-end c = let h = str_in c.args.s.now c.args.at c.read_str.ensures c.in-Some.is in omega arith
 
 pub returns : goal.returns
-returns c = past_name _ _ _ c.read_str.ensures c.in-At.is c.is_before.ensures
+returns c = past_name _ _ _ c.read_str.ensures c.in-Some.is c.is_before.ensures

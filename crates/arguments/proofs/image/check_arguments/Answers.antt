@@ -1,22 +1,17 @@
--- `arguments::image::check_arguments` meets its contract: the head, the arguments and nothing left over, else 13; then their order, else 19.
-use Rattle.arguments.proofs.Judging.{judged_accepted, judged_headless, judged_longer, judged_noted, judged_other, judged_stopped, judged_unordered}
-use native.Mathlib.Omega.{arith}
+-- `arguments::image::check_arguments` meets its contract: 13 where the image could not be read, and 19 where it is not in order.
+use Rattle.arguments.specs.Relations.Checked.{in_order_or}
+use Rattle.arguments.proofs.Judging.{Said, said_checked, said_unchecked}
+use mathlib.Core.Bool.{Bool}
+use mathlib.Core.Path.{subst}
 use Rattle.arguments.proofs.image.check_arguments.Goals as goal
 
-pub returns-in_default : goal.returns-in_default
-returns-in_default c = (judged_headless _ c.read_head.ensures c.in_default.is, λ z. absurd (omega arith))
+pub returns-in_err-run : goal.returns-in_err-run
+returns-in_err-run c = said_unchecked _ _ _ c.check_image.ensures _ c.in_err-run.ensures.ok_part c.in_err-run.ensures.value c.from_residual.ensures.1
 
-pub returns-in_default-check_all_arguments : goal.returns-in_default-check_all_arguments
-returns-in_default-check_all_arguments c = (judged_stopped _ c.read_head.ensures c.in-At.is c.check_all_arguments.ensures.0 c.in_default-check_all_arguments.is, λ z. absurd (omega arith))
+pub returns-then-run : goal.returns-then-run
+unfolding in_order_or
+returns-then-run c = subst (λ (t : Bool). Said c.args.s.now c.check_image.new.places (in_order_or t)) c.if-run.true (said_checked _ _ _ c.check_image.ensures c.in_ok-run.ensures.ok_part)
 
-pub returns-in_default-ends_at : goal.returns-in_default-ends_at
-returns-in_default-ends_at c = (judged_other _ c.read_head.ensures c.in-At.is c.check_all_arguments.ensures.0 c.in-Is.is c.ends_at.ensures c.in_default-ends_at.is, λ z. absurd (omega arith))
-
-pub returns-then-e-s : goal.returns-then-e-s
-returns-then-e-s c = (judged_longer _ c.read_head.ensures c.in-At.is c.check_all_arguments.ensures.0 c.in-Is.is c.ends_at.ensures c.in-At-ends_at.is c.if-e-s.true, λ z. absurd (omega arith))
-
-pub returns-then-r : goal.returns-then-r
-returns-then-r c = (judged_accepted _ c.read_head.ensures c.in-At.is c.check_all_arguments.ensures.0 c.in-Is.is c.ends_at.ensures c.in-At-ends_at.is c.if-e-s.false c.if-r.true, λ _. judged_noted _ c.read_head.ensures c.in-At.is c.check_all_arguments.ensures.0 c.in-Is.is _ c.check_all_arguments.ensures.1)
-
-pub returns : goal.returns
-returns c = (judged_unordered _ c.read_head.ensures c.in-At.is c.check_all_arguments.ensures.0 c.in-Is.is c.ends_at.ensures c.in-At-ends_at.is c.if-e-s.false c.if-r.false, λ z. absurd (omega arith))
+pub returns-else-run : goal.returns-else-run
+unfolding in_order_or
+returns-else-run c = subst (λ (t : Bool). Said c.args.s.now c.check_image.new.places (in_order_or t)) c.if-run.false (said_checked _ _ _ c.check_image.ensures c.in_ok-run.ensures.ok_part)

@@ -1,16 +1,17 @@
 -- `arguments::image::check_run` meets its contract: what is left of the run ends as the whole does.
 use Rattle.arguments.proofs.Running.{run_end, run_stop, run_turn}
-use mathlib.Core.Path.{refl}
+use Prim.Native.Nat.{◌+◌, ◌-◌}
+use mathlib.Core.Path.{◌∙◌, ◌≡◌}
+use native.Mathlib.Omega.{arith}
 use Rattle.arguments.proofs.image.check_run.Goals as goal
 
-pub loop-left-init : goal.loop-left-init
-loop-left-init c = refl
+pub returns-in_err-at : goal.returns-in_err-at
+returns-in_err-at c = c.from_residual.ensures ∙ run_stop _ _ _ _ _ c.loop.invariant (omega arith) c.check_argument.ensures c.in_err-at.was
 
-pub returns-in_default : goal.returns-in_default
-returns-in_default c = run_stop _ _ _ _ _ c.loop-left.invariant c.loop-left-test.true c.check_argument.ensures c.in_default.is
-
-pub loop-left-preserved : goal.loop-left-preserved
-loop-left-preserved c = run_turn _ _ _ _ _ c.loop-left.invariant c.loop-left-test.true c.check_argument.ensures c.in-At.is c.still-fine.ensures
+pub loop-preserved : goal.loop-preserved
+loop-preserved c =
+    let m : c.args.count - (c.loop.counter + 1) ≡ c.args.count - c.loop.counter - 1 = omega arith in
+    rw m (run_turn _ _ _ _ _ c.loop.invariant (omega arith) c.check_argument.ensures c.in_ok-at.was c.still-fine.ensures)
 
 pub returns : goal.returns
-returns c = run_end _ _ _ _ _ c.loop-left.invariant c.loop-left-test.false
+returns c = run_end _ _ _ _ _ c.loop.invariant (omega arith)

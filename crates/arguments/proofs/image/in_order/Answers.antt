@@ -8,40 +8,28 @@ pub returns-in_default : goal.returns-in_default
 returns-in_default c = stands_nowhere _ _ _ c.read_str.ensures c.in_default.is
 
 pub returns-then-not-has_least_scale : goal.returns-then-not-has_least_scale
-returns-then-not-has_least_scale c = stands_longer _ _ _ c.read_str.ensures c.in-At.is c.has_least_scale.ensures (c.if-not-has_least_scale.true)
+returns-then-not-has_least_scale c = stands_longer _ _ _ c.read_str.ensures c.in-Some.is c.has_least_scale.ensures (c.if-not-has_least_scale.true)
 
 pub returns-in_default-read_str : goal.returns-in_default-read_str
-returns-in_default-read_str c = stands_first _ _ _ c.read_str.ensures c.in-At.is c.has_least_scale.ensures (c.if-not-has_least_scale.false) c.read_str-2.ensures c.in_default-read_str.is
+returns-in_default-read_str c = stands_first _ _ _ c.read_str.ensures c.in-Some.is c.has_least_scale.ensures (c.if-not-has_least_scale.false) c.read_str-2.ensures c.in_default-read_str.is
 
 pub slice_bounds-is_before-count : goal.slice_bounds-is_before-count
-slice_bounds-is_before-count c =
-    let before-it = str_in c.args.s.now c.args.last c.read_str-2.ensures c.in-At-read_str.is in
-    let h = before-it in omega arith
+slice_bounds-is_before-count c = let h = str_in c.args.s.now c.args.last c.read_str-2.ensures c.in-Some-read_str.is in omega arith
 
 pub slice_bounds-is_before-start : goal.slice_bounds-is_before-start
-slice_bounds-is_before-start c =
-    let before-it = str_in c.args.s.now c.args.last c.read_str-2.ensures c.in-At-read_str.is in
-    let h = before-it in omega arith
+slice_bounds-is_before-start c = let h = str_in c.args.s.now c.args.last c.read_str-2.ensures c.in-Some-read_str.is in omega arith
 
 pub slice_bounds-is_before-end : goal.slice_bounds-is_before-end
-slice_bounds-is_before-end c =
-    let before-it = str_in c.args.s.now c.args.last c.read_str-2.ensures c.in-At-read_str.is in
-    let h = before-it in omega arith
+slice_bounds-is_before-end c = let h = str_in c.args.s.now c.args.last c.read_str-2.ensures c.in-Some-read_str.is in omega arith
 
 pub slice_bounds-is_before-count-2 : goal.slice_bounds-is_before-count-2
-slice_bounds-is_before-count-2 c =
-    let inside = str_in c.args.s.now c.args.at c.read_str.ensures c.in-At.is in
-    let h = inside in omega arith
+slice_bounds-is_before-count-2 c = let h = str_in c.args.s.now c.args.at c.read_str.ensures c.in-Some.is in omega arith
 
 pub slice_bounds-is_before-start-2 : goal.slice_bounds-is_before-start-2
-slice_bounds-is_before-start-2 c =
-    let inside = str_in c.args.s.now c.args.at c.read_str.ensures c.in-At.is in
-    let h = inside in omega arith
+slice_bounds-is_before-start-2 c = let h = str_in c.args.s.now c.args.at c.read_str.ensures c.in-Some.is in omega arith
 
 pub slice_bounds-is_before-end-2 : goal.slice_bounds-is_before-end-2
-slice_bounds-is_before-end-2 c =
-    let inside = str_in c.args.s.now c.args.at c.read_str.ensures c.in-At.is in
-    let h = inside in omega arith
+slice_bounds-is_before-end-2 c = let h = str_in c.args.s.now c.args.at c.read_str.ensures c.in-Some.is in omega arith
 
 pub returns : goal.returns
-returns c = stands_behind _ _ _ c.read_str.ensures c.in-At.is c.has_least_scale.ensures (c.if-not-has_least_scale.false) c.read_str-2.ensures c.in-At-read_str.is c.is_before.ensures
+returns c = stands_behind _ _ _ c.read_str.ensures c.in-Some.is c.has_least_scale.ensures (c.if-not-has_least_scale.false) c.read_str-2.ensures c.in-Some-read_str.is c.is_before.ensures

@@ -7,4 +7,4 @@ pub returns-in_default : goal.returns-in_default
 returns-in_default c = λ st f h. count_bad _ (num_none c.read_u16.ensures c.in_default.is) h
 
 pub returns : goal.returns
-returns c = λ st f h. count_is _ (num_is c.read_u16.ensures c.in-At.is) h
+returns c = λ st f h. count_is _ (num_is c.read_u16.ensures c.in-Some.is) h

@@ -7,9 +7,6 @@ use Rattle.decimals.proofs.text.+push_digits.Goals as goal
 pub returns-then-w-eq0 : goal.returns-then-w-eq0
 returns-then-w-eq0 t c = digits_none c.args.t c.args.w c.args.n c.if-w-eq0.true
 
-pub push_digits-u-requires : goal.push_digits-u-requires
-push_digits-u-requires t c = omega arith
-
 pub push-requires : goal.push-requires
 push-requires t c = omega (arith, digits_length (c.args.w - 1) (c.args.n / 10), c.push_digits-u.ensures.len)
 

@@ -8,9 +8,6 @@ use mathlib.Core.Path.{◌∙◌, ap, sym}
 use native.Mathlib.Omega.{arith}
 use Rattle.decimals.proofs.text.number_text.Goals as goal
 
-pub push_sign-t-requires : goal.push_sign-t-requires
-push_sign-t-requires c = omega (arith, held_none c.empty.ensures)
-
 pub push_whole-u-requires : goal.push_whole-u-requires
 push_whole-u-requires c =
     let fit = parts_fit (told c.args.n) (sym c.in_range.ensures ∙ c.if-in_range.true) c.shortest-q.ensures in

@@ -1,20 +1,14 @@
--- `decimals::text::whole` meets its contract: dividing by 10 once for each place of the scale.
-use Rattle.decimals.proofs.Shortest.{whole_end, whole_more}
-use mathlib.Core.Path.{◌∙◌, refl}
+-- `decimals::text::whole` meets its contract: a power that no u64 holds is above all digits.
+use native.Mathlib.Nat.{div-eq_of_lt, one-le-pow}
 use native.Mathlib.Omega.{arith}
+use mathlib.Core.Path.{sym}
 use Rattle.decimals.proofs.text.whole.Goals as goal
 
-pub loop-s-init : goal.loop-s-init
-loop-s-init c = refl
+pub nonzero_div-result : goal.nonzero_div-result
+nonzero_div-result c = let power = c.in-Some.ensures in omega (arith, power, one-le-pow c.from.result 10 (omega arith))
 
-pub overflow_sub-s : goal.overflow_sub-s
-overflow_sub-s c = omega arith
+pub returns-in-None : goal.returns-in-None
+returns-in-None c = let above = rw c.from.ensures at c.in-None.ensures in sym (div-eq_of_lt (omega (arith, above)))
 
-pub loop-s-smaller : goal.loop-s-smaller
-loop-s-smaller c = omega arith
-
-pub loop-s-preserved : goal.loop-s-preserved
-loop-s-preserved c = whole_more c.loop-s.d c.loop-s.s c.loop-s-test.true ∙ c.loop-s.invariant
-
-pub returns : goal.returns
-returns c = whole_end c.loop-s.d c.loop-s.s c.loop-s-test.false ∙ c.loop-s.invariant
+pub returns-in-Some : goal.returns-in-Some
+returns-in-Some c = rw ((c.in-Some.ensures).1, c.from.ensures)

@@ -4,8 +4,8 @@ use Rattle.entries.specs.Relations.Meets.{found_of}
 use mathlib.Core.Path.{◌∙◌, ap, sym}
 use Rattle.entries.proofs.entry.find_holder.Goals as goal
 
-pub returns-in-At : goal.returns-in-At
-returns-in-At c = c.find_in_items.ensures ∙ ap found_of (sym (locate_start _ _ c.read_u16.ensures c.in-At.is))
+pub returns-in_err-count : goal.returns-in_err-count
+returns-in_err-count c = c.from_residual.ensures ∙ none_found (locate_bad _ _ c.read_u16.ensures c.in_err-count.was)
 
-pub returns-in-Bad : goal.returns-in-Bad
-returns-in-Bad c = none_found (locate_bad _ _ c.read_u16.ensures c.in-Bad.is)
+pub returns : goal.returns
+returns c = c.find_in_items.ensures ∙ ap found_of (sym (locate_start _ _ c.read_u16.ensures c.in_ok-count.was))

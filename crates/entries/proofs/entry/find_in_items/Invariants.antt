@@ -1,10 +1,8 @@
--- `entries::entry::find_in_items` meets its contract. The loop's invariant: what the items that are left make of what was found so far is what all make of nothing.
+-- What the items that are left make of what was found so far is what all make of nothing.
+use Prim.Native.Nat.{◌-◌}
 use Rattle.entries.proofs.Held.{HeldFrom}
 use mathlib.Core.Path.{◌≡◌}
 use Rattle.entries.proofs.entry.find_in_items.Given as goal
 
-abbrev pub invariant-loop-left : goal.invariant-loop-left
-invariant-loop-left l = HeldFrom l.s l.id l.initial.left l.initial.at l.initial.found ≡ HeldFrom l.s l.id l.left l.at l.found
-
-abbrev pub decreases-loop-left : goal.decreases-loop-left
-decreases-loop-left l = l.left
+abbrev pub invariant-loop : goal.invariant-loop
+invariant-loop l = HeldFrom l.s l.id l.count l.from l.initial.found ≡ HeldFrom l.s l.id (l.count - l.counter) l.at l.found

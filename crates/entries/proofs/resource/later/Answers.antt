@@ -6,8 +6,8 @@ use Rattle.entries.proofs.resource.later.Goals as goal
 
 pub returns-then-same : goal.returns-then-same
 unfolding option_of or_else
-returns-then-same c = rw c.if-same.true c.entry_found.ensures
+returns-then-same c = rw c.if-same.true c.holder_at.ensures
 
-pub returns : goal.returns
+pub returns-else-same : goal.returns-else-same
 unfolding option_of or_else
-returns c = rw c.if-same.false (sym (found_held _))
+returns-else-same c = rw c.if-same.false (sym (found_held _))

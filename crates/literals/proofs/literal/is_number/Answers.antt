@@ -1,49 +1,29 @@
 -- `literals::literal::is_number` meets its contract: the state and the count, run on over what is left, end as over the whole.
-use Rattle.literals.proofs.Counting.{count_end, count_more, one_or_none}
+use Rattle.literals.proofs.Counting.{count_end, count_more, digit_counted, one_or_none}
 use Rattle.decimals.proofs.Run.{run_done, run_turn}
 use Rattle.decimals.specs.Bytes.{digit}
 use Rattle.literals.specs.Literal.{digit_count, is_number, number_step}
-use borrow.Author.Rules.{rules}
-use borrow.Author.Tests.{eq-eqb, ne_eqb}
+use Rattle.std.proofs.lemmas.Bool.Decides.{nat_tests}
 use lib.ListN.{get_or}
-use mathlib.Core.Path.{◌≡◌, refl}
+use mathlib.Core.Path.{◌≡◌}
 use native.Mathlib.Omega.{arith}
 use Rattle.literals.proofs.literal.is_number.Goals as goal
 
-pub loop-i-init : goal.loop-i-init
-loop-i-init c = (search rules, search rules, refl, omega arith)
+pub loop-b-preserved : goal.loop-b-preserved
+loop-b-preserved c =
+    let turn = count_more c.args.s.now c.loop-b.b-index c.loop-b-test.true in
+    let one = digit_counted _ c.from-n.ensures c.is_digit.ensures in
+    (omega (arith, one_or_none (digit (get_or c.args.s.now c.loop-b.b-index 0)), one), run_turn number_step c.args.s.now c.loop-b-test.true c.loop-b.invariant.1 c.number_step-q.ensures, omega (arith, turn, one, c.loop-b.invariant.2))
 
-pub count_step-n-requires : goal.count_step-n-requires
-count_step-n-requires c = omega arith
-
-pub overflow_add-i : goal.overflow_add-i
-overflow_add-i c = omega arith
-
-pub loop-i-smaller : goal.loop-i-smaller
-loop-i-smaller c = omega arith
-
-pub loop-i-preserved : goal.loop-i-preserved
-loop-i-preserved c =
-    let turn = count_more c.args.s.now c.loop-i.i c.loop-i-test.true in
-    (omega arith, omega (arith, one_or_none (digit (get_or c.args.s.now c.loop-i.i 0)), c.count_step-n.ensures), run_turn number_step c.args.s.now c.loop-i-test.true c.loop-i.invariant.2 c.number_step-q.ensures, omega (arith, turn, c.count_step-n.ensures, c.loop-i.invariant.3))
-
-pub returns-then-q-eq2 : goal.returns-then-q-eq2
+pub returns-then-matches : goal.returns-then-matches
 unfolding is_number
-returns-then-q-eq2 c =
-    let q = run_done number_step c.args.s.now c.loop-i.q c.loop-i-test.false c.loop-i.invariant.2 in
-    let n : digit_count c.args.s.now ≡ c.loop-i.n = omega (arith, count_end c.args.s.now c.loop-i.i c.loop-i-test.false, c.loop-i.invariant.3) in
-    simp (q, n, eq-eqb _ _ c.if-q-eq2.true)
+returns-then-matches c =
+    let q = run_done number_step c.args.s.now c.loop-b.q c.loop-b-test.false c.loop-b.invariant.1 in
+    let n : digit_count c.args.s.now ≡ c.loop-b.n = omega (arith, count_end c.args.s.now c.loop-b.b-index c.loop-b-test.false, c.loop-b.invariant.2) in
+    grind (arith, nat_tests)
 
-pub returns-then-q-eq4 : goal.returns-then-q-eq4
+pub returns-else-matches : goal.returns-else-matches
 unfolding is_number
-returns-then-q-eq4 c =
-    let q = run_done number_step c.args.s.now c.loop-i.q c.loop-i-test.false c.loop-i.invariant.2 in
-    let n : digit_count c.args.s.now ≡ c.loop-i.n = omega (arith, count_end c.args.s.now c.loop-i.i c.loop-i-test.false, c.loop-i.invariant.3) in
-    simp (q, n, ne_eqb _ _ c.if-q-eq2.false, eq-eqb _ _ c.if-q-eq4.true)
-
-pub returns-else-q-eq4 : goal.returns-else-q-eq4
-unfolding is_number
-returns-else-q-eq4 c =
-    let q = run_done number_step c.args.s.now c.loop-i.q c.loop-i-test.false c.loop-i.invariant.2 in
-    let n : digit_count c.args.s.now ≡ c.loop-i.n = omega (arith, count_end c.args.s.now c.loop-i.i c.loop-i-test.false, c.loop-i.invariant.3) in
-    simp (q, n, ne_eqb _ _ c.if-q-eq2.false, ne_eqb _ _ c.if-q-eq4.false)
+returns-else-matches c =
+    let q = run_done number_step c.args.s.now c.loop-b.q c.loop-b-test.false c.loop-b.invariant.1 in
+    grind (arith, nat_tests)

@@ -3,26 +3,19 @@ use Rattle.literals.proofs.Reading.{fine_digits, fine_fraction, fine_scale, fine
 use Rattle.literals.specs.Literal.{read_start}
 use Rattle.decimals.specs.Relations.Shown.{told_count}
 use Rattle.literals.specs.Relations.Shown.{told_read}
-use borrow.Author.Rules.{rules}
 use mathlib.Core.Path.{◌∙◌, refl, sym}
 use native.Mathlib.Omega.{arith}
 use Rattle.literals.proofs.literal.read_from.Goals as goal
 
-pub loop-i-init : goal.loop-i-init
+pub loop-b-init : goal.loop-b-init
 unfolding told_count read_start
-loop-i-init c = (search rules, refl, fine_start c.args.s.now c.requires)
+loop-b-init c = (refl, fine_start c.args.s.now c.requires)
 
 pub read_step-r-requires : goal.read_step-r-requires
-read_step-r-requires c = (fine_digits c.loop-i.invariant.2, fine_fraction c.loop-i.invariant.2)
+read_step-r-requires c = (fine_digits c.loop-b.invariant.1, fine_fraction c.loop-b.invariant.1)
 
-pub overflow_add-i : goal.overflow_add-i
-overflow_add-i c = omega arith
-
-pub loop-i-smaller : goal.loop-i-smaller
-loop-i-smaller c = omega arith
-
-pub loop-i-preserved : goal.loop-i-preserved
-loop-i-preserved c = (omega arith, read_turn c.args.s.now c.loop-i.i (told_read c.loop-i.r) c.loop-i-test.true c.loop-i.invariant.1 c.read_step-r.ensures, fine_turn c.args.s.now c.loop-i-test.true c.loop-i.invariant.2 c.read_step-r.ensures)
+pub loop-b-preserved : goal.loop-b-preserved
+loop-b-preserved c = (read_turn c.args.s.now c.loop-b.b-index (told_read c.loop-b.r) c.loop-b-test.true c.loop-b.invariant.0 c.read_step-r.ensures, fine_turn c.args.s.now c.loop-b-test.true c.loop-b.invariant.1 c.read_step-r.ensures)
 
 pub returns : goal.returns
-returns c = (sym (read_end c.args.s.now c.loop-i.i _ c.loop-i-test.false) ∙ c.loop-i.invariant.1, omega (arith, fine_scale c.loop-i.invariant.2))
+returns c = (sym (read_end c.args.s.now c.loop-b.b-index _ c.loop-b-test.false) ∙ c.loop-b.invariant.0, omega (arith, fine_scale c.loop-b.invariant.1))

@@ -1,21 +1,15 @@
--- `numbers::equal::same_number` meets its contract: value, words and counts are compared one after the other.
-use Rattle.numbers.specs.Equal.{same_number, same_options}
-use mathlib.Core.Path.{◌∙◌, sym}
+-- `numbers::equal::same_number` meets its contract: value, then options.
+use Rattle.numbers.proofs.Tests.{fields_equal, fields_same}
+use Rattle.numbers.specs.Equal.{same_number}
+use mathlib.Core.Path.{◌≡◌, ◌∙◌, sym}
 use Rattle.numbers.proofs.equal.same_number.Goals as goal
 
-pub returns-then-not-same_value : goal.returns-then-not-same_value
-unfolding same_number same_options
-returns-then-not-same_value c = simp (sym c.same_value.ensures ∙ c.if-not-same_value.true)
+pub returns-then-same_value : goal.returns-then-same_value
+unfolding same_number
+returns-then-same_value c =
+    let fields : c.eq.result ≡ fields_equal c.args.a.options c.args.b.options = c.eq.ensures in
+    simp (sym c.same_value.ensures ∙ c.if-same_value.true, fields ∙ fields_same c.args.a.options c.args.b.options)
 
-pub returns-then-not-same_words : goal.returns-then-not-same_words
-unfolding same_number same_options
-returns-then-not-same_words c =
-    let p = sym c.same_value.ensures ∙ c.if-not-same_value.false in
-    simp (p, sym c.same_words.ensures ∙ c.if-not-same_words.true)
-
-pub returns : goal.returns
-unfolding same_number same_options
-returns c =
-    let p = sym c.same_value.ensures ∙ c.if-not-same_value.false in
-    let q = sym c.same_words.ensures ∙ c.if-not-same_words.false in
-    simp (p, q, sym c.same_counts.ensures)
+pub returns-else-same_value : goal.returns-else-same_value
+unfolding same_number
+returns-else-same_value c = simp (sym c.same_value.ensures ∙ c.if-same_value.false, c.if-same_value.false)

@@ -7,16 +7,19 @@ use Rattle.plural.proofs.plural.by_table.Goals as goal
 
 pub overflow_sub-digit : goal.overflow_sub-digit
 overflow_sub-digit c =
-    let right = digit_right c.args.kind c.args.locale c.args.n c.kind_number.ensures c.digit.ensures in
+    let digit = rw (c.from.ensures, c.from-2.ensures) at c.digit.ensures in
+    let right = digit_right c.args.kind c.args.locale c.args.n c.kind_number.ensures digit in
     omega (arith, right)
 
 pub numbered-requires : goal.numbered-requires
 numbered-requires c =
-    let right = digit_right c.args.kind c.args.locale c.args.n c.kind_number.ensures c.digit.ensures in
+    let digit = rw (c.from.ensures, c.from-2.ensures) at c.digit.ensures in
+    let right = digit_right c.args.kind c.args.locale c.args.n c.kind_number.ensures digit in
     let bound = rule_bound c.args.kind c.args.locale (whole_operands c.args.n) in
     omega (arith, right, bound)
 
 pub returns : goal.returns
 returns c =
-    let right = digit_right c.args.kind c.args.locale c.args.n c.kind_number.ensures c.digit.ensures in
+    let digit = rw (c.from.ensures, c.from-2.ensures) at c.digit.ensures in
+    let right = digit_right c.args.kind c.args.locale c.args.n c.kind_number.ensures digit in
     omega (arith, right, c.numbered.ensures)

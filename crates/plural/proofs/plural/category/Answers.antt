@@ -9,6 +9,6 @@ pub returns-then-o : goal.returns-then-o
 unfolding category
 returns-then-o c = c.by_table.ensures ∙ ap (λ (x : Operands). rule_of c.args.n.options.kind c.args.locale x) (shows_none (told c.args.n) c.operands_of-o.ensures c.if-o.true)
 
-pub returns : goal.returns
+pub returns-else-o : goal.returns-else-o
 unfolding category
-returns c = c.conditions.ensures (operands (told c.args.n)) c.operands_of-o.ensures
+returns-else-o c = c.conditions.ensures (operands (told c.args.n)) c.operands_of-o.ensures

@@ -1,25 +1,15 @@
 -- What is left of the named arguments ends where all of them end.
-use Rattle.records.proofs.Laws.{left_end, left_stop, left_turn}
+use Rattle.records.proofs.Laws.{turn_end, turn_next, turn_stop}
 use Rattle.records.specs.Decode.{named_at}
 use mathlib.Core.List.{[], ◌∷◌}
-use mathlib.Core.Path.{refl}
-use native.Mathlib.Omega.{arith}
+use mathlib.Core.Path.{◌∙◌}
 use Rattle.records.proofs.call_arguments.check_all_named.Goals as goal
 
-pub loop-left-init : goal.loop-left-init
-loop-left-init c = refl
+pub returns-in_err-at : goal.returns-in_err-at
+returns-in_err-at c = c.from_residual.ensures ∙ turn_stop [] ◌∷◌ named_at c.args.s.now c.args.count c.loop.counter c.loop.at c.loop.invariant c.loop-test.true c.check_named.ensures c.in_err-at.was
 
-pub returns-in_default : goal.returns-in_default
-returns-in_default c = left_stop [] ◌∷◌ named_at c.args.s.now c.loop-left.left c.loop-left.at c.loop-left.invariant c.loop-left-test.true c.check_named.ensures c.in_default.is
-
-pub overflow_sub-left : goal.overflow_sub-left
-overflow_sub-left c = omega arith
-
-pub loop-left-smaller : goal.loop-left-smaller
-loop-left-smaller c = omega arith
-
-pub loop-left-preserved : goal.loop-left-preserved
-loop-left-preserved c = left_turn [] ◌∷◌ named_at c.args.s.now c.loop-left.left c.loop-left.at c.loop-left.invariant c.loop-left-test.true c.check_named.ensures c.in-At.is
+pub loop-preserved : goal.loop-preserved
+loop-preserved c = turn_next [] ◌∷◌ named_at c.args.s.now c.args.count c.loop.counter c.loop.at c.loop.invariant c.loop-test.true c.check_named.ensures c.in_ok-at.was
 
 pub returns : goal.returns
-returns c = left_end [] ◌∷◌ named_at c.args.s.now c.loop-left.left c.loop-left.at c.loop-left.invariant c.loop-left-test.false
+returns c = turn_end [] ◌∷◌ named_at c.args.s.now c.args.count c.loop.counter c.loop.at c.loop.invariant c.loop-test.false

@@ -5,8 +5,5 @@ use Rattle.records.specs.Bytes.{part}
 use Rattle.records.specs.Names.{among}
 use Rattle.records.proofs.call_arguments.name_among.Given as goal
 
-abbrev pub invariant-loop-left : goal.invariant-loop-left
-invariant-loop-left l = Rest (among (part l.s l.p (l.e - l.p))) l.s l.count l.from l.left l.at
-
-abbrev pub decreases-loop-left : goal.decreases-loop-left
-decreases-loop-left l = l.left
+abbrev pub invariant-loop : goal.invariant-loop
+invariant-loop l = Rest (among (part l.s l.p (l.e - l.p))) l.s l.count l.from (l.count - l.counter) l.at

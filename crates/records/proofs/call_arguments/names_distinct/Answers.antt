@@ -8,7 +8,6 @@ use Rattle.records.specs.Got.{got}
 use Rattle.records.specs.Names.{distinct}
 use mathlib.Core.List.{[], ◌∷◌}
 use mathlib.Core.Path.{◌∙◌, ◌≡◌, ap, refl, subst, sym}
-use native.Mathlib.Omega.{arith}
 use Rattle.records.proofs.call_arguments.names_distinct.Goals as goal
 
 pub loop-left-init : goal.loop-left-init
@@ -22,35 +21,26 @@ returns-in_default c =
 pub returns-in_default-skip_literal : goal.returns-in_default-skip_literal
 returns-in_default-skip_literal c =
     λ l f h. let i = c.loop-left.invariant l f h in
-    named_turn c.args.s.now c.loop-left.left c.loop-left.at c.loop-left-test.true i.1 c.read_str.ensures c.in-At.is
+    named_turn c.args.s.now c.loop-left.left c.loop-left.at c.loop-left-test.true i.1 c.read_str.ensures c.in-Some.is
     (λ x g t lit rest w. clash (c.skip_literal.ensures x g lit) c.in_default-skip_literal.is)
 
-pub overflow_sub-left : goal.overflow_sub-left
-overflow_sub-left c = omega arith
-
 pub name_among-requires : goal.name_among-requires
-name_among-requires c = str_in c.args.s.now c.loop-left.at c.read_str.ensures c.in-At.is
+name_among-requires c = str_in c.args.s.now c.loop-left.at c.read_str.ensures c.in-Some.is
 
 pub returns-then-name_among : goal.returns-then-name_among
 returns-then-name_among c =
     λ l f h. let i = c.loop-left.invariant l f h in
-    named_turn c.args.s.now c.loop-left.left c.loop-left.at c.loop-left-test.true i.1 c.read_str.ensures c.in-At.is
+    named_turn c.args.s.now c.loop-left.left c.loop-left.at c.loop-left-test.true i.1 c.read_str.ensures c.in-Some.is
     (λ x g t lit rest w.
-    let rest' = subst (λ (k : ℕ). many [] ◌∷◌ (c.loop-left.left - 1) named_at c.args.s.now k ≡ got t f) (meet (c.skip_literal.ensures x g lit) c.in-At-skip_literal.is) rest in
+    let rest' = subst (λ (k : ℕ). many [] ◌∷◌ (c.loop-left.left - 1) named_at c.args.s.now k ≡ got t f) (meet (c.skip_literal.ensures x g lit) c.in-Some-skip_literal.is) rest in
     sym (i.2 ∙ ap distinct w ∙ twice _ x t (sym (c.name_among.ensures t f rest') ∙ c.if-name_among.true)))
-
-pub overflow_sub-left-in-loop-left : goal.overflow_sub-left-in-loop-left
-overflow_sub-left-in-loop-left c = omega arith
-
-pub loop-left-smaller : goal.loop-left-smaller
-loop-left-smaller c = omega arith
 
 pub loop-left-preserved : goal.loop-left-preserved
 loop-left-preserved c =
     λ l f h. let i = c.loop-left.invariant l f h in
-    named_turn c.args.s.now c.loop-left.left c.loop-left.at c.loop-left-test.true i.1 c.read_str.ensures c.in-At.is
+    named_turn c.args.s.now c.loop-left.left c.loop-left.at c.loop-left-test.true i.1 c.read_str.ensures c.in-Some.is
     (λ x g t lit rest w.
-    let rest' = subst (λ (k : ℕ). many [] ◌∷◌ (c.loop-left.left - 1) named_at c.args.s.now k ≡ got t f) (meet (c.skip_literal.ensures x g lit) c.in-At-skip_literal.is) rest in
+    let rest' = subst (λ (k : ℕ). many [] ◌∷◌ (c.loop-left.left - 1) named_at c.args.s.now k ≡ got t f) (meet (c.skip_literal.ensures x g lit) c.in-Some-skip_literal.is) rest in
     (t, rest', i.2 ∙ ap distinct w ∙ once _ x t (sym (c.name_among.ensures t f rest') ∙ c.if-name_among.false)))
 
 pub returns : goal.returns

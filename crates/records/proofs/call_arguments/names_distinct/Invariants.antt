@@ -5,6 +5,3 @@ use Rattle.records.proofs.call_arguments.names_distinct.Given as goal
 
 abbrev pub invariant-loop-left : goal.invariant-loop-left
 invariant-loop-left l = Rest distinct l.s l.count l.from l.left l.at
-
-abbrev pub decreases-loop-left : goal.decreases-loop-left
-decreases-loop-left l = l.left

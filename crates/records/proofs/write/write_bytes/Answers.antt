@@ -1,57 +1,17 @@
--- `records::write::write_bytes` meets its contract: byte by byte, where all of them fit.
-use Prim.Native.Nat.{◌+◌, ℕ}
+-- `records::write::write_bytes` meets its contract: over what stood there, where all bytes fit.
+use Prim.Native.Nat.{◌+◌, ◌-◌}
 use Rattle.records.proofs.Laws.{there}
-use Rattle.records.proofs.Writing.{fits_paste, stays}
-use borrow.Author.Rules.{rules}
-use lib.ListN.{get_or, length, length-set, set}
-use lib.Seq.{paste, paste-suc, paste-zero}
-use mathlib.Core.List.{List}
-use mathlib.Core.Path.{◌∙◌, ◌≡◌, ap, refl, sym}
-use native.Mathlib.Numerals.{add-one}
+use Rattle.records.proofs.Writing.{fits_between, stays}
+use lib.ListN.{length}
+use mathlib.Core.Path.{◌≡◌, sym}
 use native.Mathlib.Omega.{arith}
 use Rattle.records.proofs.write.write_bytes.Goals as goal
 
-pub loop-i-init : goal.loop-i-init
-loop-i-init c = (search rules, refl, paste-zero c.args.d.now c.args.at c.args.src.now)
-
-pub overflow_add-d : goal.overflow_add-d
-overflow_add-d c =
+pub returns-then-has_bytes : goal.returns-then-has_bytes
+returns-then-has_bytes c =
     let room = there c.args.d.now c.args.at (length c.args.src.now) c.has_bytes.ensures c.if-has_bytes.true in
-    let h = room in omega arith
-
-pub bounds-d-at : goal.bounds-d-at
-bounds-d-at c =
-    let room = there c.args.d.now c.args.at (length c.args.src.now) c.has_bytes.ensures c.if-has_bytes.true in
-    let h = room in omega arith
-
-pub overflow_add-i : goal.overflow_add-i
-overflow_add-i c =
-    let room = there c.args.d.now c.args.at (length c.args.src.now) c.has_bytes.ensures c.if-has_bytes.true in
-    let h = room in omega arith
-
-pub loop-i-smaller : goal.loop-i-smaller
-loop-i-smaller c =
-    let room = there c.args.d.now c.args.at (length c.args.src.now) c.has_bytes.ensures c.if-has_bytes.true in
-    let h = room in omega arith
-
-pub loop-i-preserved : goal.loop-i-preserved
-loop-i-preserved c =
-    let room = there c.args.d.now c.args.at (length c.args.src.now) c.has_bytes.ensures c.if-has_bytes.true in (
-      omega arith,
-      simp length-set c.loop-i.invariant.1,
-      ap (λ (l : List ℕ). set l (c.args.at + c.loop-i.i) (get_or c.args.src.now c.loop-i.i 0)) c.loop-i.invariant.2
-          ∙ paste-suc c.args.d.now c.args.at c.args.src.now c.loop-i.i 0 (let h = room in omega arith) c.loop-i-test.true
-          ∙ ap (λ (k : ℕ). paste c.args.d.now c.args.at c.args.src.now k) (sym (add-one c.loop-i.i)),
-    )
-
-pub shape_of-d : goal.shape_of-d
-shape_of-d c = c.loop-i.invariant.1
-
-pub returns-after-loop-i : goal.returns-after-loop-i
-returns-after-loop-i c =
-    let room = there c.args.d.now c.args.at (length c.args.src.now) c.has_bytes.ensures c.if-has_bytes.true in
-    let e : c.loop-i.i ≡ length c.args.src.now = omega arith in
-    c.loop-i.invariant.2 ∙ ap (λ (k : ℕ). paste c.args.d.now c.args.at c.args.src.now k) e ∙ sym (fits_paste c.args.d.now c.args.at c.args.src.now room)
+    let n : c.args.at + length c.args.src.now - c.args.at ≡ length c.args.src.now = omega arith in
+    rw (n, c.copy_from_slice.ensures.after) (sym (fits_between c.args.d.now c.args.at c.args.src.now room))
 
 pub returns-else-has_bytes : goal.returns-else-has_bytes
 returns-else-has_bytes c = stays c.args.d.now c.args.at c.args.src.now c.has_bytes.ensures c.if-has_bytes.false

@@ -1,8 +1,7 @@
 -- `repeats::marks::mark_repeats` meets its contract. The loop's invariant: marks that are right for the entries that are left are right for all.
-use Rattle.entries.proofs.Walk.{behind_in}
 use Rattle.records.proofs.Views.{num_is, num_none}
 use Rattle.repeats.proofs.Marking.{marks_bad, marks_many, marks_next, marks_no_count, marks_none, marks_start, marks_stuck}
-use lib.ListN.{length-set, set}
+use lib.ListN.{set}
 use mathlib.Core.Path.{refl}
 use native.Mathlib.Omega.{arith}
 use Rattle.repeats.proofs.marks.mark_repeats.Goals as goal
@@ -11,50 +10,30 @@ pub returns-in_default : goal.returns-in_default
 returns-in_default c = marks_no_count _ _ _ _ (num_none c.read_u16.ensures c.in_default.is)
 
 pub returns-then-count-gt10921 : goal.returns-then-count-gt10921
-returns-then-count-gt10921 c = marks_many _ _ _ _ (num_is c.read_u16.ensures c.in-At.is) c.if-count-gt10921.true
+returns-then-count-gt10921 c = marks_many _ _ _ _ (num_is c.read_u16.ensures c.in-Some.is) c.if-count-gt10921.true
 
 pub loop-k-init : goal.loop-k-init
-loop-k-init c = ((λ out h. h), refl)
-
-pub shape_of-marks-in_default-read_str_behind : goal.shape_of-marks-in_default-read_str_behind
-shape_of-marks-in_default-read_str_behind c = c.loop-k.invariant.1
+loop-k-init c = λ out h. h
 
 pub returns-in_default-read_str_behind : goal.returns-in_default-read_str_behind
 returns-in_default-read_str_behind c =
-    let count = num_is c.read_u16.ensures c.in-At.is in
-    marks_start _ _ _ c.args.marks.now c.loop-k.marks count (c.loop-k.invariant.0 c.loop-k.marks (marks_bad _ _ _ _ _ _ _ c.loop-k.marks c.loop-k.marks (omega arith) (num_none c.read_str_behind.ensures c.in_default-read_str_behind.is)))
-
-pub mark_at-requires : goal.mark_at-requires
-mark_at-requires c =
-    let inside = behind_in _ _ _ c.read_str_behind.ensures c.in-At-read_str_behind.is in
-    let h = inside in omega arith
-
-pub bounds-marks-k : goal.bounds-marks-k
-bounds-marks-k c = let h = c.if-count-gt10921.false in let l = c.loop-k.invariant.1 in let p = c.requires in omega arith
-
-pub shape_of-marks-in_default-skip_entry : goal.shape_of-marks-in_default-skip_entry
-shape_of-marks-in_default-skip_entry c = simp length-set c.loop-k.invariant.1
+    let count = num_is c.read_u16.ensures c.in-Some.is in
+    marks_start _ _ _ c.args.marks.now c.loop-k.marks count (c.loop-k.invariant c.loop-k.marks (marks_bad _ _ _ _ _ _ _ c.loop-k.marks c.loop-k.marks (omega arith) (num_none c.read_str_behind.ensures c.in_default-read_str_behind.is)))
 
 pub returns-in_default-skip_entry : goal.returns-in_default-skip_entry
 returns-in_default-skip_entry c =
-    let count = num_is c.read_u16.ensures c.in-At.is in
+    let count = num_is c.read_u16.ensures c.in-Some.is in
     let marks = set c.loop-k.marks c.loop-k.k c.mark_at.result in
-    marks_start _ _ _ c.args.marks.now marks count (c.loop-k.invariant.0 marks (marks_stuck _ _ _ _ _ _ _ c.loop-k.marks marks (omega arith) c.skip_entry.ensures c.in_default-skip_entry.is))
-
-pub overflow_add-k : goal.overflow_add-k
-overflow_add-k c = let h = c.if-count-gt10921.false in omega arith
+    marks_start _ _ _ c.args.marks.now marks count (c.loop-k.invariant marks (marks_stuck _ _ _ _ _ _ _ c.loop-k.marks marks (omega arith) c.skip_entry.ensures c.in_default-skip_entry.is))
 
 pub loop-k-preserved : goal.loop-k-preserved
 loop-k-preserved c =
-    let count = num_is c.read_u16.ensures c.in-At.is in
-    let span = num_is c.read_str_behind.ensures c.in-At-read_str_behind.is in
+    let count = num_is c.read_u16.ensures c.in-Some.is in
+    let span = num_is c.read_str_behind.ensures c.in-Some-read_str_behind.is in
     let marks = set c.loop-k.marks c.loop-k.k c.mark_at.result in
-    ((λ out h. c.loop-k.invariant.0 out (marks_next _ _ _ _ _ _ _ c.loop-k.marks c.mark_at.result marks out c.loop-k-test.true (let h = c.if-count-gt10921.false in let l = c.loop-k.invariant.1 in let p = c.requires in omega arith) span (λ st f pre hs r hp. c.mark_at.ensures st f _ pre hs r count (omega arith) hp span) refl c.skip_entry.ensures c.in-At-skip_entry.is h)), simp length-set c.loop-k.invariant.1)
-
-pub shape_of-marks : goal.shape_of-marks
-shape_of-marks c = c.loop-k.invariant.1
+    λ out h. c.loop-k.invariant out (marks_next _ _ _ _ _ _ _ c.loop-k.marks c.mark_at.result marks out c.loop-k-test.true (omega arith) span (λ st f pre hs r hp. c.mark_at.ensures st f _ pre hs r count (omega arith) hp span) refl c.skip_entry.ensures c.in-Some-skip_entry.is h)
 
 pub returns : goal.returns
 returns c =
-    let count = num_is c.read_u16.ensures c.in-At.is in
-    marks_start _ _ _ c.args.marks.now c.loop-k.marks count (c.loop-k.invariant.0 c.loop-k.marks (marks_none _ _ _ _ _ _ _ c.loop-k.marks (omega arith)))
+    let count = num_is c.read_u16.ensures c.in-Some.is in
+    marks_start _ _ _ c.args.marks.now c.loop-k.marks count (c.loop-k.invariant c.loop-k.marks (marks_none _ _ _ _ _ _ _ c.loop-k.marks (omega arith)))

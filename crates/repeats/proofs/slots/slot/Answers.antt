@@ -6,19 +6,10 @@ use mathlib.Core.Path.{ap, refl, sym}
 use native.Mathlib.Omega.{arith}
 use Rattle.repeats.proofs.slots.slot.Goals as goal
 
-pub loop-i-init : goal.loop-i-init
-loop-i-init c = (refl, omega arith)
-
-pub overflow_mul-h : goal.overflow_mul-h
-overflow_mul-h c = omega arith
-
-pub overflow_add-h : goal.overflow_add-h
-overflow_add-h c = let w = c.wide.ensures in omega arith
-
-pub loop-i-preserved : goal.loop-i-preserved
+pub loop-b-preserved : goal.loop-b-preserved
 unfolding hash_step
-loop-i-preserved c = (run_turn hash_step _ c.loop-i-test.true c.loop-i.invariant.0 (ap (λ (b : ℕ). (c.loop-i.h * 31 + b) % 4294967296) c.wide.ensures.0), omega arith)
+loop-b-preserved c = (run_turn hash_step _ c.loop-b-test.true c.loop-b.invariant.0 refl, omega arith)
 
 pub returns : goal.returns
 unfolding slot_of mixed
-returns c = (ap (λ (h : ℕ). (((h + h / 65536) * 2654435769) % 4294967296) / 524288) (sym (run_done hash_step _ c.loop-i.h c.loop-i-test.false c.loop-i.invariant.0)), omega arith)
+returns c = (ap (λ (h : ℕ). (((h + h / 65536) * 2654435769) % 4294967296) / 524288) (sym (run_done hash_step c.args.id.now c.loop-b.h {i = c.loop-b.b-index} c.loop-b-test.false c.loop-b.invariant.0)), omega arith)

@@ -1,18 +1,17 @@
 -- `resolver::format::find_message` meets its contract: by what holds the id, and then by the part.
-use Rattle.resolver.proofs.Patterns.{found_function, found_no_part, found_nothing, found_part, found_term_law}
+use Rattle.resolver.proofs.Patterns.{found_function, found_nothing, found_part, found_term_law}
+use Rattle.std.specs.Prelude.{Some}
+use mathlib.Core.Path.{◌∙◌, ap}
 use Rattle.resolver.proofs.format.find_message.Goals as goal
 
-pub returns-in_default : goal.returns-in_default
-returns-in_default c = found_no_part _ _ _ c.find_holder.ensures c.in-Message.is c.find_part.ensures c.in_default.is
+pub returns-in-Some-Message : goal.returns-in-Some-Message
+returns-in-Some-Message c = found_part _ _ _ c.find_holder.ensures (c.in-Some-Message.is ∙ ap Some c.in-Some-Message.field-0-is) c.find_part.ensures c.ok_or.ensures.value
 
-pub returns-in-At : goal.returns-in-At
-returns-in-At c = found_part _ _ _ c.find_holder.ensures c.in-Message.is c.find_part.ensures c.in-At.is
+pub returns-in-Some-Term : goal.returns-in-Some-Term
+returns-in-Some-Term c = found_term_law _ _ _ c.find_holder.ensures (c.in-Some-Term.is ∙ ap Some c.in-Some-Term.field-0-is)
 
-pub returns-in-Term : goal.returns-in-Term
-returns-in-Term c = found_term_law _ _ _ c.find_holder.ensures c.in-Term.is
+pub returns-in-Some-Function : goal.returns-in-Some-Function
+returns-in-Some-Function c = found_function _ _ _ c.find_holder.ensures (c.in-Some-Function.is ∙ ap Some c.in-Some-Function.field-0-is)
 
-pub returns-in-Function : goal.returns-in-Function
-returns-in-Function c = found_function _ _ _ c.find_holder.ensures c.in-Function.is
-
-pub returns-in-Nothing : goal.returns-in-Nothing
-returns-in-Nothing c = found_nothing _ _ _ c.find_holder.ensures c.in-Nothing.is
+pub returns-in-None : goal.returns-in-None
+returns-in-None c = found_nothing _ _ _ c.find_holder.ensures c.in-None.is

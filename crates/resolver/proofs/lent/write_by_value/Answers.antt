@@ -3,4 +3,4 @@ use Rattle.resolver.proofs.Whole.{from_state}
 use Rattle.resolver.proofs.lent.write_by_value.Goals as goal
 
 pub returns : goal.returns
-returns c = (from_state c.set_scope.ensures c.write.ensures, c.scope_in.ensures)
+returns c = (from_state c.set_scope.ensures c.write.ensures, c.scope.ensures)

@@ -5,8 +5,8 @@ use Rattle.resolver.proofs.reference.lacking.Goals as goal
 pub returns-then-term : goal.returns-then-term
 returns-then-term c = lacking_term c.args.r c.if-term.true
 
-pub returns-then-r : goal.returns-then-r
-returns-then-r c = lacking_attribute c.args.r c.if-term.false c.if-r.true
+pub returns-in-Some : goal.returns-in-Some
+returns-in-Some c = lacking_attribute c.args.r c.if-term.false c.in-Some.is
 
-pub returns : goal.returns
-returns c = lacking_value c.args.r c.if-term.false c.if-r.false
+pub returns-in-None : goal.returns-in-None
+returns-in-None c = lacking_value c.args.r c.if-term.false c.in-None.is

@@ -8,26 +8,6 @@ use Rattle.texts.proofs.errors.put_no_value.Goals as goal
 pub returns-then-n-gt65535 : goal.returns-then-n-gt65535
 returns-then-n-gt65535 c = recorded_long _ _ _ (omega (arith, no_value_length c.args.id.now))
 
-pub write_head-requires : goal.write_head-requires
-write_head-requires c =
-    let room = room_true _ _ _ c.room_for.ensures c.if-room_for.true in
-    omega arith
-
-pub overflow_add-at : goal.overflow_add-at
-overflow_add-at c =
-    let room = room_true _ _ _ c.room_for.ensures c.if-room_for.true in
-    omega arith
-
-pub write_str-requires : goal.write_str-requires
-write_str-requires c =
-    let room = room_true _ _ _ c.room_for.ensures c.if-room_for.true in
-    omega arith
-
-pub overflow_add-result-then-room_for : goal.overflow_add-result-then-room_for
-overflow_add-result-then-room_for c =
-    let room = room_true _ _ _ c.room_for.ensures c.if-room_for.true in
-    omega arith
-
 pub returns-then-room_for : goal.returns-then-room_for
 returns-then-room_for c =
     let room = room_true _ _ _ c.room_for.ensures c.if-room_for.true in

@@ -1,16 +1,11 @@
--- `vectors::compare::all_are` meets its contract: what is left answers as the whole does.
-use Rattle.std.proofs.Common.{sym, refl, ◌∙◌}
-use Rattle.vectors.proofs.Same.{all_differs, all_end, all_turn}
+-- `vectors::compare::all_are` meets its contract: what the chain of bytes answers.
+use Rattle.std.proofs.Common.{rules, tests, eqb, ◌∙◌}
+use Rattle.std.proofs.lemmas.Iterator.{YieldsList-from_slice}
+use Rattle.std.proofs.lemmas.Iterator.Search.{all_from_yields_List}
+use Rattle.vectors.proofs.Same.{all_are_is}
 use Rattle.vectors.proofs.compare.all_are.Goals as goal
 
-pub loop-i-init : goal.loop-i-init
-loop-i-init c = refl
-
-pub returns-then-s-i : goal.returns-then-s-i
-returns-then-s-i c = all_differs c.args.s.now c.args.v c.loop-i.i c.loop-i-test.true c.loop-i.invariant c.if-s-i.true
-
-pub loop-i-preserved : goal.loop-i-preserved
-loop-i-preserved c = all_turn c.args.s.now c.args.v c.loop-i.i c.loop-i-test.true c.loop-i.invariant c.if-s-i.false
-
 pub returns : goal.returns
-returns c = sym (all_end c.args.s.now c.args.v c.loop-i.i c.loop-i-test.false) ∙ c.loop-i.invariant
+returns c =
+    let all = all_from_yields_List (λ b. eqb b c.args.value) _ _ c.all.result c.all.ensures.ran (YieldsList-from_slice c.args.s.now cc) (λ x b q k. search (rules, tests)) in
+    all ∙ all_are_is c.args.s.now c.args.value

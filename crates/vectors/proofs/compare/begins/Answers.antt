@@ -1,9 +1,12 @@
 -- `vectors::compare::begins` meets its contract: the front is compared, then what follows it.
-use Rattle.vectors.proofs.Same.{begins_not, begins_same}
+use Rattle.std.proofs.Common.{arith}
+use Rattle.vectors.proofs.Same.{begins_some, begins_none}
 use Rattle.vectors.proofs.compare.begins.Goals as goal
 
-pub returns-then-same_bytes : goal.returns-then-same_bytes
-returns-then-same_bytes c = begins_same c.args.s.now c.args.front.now c.part.ensures c.same_bytes.ensures c.if-same_bytes.true c.tail.ensures c.all_are.ensures
+pub returns-in-Some : goal.returns-in-Some
+returns-in-Some c =
+    let front = c.in-Some.ensures.cases in
+    begins_some c.args.s.now c.args.front.now (omega (arith, front.2)) front.0 front.1 c.all_are.ensures
 
-pub returns : goal.returns
-returns c = begins_not c.args.s.now c.args.front.now c.part.ensures c.same_bytes.ensures c.if-same_bytes.false
+pub returns-in-None : goal.returns-in-None
+returns-in-None c = begins_none c.args.s.now c.args.front.now c.in-None.ensures.cases

@@ -1,13 +1,7 @@
 -- `vectors::fields::part` meets its contract: it is whole where it does not pass the end.
-use Rattle.vectors.proofs.Clamp.{part_in_law, part_past}
-use Rattle.std.proofs.Common.{arith}
+use Rattle.std.proofs.Common.{refl, arith}
+use Rattle.vectors.proofs.Clamp.{part_given}
 use Rattle.vectors.proofs.fields.part.Goals as goal
 
-pub returns-then-s-at : goal.returns-then-s-at
-returns-then-s-at c = part_past c.args.s.now c.args.at c.args.n (omega arith)
-
-pub returns-then-s-at-2 : goal.returns-then-s-at-2
-returns-then-s-at-2 c = part_past c.args.s.now c.args.at c.args.n (omega arith)
-
 pub returns : goal.returns
-returns c = part_in_law c.args.s.now c.args.at c.args.n (omega arith)
+returns c = part_given c.args.s.now c.args.at c.args.n c.saturating_add.result c.get.result _ c.unwrap_or.result (omega arith) c.saturating_add.ensures c.get.ensures.lookup c.unwrap_or.ensures refl

@@ -1,10 +1,10 @@
 -- `writes::list::list_reference` meets its contract: nothing once refused, else the record.
-use Rattle.state.specs.Progress.{progress_of}
+use Rattle.state.proofs.Laws.{refused_no, refused_yes}
 use Rattle.writes.proofs.Laws.{listed_next, listed_over}
 use Rattle.writes.proofs.list.list_reference.Goals as goal
 
-pub returns-then-st-ne0 : goal.returns-then-st-ne0
-returns-then-st-ne0 c = listed_over _ c.args.list.now (progress_of c.args.st.now) c.if-st-ne0.true
+pub returns-then-is_refused : goal.returns-then-is_refused
+returns-then-is_refused c = listed_over _ c.args.list.now c.args.st.now (refused_yes c.is_refused.ensures c.if-is_refused.true)
 
 pub returns : goal.returns
-returns c = listed_next _ c.args.list.now (progress_of c.args.st.now) c.if-st-ne0.false c.put_reference-w.ensures c.list_after.ensures
+returns c = listed_next _ c.args.list.now c.args.st.now (refused_no c.is_refused.ensures c.if-is_refused.false) c.put_reference-w.ensures c.list_after.ensures

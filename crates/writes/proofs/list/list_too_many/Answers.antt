@@ -1,6 +1,6 @@
 -- `writes::list::list_too_many` meets its contract: the error is listed in the state that it leaves.
 use Rattle.records.specs.Errors.{too_many_placeables}
-use Rattle.state.specs.Progress.{Progress}
+use Rattle.state.specs.declared.Progress.{Progress}
 use Rattle.texts.specs.Relations.Report.{plain_of}
 use Rattle.writes.specs.Written.{listed}
 use mathlib.Core.Path.{◌∙◌, ap}

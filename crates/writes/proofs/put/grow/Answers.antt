@@ -1,5 +1,4 @@
 -- `writes::put::grow` meets its contract: the front moves on, and the highest use is the greater of the one before and the use now.
-use Rattle.state.specs.Progress.{progress_of}
 use Rattle.workspace.proofs.Laws.{highest_is}
 use Rattle.writes.proofs.Laws.{room_is, work_at}
 use mathlib.Core.Path.{◌∙◌}
@@ -14,4 +13,4 @@ overflow_add-front c =
 pub returns : goal.returns
 returns c =
     let h = room_is _ _ _ c.requires in
-    c.set_front.ensures ∙ work_at (progress_of c.args.st.now) c.args.len _ (c.highest-high.ensures ∙ highest_is _ _ _ _ h.0 h.1)
+    c.set_front.ensures ∙ work_at c.args.st.now c.args.len _ (c.highest-high.ensures ∙ highest_is _ _ _ _ h.0 h.1)

@@ -1,10 +1,9 @@
 -- `writes::put::part_front` meets its contract: the part where there is room for it, else refused.
 use Prim.Native.Nat.{ℕ}
 use Rattle.buffers.specs.Relations.Append.{over}
-use Rattle.state.specs.Progress.{progress_of}
 use Rattle.writes.proofs.Copies.{Span, span}
 use Rattle.writes.proofs.Laws.{room_is, work_in, work_out}
-use lib.ListN.{get_or, length}
+use lib.ListN.{length}
 use mathlib.Core.Path.{◌∙◌, ap, subst, sym}
 use native.Mathlib.Omega.{arith}
 use Rattle.writes.proofs.put.part_front.Goals as goal
@@ -12,7 +11,7 @@ use Rattle.writes.proofs.put.part_front.Goals as goal
 pub copy_part-requires : goal.copy_part-requires
 copy_part-requires c =
     let same = sym c.has_room.ensures in
-    let h = room_is (progress_of c.args.st.now) _ _ (same ∙ c.if-has_room.true) in
+    let h = room_is c.args.st.now _ _ (same ∙ c.if-has_room.true) in
     let size = ap length c.text_of-n.ensures in
     let part-is = subst (λ (k : ℕ). Span c.args.work.now c.args.a c.args.e k) (sym size) (span c.args.work.now c.args.a c.args.e) in
     (omega (arith, h.0, h.1), part-is.within)
@@ -27,10 +26,10 @@ returns-then-has_room c =
     let same = sym c.has_room.ensures in
     let size = ap length c.text_of-n.ensures in
     let part-is = subst (λ (k : ℕ). Span c.args.work.now c.args.a c.args.e k) (sym size) (span c.args.work.now c.args.a c.args.e) in
-    work_in _ c.args.work.now (progress_of c.args.st.now) size (same ∙ c.if-has_room.true) (c.copy_part.ensures ∙ ap (over c.args.work.now (get_or c.args.st.now 3 0)) part-is.reads) (rw c.copy_part.auto.work at c.grow.ensures)
+    work_in _ c.args.work.now c.args.st.now size (same ∙ c.if-has_room.true) (c.copy_part.ensures ∙ ap (over c.args.work.now c.args.st.now.front) part-is.reads) (rw c.copy_part.auto.work at c.grow.ensures)
 
 pub returns : goal.returns
 returns c =
     let same = sym c.has_room.ensures in
     let size = ap length c.text_of-n.ensures in
-    work_out _ c.args.work.now (progress_of c.args.st.now) size (same ∙ c.if-has_room.false) c.refuse.ensures
+    work_out _ c.args.work.now c.args.st.now size (same ∙ c.if-has_room.false) c.refuse.ensures

@@ -1,6 +1,5 @@
 -- `writes::put::put_front` meets its contract: the bytes where there is room for them, else refused.
 use Rattle.records.proofs.Writing.{fits_over}
-use Rattle.state.specs.Progress.{progress_of}
 use Rattle.writes.proofs.Laws.{room_is, work_in, work_out}
 use mathlib.Core.Path.{◌∙◌, refl, sym}
 use native.Mathlib.Omega.{arith}
@@ -14,10 +13,10 @@ grow-requires c =
 pub returns-then-has_room : goal.returns-then-has_room
 returns-then-has_room c =
     let same = sym c.has_room.ensures in
-    let h = room_is (progress_of c.args.st.now) _ _ (same ∙ c.if-has_room.true) in
-    work_in _ c.args.work.now (progress_of c.args.st.now) refl (same ∙ c.if-has_room.true) (c.write_bytes.ensures ∙ fits_over _ _ _ (omega (arith, h.0, h.1))) (rw c.write_bytes.auto.d at c.grow.ensures)
+    let h = room_is c.args.st.now _ _ (same ∙ c.if-has_room.true) in
+    work_in _ c.args.work.now c.args.st.now refl (same ∙ c.if-has_room.true) (c.write_bytes.ensures ∙ fits_over _ _ _ (omega (arith, h.0, h.1))) (rw c.write_bytes.auto.d at c.grow.ensures)
 
 pub returns : goal.returns
 returns c =
     let same = sym c.has_room.ensures in
-    work_out _ c.args.work.now (progress_of c.args.st.now) refl (same ∙ c.if-has_room.false) c.refuse.ensures
+    work_out _ c.args.work.now c.args.st.now refl (same ∙ c.if-has_room.false) c.refuse.ensures

@@ -1,7 +1,6 @@
 -- `writes::put::put_number` meets its contract: the number's text is the front of its bytes.
 use Prim.Native.Nat.{◌-◌, ℕ}
 use Rattle.decimals.proofs.Writing.{text_held}
-use Rattle.state.specs.Progress.{progress_of}
 use Rattle.writes.specs.Written.{written}
 use lib.ListN.{length, length-take, take}
 use mathlib.Core.List.{List}
@@ -18,4 +17,4 @@ slice_bounds-put-end c =
 pub returns : goal.returns
 returns c =
     let z : c.number_text-t.result.len - 0 ≡ c.number_text-t.result.len = omega arith in
-    c.put.ensures ∙ ap (λ (b : List ℕ). written b c.args.text.now c.args.work.now (progress_of c.args.st.now)) (ap (λ (k : ℕ). take k c.number_text-t.result.bytes) z ∙ (text_held _ c.number_text-t.ensures).0)
+    c.put.ensures ∙ ap (λ (b : List ℕ). written b c.args.text.now c.args.work.now c.args.st.now) (ap (λ (k : ℕ). take k c.number_text-t.result.bytes) z ∙ (text_held _ c.number_text-t.ensures).0)

@@ -7,7 +7,7 @@ pub returns-in_default : goal.returns-in_default
 returns-in_default c = merge_digits_bad _ _ _ _ _ _ _ _ _ c.text_of-name.ensures c.text_of-src.ensures c.if-tag-eq2.true c.read_literal.ensures c.in_default.is
 
 pub returns-then-tag-eq2 : goal.returns-then-tag-eq2
-returns-then-tag-eq2 c = merge_digits _ _ _ _ _ _ _ _ _ c.text_of-name.ensures c.text_of-src.ensures c.if-tag-eq2.true c.read_literal.ensures c.in-Is.is c.merge_number.ensures
+returns-then-tag-eq2 c = merge_digits _ _ _ _ _ _ _ _ _ c.text_of-name.ensures c.text_of-src.ensures c.if-tag-eq2.true c.read_literal.ensures c.in-Some.is c.merge_number.ensures
 
 pub returns-then-not-has_backslash : goal.returns-then-not-has_backslash
 returns-then-not-has_backslash c = merge_plain _ _ _ _ _ _ _ _ _ c.text_of-name.ensures c.text_of-src.ensures c.if-tag-eq2.false (sym c.has_backslash.ensures ∙ c.if-not-has_backslash.true) c.merge_text.ensures

@@ -7,10 +7,10 @@ use Rattle.resolver.proofs.scope.error.reference_pieces.Goals as goal
 pub returns-in_default : goal.returns-in_default
 returns-in_default c = c.no_name.ensures ∙ reference_bad _ _ c.in_default.is
 
-pub returns-then-x : goal.returns-then-x
+pub returns-in-Some-attribute : goal.returns-in-Some-attribute
 unfolding parted_pieces
-returns-then-x c = reference_is _ _ c.in-Is.is c.if-x.true
+returns-in-Some-attribute c = reference_is _ _ c.in-Some.is c.in-Some-attribute.is
 
-pub returns : goal.returns
+pub returns-in-None : goal.returns-in-None
 unfolding parted_pieces
-returns c = reference_is _ _ c.in-Is.is c.if-x.false
+returns-in-None c = reference_is _ _ c.in-Some.is c.in-None.is

@@ -7,4 +7,4 @@ pub returns-in_default : goal.returns-in_default
 returns-in_default c = λ t q left at tag w₀ hb is g. inline_uncalled _ _ _ _ _ hb is (str_bad _ _ c.read_str.ensures c.in_default.is) g
 
 pub returns : goal.returns
-returns c = λ t q left at tag w₀ hb is g. inline_called _ _ _ _ _ hb c.read_str.ensures c.in-At.is is g (c.write_result.ensures _ _)
+returns c = λ t q left at tag w₀ hb is g. inline_called _ _ _ _ _ hb c.read_str.ensures c.in-Some.is is g (c.write_result.ensures _ _)

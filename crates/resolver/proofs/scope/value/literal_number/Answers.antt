@@ -10,4 +10,4 @@ returns-in_default c = sym (ap literal_valued c.in_default.is) ∙ ap literal_va
 
 pub returns : goal.returns
 unfolding literal_valued
-returns c = sym (ap literal_valued c.in-Is.is) ∙ ap literal_valued (c.read_literal.ensures ∙ ap literal_of c.text_of.ensures)
+returns c = sym (ap literal_valued c.in-Some.is) ∙ ap literal_valued (c.read_literal.ensures ∙ ap literal_of c.text_of.ensures)

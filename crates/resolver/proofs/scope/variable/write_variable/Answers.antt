@@ -7,4 +7,4 @@ pub returns-in_default : goal.returns-in_default
 returns-in_default c = λ t. write_missing _ _ _ _ _ _ _ _ t _ c.text_of-name.ensures (λ u L q k lv. c.find_variable.ensures u _ _ _ t L q k lv) c.in_default.is (missing_acts c.list_variable.ensures) (braced_acts _ _ _ c.put_braced.ensures _ _ t)
 
 pub returns : goal.returns
-returns c = λ t. write_found _ _ _ _ _ _ _ _ t _ c.text_of-name.ensures (λ u L q k lv. c.find_variable.ensures u _ _ _ t L q k lv) c.in-Is.is ((value_acts _ _ _ c.put_value.ensures).0 _ t) (λ y hy. (value_acts _ _ _ c.put_value.ensures).1 y hy _ t)
+returns c = λ t. write_found _ _ _ _ _ _ _ _ t _ c.text_of-name.ensures (λ u L q k lv. c.find_variable.ensures u _ _ _ t L q k lv) c.in-Some.is ((value_acts _ _ _ c.put_value.ensures).0 _ t) (λ y hy. (value_acts _ _ _ c.put_value.ensures).1 y hy _ t)

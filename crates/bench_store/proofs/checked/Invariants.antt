@@ -1,8 +1,0 @@
--- Safe, and it ends: a check less is left after each turn.
-use Rattle.bench_store.proofs.checked.Given as goal
-
-abbrev pub invariant-loop-left : goal.invariant-loop-left
-invariant-loop-left l = Unit {0}
-
-abbrev pub decreases-loop-left : goal.decreases-loop-left
-decreases-loop-left l = l.left

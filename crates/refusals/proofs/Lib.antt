@@ -1,0 +1,3 @@
+-- Laws of the refusals' numbers.
+pub mod Numbers
+pub mod Passed

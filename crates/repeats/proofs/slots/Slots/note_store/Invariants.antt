@@ -1,0 +1,8 @@
+-- `repeats::slots::Slots::note_store` meets its contract. The loop's invariant: what is noted of the items that are left is noted of all.
+use Prim.Native.Nat.{◌-◌, ℕ}
+use Rattle.repeats.proofs.Notes.{NotesItems}
+use mathlib.Core.List.{List}
+use Rattle.repeats.proofs.slots.Slots.note_store.Given as goal
+
+abbrev pub invariant-loop : goal.invariant-loop
+invariant-loop l = (out : List ℕ) → NotesItems l.s l.self.image.now l.self.places.now (l.count - l.counter) l.at l.held out → NotesItems l.s l.self.image.now l.self.places.now l.count l.initial.at l.initial.held out

@@ -1,9 +1,0 @@
--- Safe, and it ends: i stays below the length.
-use Rattle.std.proofs.Common.{◌-◌, length}
-use Rattle.replay_formats.proofs.limit.is_text.Given as goal
-
-abbrev pub invariant-loop-i : goal.invariant-loop-i
-invariant-loop-i l = Unit {0}
-
-abbrev pub decreases-loop-i : goal.decreases-loop-i
-decreases-loop-i l = length l.s - l.i

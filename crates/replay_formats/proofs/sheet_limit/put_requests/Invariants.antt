@@ -1,9 +1,0 @@
--- Safe, and it ends: a request less is left after each turn. The buffer keeps its length.
-use Rattle.std.proofs.Common.{◌≡◌, length}
-use Rattle.replay_formats.proofs.sheet_limit.put_requests.Given as goal
-
-abbrev pub invariant-loop-left : goal.invariant-loop-left
-invariant-loop-left l = length l.d ≡ length l.initial.d
-
-abbrev pub decreases-loop-left : goal.decreases-loop-left
-decreases-loop-left l = l.left

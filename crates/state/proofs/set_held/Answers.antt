@@ -1,6 +1,0 @@
--- `state::set_held` meets its contract: two numbers are written, and the others stay.
-use Rattle.state.proofs.Listed.{sixteen}
-use Rattle.state.proofs.set_held.Goals as goal
-
-pub returns : goal.returns
-returns c = rw (sixteen c.args.st.now c.s-1.given.0.1)

@@ -1,6 +1,0 @@
--- `state::set_text` meets its contract: one number is written, and the others stay.
-use Rattle.state.proofs.Listed.{sixteen}
-use Rattle.state.proofs.set_text.Goals as goal
-
-pub returns : goal.returns
-returns c = rw (sixteen c.args.st.now c.s-1.given.0.1)

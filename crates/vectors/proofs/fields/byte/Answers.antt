@@ -1,7 +1,0 @@
--- `vectors::fields::byte` meets its contract: past the end the list's default is read.
-use Rattle.std.proofs.Common.{sym}
-use lib.ListN.{get_or-eq_default}
-use Rattle.vectors.proofs.fields.byte.Goals as goal
-
-pub returns-else-at-s : goal.returns-else-at-s
-returns-else-at-s c = sym (get_or-eq_default c.args.s.now 0 c.if-at-s.false)
