@@ -1,5 +1,5 @@
 -- Steps of the additions: each refusal, and what a success leaves.
-use mathlib.Core.Path.{◌≡◌, ap, ◌∙◌}
+use mathlib.Core.Path.{◌≡◌, sym, ap, ◌∙◌}
 use mathlib.Core.Bool.{true, false}
 use mathlib.Core.List.{List, [], ◌∷◌}
 use Prim.Native.Nat.{ℕ, ◌+◌, ◌≤◌, ◌<◌}
@@ -15,9 +15,9 @@ use Rattle.entries.specs.Lookup.{find_in}
 use Rattle.entries.specs.Repeats.{repeats}
 use Rattle.entries.specs.Relations.Marked.{marked}
 use Rattle.growth.specs.Items.{at_front, with_item, has_room, written_if, file_item}
-use Rattle.buffers.specs.Relations.Append.{Wrote}
+use Rattle.buffers.specs.Relations.Append.{Wrote, full}
+use Rattle.buffers.specs.declared.NoRoom.{NoRoom}
 use Rattle.std.specs.Prelude.{Result, Ok, Err}
-use Rattle.std.specs.Result.{result_or}
 use Rattle.listing.specs.Relations.Lists.{Lists, lists_all, lists_short}
 use Rattle.bundle.specs.declared.Place.{Place}
 use Rattle.refusals.specs.declared.Refusal.{Refusal}
@@ -140,10 +140,6 @@ pub function_filed : (s id : List ℕ) (code : ℕ) {r : Result Place Refusal} {
 function_filed s id code {p = x} p q w =
     function_placed p q (λ st hs hi hc hf ek room. function_done s id code hs hi hc hf room (w ∙ function_item s id p q ∙ ap (λ (j : ℕ). with_item s x.used j (3 ∷ enc_function id)) ek))
 
--- the list of a plain addition
-abbrev listed_as : Wrote → Result ℕ Refusal
-listed_as w = result_or w (Err refusal.ShortList)
-
 module _ (s image l marks : List ℕ) {r : Result Place Refusal} {x : Place} (p : ResourcePlace s image r) (q : r ≡ Ok x)
     (m : (st : Store) (v : ℕ) (es : List Entry) (f : ℕ) → store_of s ≡ got st v → resource_of image ≡ got es f → marked marks 0 es ≡ repeats (find_in st.items) es)
     {w : Wrote} {l' : List ℕ} (y : (es : List Entry) (f : ℕ) → resource_of image ≡ got es f → Lists (marked marks 0 es) l w l') where
@@ -151,20 +147,20 @@ module _ (s image l marks : List ℕ) {r : Result Place Refusal} {x : Place} (p 
       → has_room (length s) x.used (length st.items) (1 + length image) ≡ true → Lists (repeats (find_in st.items) es) l w l' → C) → C
   listing c = resource_placed p q (λ st es e hs hr ek room. c st es e hs hr ek room (rw (← m st x.used es e hs hr) (y es e hr)))
 
-  pub plain_short : {a : Result ℕ Refusal} {b : Refusal} → Err b ≡ listed_as w → a ≡ Err b → gave a s l' ≡ add_resource s image l
-  plain_short {a} {b} h i = listing (λ st es e hs hr ek room z. go st es e hs hr room z)
+  pub plain_short : {b : NoRoom} → w ≡ Err b → gave (Err refusal.ShortList) s l' ≡ add_resource s image l
+  plain_short {b} h = listing (λ st es e hs hr ek room z. go st es e hs hr room z)
     where
       go : (st : Store) (es : List Entry) (e : ℕ) → store_of s ≡ got st x.used → resource_of image ≡ got es e → has_room (length s) x.used (length st.items) (1 + length image) ≡ true
-          → Lists (repeats (find_in st.items) es) l w l' → gave a s l' ≡ add_resource s image l
-      go st es e hs hr room (lists_all k _ _) = let z : ◌≡◌ {A = Result ℕ Refusal} (Err b) (Ok (length (repeats (find_in st.items) es))) = h ∙ ap listed_as k in cc
-      go st es e hs hr room (lists_short k n o) = rw (i ∙ h ∙ ap listed_as k, o) (plain_7 s image l hs hr room n)
+          → Lists (repeats (find_in st.items) es) l w l' → gave (Err refusal.ShortList) s l' ≡ add_resource s image l
+      go st es e hs hr room (lists_all k _ _) = let z : ◌≡◌ {A = Wrote} (Err b) (Ok (length (repeats (find_in st.items) es))) = sym h ∙ k in cc
+      go st es e hs hr room (lists_short _ n o) = rw o (plain_7 s image l hs hr room n)
 
-  pub plain_filed : {n : ℕ} {s' : List ℕ} → Ok n ≡ listed_as w → s' ≡ file_item s x.used x.count (1 ∷ image) → gave (Ok n) s' l' ≡ add_resource s image l
+  pub plain_filed : {n : ℕ} {s' : List ℕ} → w ≡ Ok n → s' ≡ file_item s x.used x.count (1 ∷ image) → gave (Ok n) s' l' ≡ add_resource s image l
   plain_filed {n} {s'} h i = listing (λ st es e hs hr ek room z. go st es e hs hr ek room z)
     where
       go : (st : Store) (es : List Entry) (e : ℕ) → store_of s ≡ got st x.used → resource_of image ≡ got es e → x.count ≡ length st.items → has_room (length s) x.used (length st.items) (1 + length image) ≡ true
           → Lists (repeats (find_in st.items) es) l w l' → gave (Ok n) s' l' ≡ add_resource s image l
       go st es e hs hr ek room (lists_all k o b) =
-          let z : ◌≡◌ {A = Result ℕ Refusal} (Ok n) (Ok (length (repeats (find_in st.items) es))) = h ∙ ap listed_as k in
+          let z : ◌≡◌ {A = Wrote} (Ok n) (Ok (length (repeats (find_in st.items) es))) = sym h ∙ k in
           plain_done s image l hs hr room o (cc) (i ∙ resource_item s image 1 p q ∙ ap (λ (j : ℕ). with_item s x.used j (1 ∷ image)) ek) b
-      go st es e hs hr ek room (lists_short k _ _) = let z : ◌≡◌ {A = Result ℕ Refusal} (Ok n) (Err refusal.ShortList) = h ∙ ap listed_as k in cc
+      go st es e hs hr ek room (lists_short k _ _) = let z : ◌≡◌ {A = Wrote} (Ok n) full = sym h ∙ k in cc

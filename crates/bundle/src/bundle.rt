@@ -33,7 +33,9 @@ pub fn add_resource(slice: &mut [u8], image: &[u8], list: &mut [u8]) -> Result<u
     let place = resource_place(slice, image)?;
     let mut marks = [0u8; 10922];
     mark_image(slice, image, &mut marks);
-    let n = list_repeats(image, &marks, list).or(Err(Refusal::ShortList))?;
+    let Ok(n) = list_repeats(image, &marks, list) else {
+        return Err(Refusal::ShortList);
+    };
     file_resource(slice, place.used, place.count, 1, image);
     Ok(n)
 }

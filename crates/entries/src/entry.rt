@@ -72,6 +72,7 @@ fn find_in_items(s: &[u8], from: usize, count: usize, id: &[u8]) -> Option<Holde
 }
 
 // What holds an id in a store.
+#[tactic(auto, using(crate::proofs::Held::locate_bad, crate::proofs::Held::locate_start, crate::proofs::Held::none_found))]
 pub fn find_holder(s: &[u8], id: &[u8]) -> Option<Holder>
     ensures { result ≡ found_of (locate s.now id.now) }
 {

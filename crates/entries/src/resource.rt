@@ -58,7 +58,8 @@ fn skip_all_attributes(s: &[u8], from: usize, count: usize) -> Option<usize>
     Some(at)
 }
 
-// Past what follows the Id of an entry: its value, and its attributes from their count on.
+// Past what follows the Id of an entry: its value, and its attributes from their count on. A search for an id takes a turn of it for each entry.
+#[inline(always)]
 fn skip_rest(s: &[u8], at: usize) -> Option<usize>
     ensures { result ≡ next_of (after (value_outline s.now at) (λ v q. attributes_outline s.now q)) }
 {

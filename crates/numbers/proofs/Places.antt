@@ -3,7 +3,7 @@ use mathlib.Core.Path.{◌≡◌, refl, ap, sym, ◌∙◌}
 use mathlib.Core.Bool.{Bool, true, false, ◌&&◌, not}
 use mathlib.Core.Option.{some}
 use mathlib.Core.List.{List, []}
-use Prim.Native.Nat.{ℕ, suc}
+use Prim.Native.Nat.{ℕ, zero, suc}
 use lib.Dec.{eqb, ltb}
 use Rattle.decimals.specs.declared.types.Options as CodeOptions
 use Rattle.decimals.specs.Bytes.{same_bytes, choose}
@@ -39,6 +39,16 @@ text_place name s o = go (same_bytes name type_name) (same_bytes name style_name
     go false false false true e = refl
     go false false false false true = refl
     go false false false false false = refl
+
+-- past the last of them nothing is merged
+pub merge_past : (n : ℕ) (s : List ℕ) (o : Options) → (n ≡ 0 → ⊥) → (n ≡ 1 → ⊥) → (n ≡ 2 → ⊥) → (n ≡ 3 → ⊥) → (n ≡ 4 → ⊥) → merge_at n s o ≡ o
+unfolding merge_at
+merge_past zero s o a b c d e = absurd (a refl)
+merge_past (suc zero) s o a b c d e = absurd (b refl)
+merge_past (suc (suc zero)) s o a b c d e = absurd (c refl)
+merge_past (suc (suc (suc zero))) s o a b c d e = absurd (d refl)
+merge_past (suc (suc (suc (suc zero)))) s o a b c d e = absurd (e refl)
+merge_past (suc (suc (suc (suc (suc n))))) s o a b c d e = refl
 
 -- only the name of the fraction's minimum names the second place
 pub named_fraction : (name : List ℕ) → eqb (count_named name) 1 ≡ same_bytes name minimum_fraction_digits_name

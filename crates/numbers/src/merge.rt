@@ -1,6 +1,8 @@
 // NUMBER's named options.
-ghost use Rattle.std.specs.Prelude.{◌≡◌};
-ghost use Rattle.numbers.specs.Value.{numeric, kind_of, style_of, display_of, to_count, merge_text, merge_count};
+ghost use Rattle.std.specs.Prelude.{◌≡◌, ◌&&◌, [], eqb, ltb};
+ghost use Rattle.decimals.specs.Decimal.{fraction_limit};
+ghost use Rattle.numbers.specs.Value.{numeric, kind_of, style_of, display_of, to_count, merge_text};
+ghost use Rattle.numbers.specs.Relations.Places.{place_from, text_names, count_names, set_count};
 ghost use Rattle.decimals.specs.Relations.Shown.{told, told_options, shown_options};
 ghost use Rattle.numbers.specs.Relations.Shown.{merged_of};
 
@@ -49,38 +51,53 @@ fn display_of(s: &[u8]) -> Display
     }
 }
 
+// The place of a name among those of the options whose value is text, from 0; 5 where it is none of them.
+#[tactic(auto, unfolding(crate::specs::Relations::Places::place_from))]
+fn text_place(name: &[u8]) -> usize
+    ensures { result ≡ place_from name.now [] text_names }
+{
+    if same_bytes(name, b"type") {
+        0
+    } else if same_bytes(name, b"style") {
+        1
+    } else if same_bytes(name, b"currency") {
+        2
+    } else if same_bytes(name, b"currencyDisplay") {
+        3
+    } else if same_bytes(name, b"useGrouping") {
+        4
+    } else {
+        5
+    }
+}
+
 // Options with one named option merged, whose value is text.
-#[tactic(auto, using(decimals::proofs::Shown::count_back, decimals::proofs::Shown::text_back), unfolding(crate::specs::Value::merge_text, crate::specs::Value::with_kind, crate::specs::Value::with_style, crate::specs::Value::with_currency, crate::specs::Value::with_currency_display, crate::specs::Value::with_use_grouping, decimals::specs::Relations::Shown::shown_text))]
+#[tactic(auto, using(crate::proofs::Places::text_place, crate::proofs::Places::merge_past, decimals::proofs::Shown::count_back, decimals::proofs::Shown::text_back), unfolding(crate::specs::Relations::Places::merge_at, crate::specs::Value::with_kind, crate::specs::Value::with_style, crate::specs::Value::with_currency, crate::specs::Value::with_currency_display, crate::specs::Value::with_use_grouping, decimals::specs::Relations::Shown::shown_text))]
 pub fn merge_text(name: &[u8], value: &[u8], o: Options) -> Options
     ensures { result ≡ shown_options (merge_text name.now value.now (told_options o)) }
 {
-    if same_bytes(name, b"type") {
-        Options {
+    match text_place(name) {
+        0 => Options {
             kind: kind_of(value),
             ..o
-        }
-    } else if same_bytes(name, b"style") {
-        Options {
+        },
+        1 => Options {
             style: style_of(value),
             ..o
-        }
-    } else if same_bytes(name, b"currency") {
-        Options {
+        },
+        2 => Options {
             currency: true,
             ..o
-        }
-    } else if same_bytes(name, b"currencyDisplay") {
-        Options {
+        },
+        3 => Options {
             currency_display: display_of(value),
             ..o
-        }
-    } else if same_bytes(name, b"useGrouping") {
-        Options {
+        },
+        4 => Options {
             use_grouping: !same_bytes(value, b"false"),
             ..o
-        }
-    } else {
-        o
+        },
+        _ => o,
     }
 }
 
@@ -96,48 +113,71 @@ fn to_count(n: Number) -> u64
     }
 }
 
-// Options with the digit count of a name set.
-fn with_count(name: &[u8], count: u64, o: Options) -> Options
-    ensures { result ≡ shown_options (merge_count name.now count (told_options o)) }
+// The place of a name among those of the digit counts, from 0; 5 where it is none of them.
+#[tactic(auto, unfolding(crate::specs::Relations::Places::place_from))]
+fn count_place(name: &[u8]) -> usize
+    ensures { result ≡ place_from name.now [] count_names }
 {
     if same_bytes(name, b"minimumIntegerDigits") {
-        Options {
-            minimum_integer_digits: Some(count),
-            ..o
-        }
+        0
     } else if same_bytes(name, b"minimumFractionDigits") {
-        Options {
-            minimum_fraction_digits: Some(count),
-            ..o
-        }
+        1
     } else if same_bytes(name, b"maximumFractionDigits") {
-        Options {
-            maximum_fraction_digits: Some(count),
-            ..o
-        }
+        2
     } else if same_bytes(name, b"minimumSignificantDigits") {
-        Options {
-            minimum_significant_digits: Some(count),
-            ..o
-        }
+        3
     } else if same_bytes(name, b"maximumSignificantDigits") {
-        Options {
-            maximum_significant_digits: Some(count),
-            ..o
-        }
+        4
     } else {
-        o
+        5
     }
 }
 
+// Options with the digit count at a place set.
+#[tactic(auto, unfolding(crate::specs::Relations::Places::set_count))]
+fn with_count(o: Options, at: usize, count: u64) -> Options
+    ensures { result ≡ set_count at count o }
+{
+    match at {
+        0 => Options {
+            minimum_integer_digits: Some(count),
+            ..o
+        },
+        1 => Options {
+            minimum_fraction_digits: Some(count),
+            ..o
+        },
+        2 => Options {
+            maximum_fraction_digits: Some(count),
+            ..o
+        },
+        3 => Options {
+            minimum_significant_digits: Some(count),
+            ..o
+        },
+        4 => Options {
+            maximum_significant_digits: Some(count),
+            ..o
+        },
+        _ => o,
+    }
+}
+
+// Is a digit count at a place above its limit? Only the minimum of fraction digits, the second of them, has one.
+fn too_long(at: usize, count: u64) -> bool
+    ensures { result ≡ (eqb at 1 && ltb fraction_limit count) }
+{
+    at == 1 && FRACTION_LIMIT < count
+}
+
 // Options with one named option merged, whose value is a number.
-#[tactic(auto, using(std::proofs::lemmas::Bool::Decides::nat_tests), unfolding(crate::specs::Relations::Shown::merged_of, crate::specs::Value::merge_one, crate::specs::Value::too_long))]
 pub fn merge_number(name: &[u8], value: Number, o: Options) -> Result<Options, TooLong>
     ensures { result ≡ merged_of name.now (numeric (told value)) (told_options o) }
 {
+    let at = count_place(name);
     let count = to_count(value);
-    if same_bytes(name, b"minimumFractionDigits") && FRACTION_LIMIT < count {
+    if too_long(at, count) {
         return Err(TooLong);
     }
-    Ok(with_count(name, count, o))
+    Ok(with_count(o, at, count))
 }

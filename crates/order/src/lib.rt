@@ -8,6 +8,7 @@ ghost use Rattle.order.specs.Relations.Compared.{order_of};
 use std::cmp::Ordering;
 
 // Which of two byte strings is less: byte by byte, as numbers; of two that agree until one ends, that one.
+#[tactic(auto, using(crate::proofs::Compared::order_same))]
 pub fn compare(a: &[u8], b: &[u8]) -> Ordering
     ensures { result ≡ order_of a.now b.now }
 {

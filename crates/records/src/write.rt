@@ -30,6 +30,8 @@ pub fn write_bytes(d: &mut [u8], at: usize, src: &[u8])
     ensures { d.new ≡ over_fit d.old at src.now }
 {
     if has_bytes(d.len(), at, src.len()) {
-        d[at..at + src.len()].copy_from_slice(src);
+        for i in 0..src.len() {
+            d[at + i] = src[i];
+        }
     }
 }

@@ -1,5 +1,6 @@
 -- The numbers of the refusals.
-use Rattle.std.specs.Prelude.{ℕ}
+use Rattle.std.specs.Prelude.{ℕ, List, ◌∷◌, [], Option, eqb}
+use Rattle.std.specs.List.{find}
 use Rattle.refusals.specs.declared.Refusal.{Refusal}
 use Rattle.refusals.specs.declared.Refusal.TheVariants as refusal
 
@@ -23,3 +24,13 @@ number_of refusal.ShortWorkspace = 16
 number_of refusal.ManyDigits = 17
 number_of refusal.MalformedSheet = 18
 number_of refusal.UnorderedArguments = 19
+
+-- every refusal
+unfoldable pub refusals : List Refusal
+refusals = refusal.ShortSlice ∷ refusal.NoLocale ∷ refusal.NoFlag ∷ refusal.MalformedStore ∷ refusal.MalformedResource ∷ refusal.FullStore ∷ refusal.ShortList
+    ∷ refusal.NoId ∷ refusal.NoCode ∷ refusal.HeldId ∷ refusal.NoMessage ∷ refusal.NoPattern ∷ refusal.MalformedArguments ∷ refusal.ShortText
+    ∷ refusal.ShortWorkspace ∷ refusal.ManyDigits ∷ refusal.MalformedSheet ∷ refusal.UnorderedArguments ∷ []
+
+-- the refusal of a number, if there is one
+unfoldable pub numbered : ℕ → Option Refusal
+numbered n = find (λ r. eqb (number_of r) n) refusals

@@ -2,7 +2,7 @@
 #![tactic(auto)]
 
 ghost use Rattle.std.specs.Prelude.{◌≡◌};
-ghost use Rattle.refusals.specs.Numbers.{number_of};
+ghost use Rattle.refusals.specs.Numbers.{number_of, numbered};
 
 // Why an operation was refused. There is no refusal 14.
 #[derive(Clone, Copy, PartialEq, Eq)]
@@ -44,5 +44,33 @@ impl Refusal {
         ensures { result ≡ number_of self }
     {
         self as u8
+    }
+
+    // The refusal of a number, if there is one.
+    #[tactic(auto, unfolding(crate::specs::Numbers::numbered, crate::specs::Numbers::refusals, crate::specs::Numbers::number_of))]
+    pub fn numbered(n: u8) -> Option<Refusal>
+        ensures { result ≡ numbered n }
+    {
+        match n {
+            1 => Some(Refusal::ShortSlice),
+            2 => Some(Refusal::NoLocale),
+            3 => Some(Refusal::NoFlag),
+            4 => Some(Refusal::MalformedStore),
+            5 => Some(Refusal::MalformedResource),
+            6 => Some(Refusal::FullStore),
+            7 => Some(Refusal::ShortList),
+            8 => Some(Refusal::NoId),
+            9 => Some(Refusal::NoCode),
+            10 => Some(Refusal::HeldId),
+            11 => Some(Refusal::NoMessage),
+            12 => Some(Refusal::NoPattern),
+            13 => Some(Refusal::MalformedArguments),
+            15 => Some(Refusal::ShortText),
+            16 => Some(Refusal::ShortWorkspace),
+            17 => Some(Refusal::ManyDigits),
+            18 => Some(Refusal::MalformedSheet),
+            19 => Some(Refusal::UnorderedArguments),
+            _ => None,
+        }
     }
 }

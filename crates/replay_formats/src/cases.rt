@@ -88,6 +88,7 @@ fn is_wanted(answer: Result<Figures, Failure>, wanted: u8, left: u8, figures: Fi
         Ok(f) => wanted == 0 && f == figures,
         Err(Failure::Refused(refusal)) => left == 0xAA && refusal.number() == wanted,
         Err(Failure::Cleared(refusal)) => left == 0 && refusal.number() == wanted,
+        Err(Failure::Other(_)) => false,
     }
 }
 

@@ -2,7 +2,8 @@
 use mathlib.Core.Path.{◌≡◌, refl, ap, sym, subst, ◌∙◌}
 use mathlib.Core.Bool.{false}
 use mathlib.Core.List.{List, ◌++◌}
-use Prim.Native.Nat.{ℕ, ◌+◌, ◌-◌, ◌≤◌, ◌<◌, min}
+use Prim.Native.Nat.{ℕ, ◌+◌, ◌-◌, ◌≤◌, ◌<◌, ◌%◌, min}
+use native.Mathlib.Nat.{mod-eq_of_lt}
 use native.Mathlib.Omega.{arith}
 use lib.Dec.{eqb}
 use lib.ListN.{length, take, drop, replicate, take-append-drop, length-drop}
@@ -22,12 +23,9 @@ use Rattle.resolution.specs.Format.{Answer, finished, refused_running, Formatted
 use Rattle.state.specs.declared.Progress.{Progress}
 use Rattle.state.specs.Setters.{max_unfound}
 use Rattle.resolver.proofs.Single.Puts.{errors_length}
-use Rattle.refusals.specs.declared.Refusal.{Refusal}
-use Rattle.refusals.specs.Numbers.{number_of}
-use Rattle.refusals.proofs.Numbers.{positive}
-use Rattle.state.specs.Progress.{number_or_0, refused_of}
-use Rattle.std.specs.Prelude.{Option, Some, None, Ok, Err}
-use Rattle.resolver.specs.declared.format.Failure.TheVariants as failure
+use Rattle.state.specs.Progress.{refused_of}
+use Rattle.std.specs.Prelude.{Ok, Err}
+use Rattle.resolver.specs.declared.format.Failure.{Failure}
 use Rattle.resolver.specs.Formats.{answer_of, gave}
 use Rattle.resolver.specs.Relations.Runs.{stopped, stopped_of, RanAs, ran_as, refused_as, closed_if, closed}
 use Rattle.resolver.proofs.Whole.{buffers}
@@ -82,19 +80,16 @@ module _ (x l w : Bytes) (p : Progress) (x₁ l₁ w₁ : Bytes) (sc : Progress)
       rw (eq-eqb (refused_of sc) 0 r.go, eq) (same_formatted answer (front_is x x₁ m.written sc.text_at (sym tl) (sym r.written) g.text_rest) (list_is m.errors l l₁ sc.list_at en r.list_u32 li (sym r.listed) g.list_rest) (zeroed w₁ w lw))
   closes o (refused_as c eq z few en) =
       let nz : eqb (refused_of sc) 0 ≡ false = ne_eqb (refused_of sc) 0 (λ k. z (sym en ∙ k)) in
-      rw (nz, eq) (same_formatted (ap refused_running en) (zeroed x₁ x lx) (zeroed l₁ l ll) (zeroed w₁ w lw))
+      rw (nz, eq) (same_formatted (ap refused_running (ap (λ (k : ℕ). k % 256) en ∙ mod-eq_of_lt few)) (zeroed x₁ x lx) (zeroed l₁ l ll) (zeroed w₁ w lw))
 
 -- the two ways in which the code ends
 module _ (sc : Progress) (n : ℕ) (x₁ l₁ w₁ : Bytes) {x₂ l₂ w₂ : Bytes} where
-  pub closed_cleared : {why : Refusal} → sc.refused ≡ Some why → x₂ ≡ replicate (length x₁) 0 → l₂ ≡ replicate (length l₁) 0 → w₂ ≡ replicate (length w₁) 0
-      → gave (Err (failure.Cleared why)) x₂ l₂ w₂ ≡ closed sc n (buffers x₁ l₁ w₁)
-  unfolding gave answer_of closed closed_if zeros
-  closed_cleared {why} e ex el ew =
-      let en : refused_of sc ≡ number_of why = ap number_or_0 e in
-      let z : refused_of sc ≡ 0 → ⊥ = λ k. let h = positive why in omega (arith, en, k) in
-      rw (ne_eqb (refused_of sc) 0 z) (same_formatted (ap refused_running (sym en)) ex el ew)
+  pub closed_cleared : (f : Failure) → (refused_of sc ≡ 0 → ⊥) → answer_of (Err f) ≡ refused_running (refused_of sc % 256) → x₂ ≡ replicate (length x₁) 0 → l₂ ≡ replicate (length l₁) 0
+      → w₂ ≡ replicate (length w₁) 0 → gave (Err f) x₂ l₂ w₂ ≡ closed sc n (buffers x₁ l₁ w₁)
+  unfolding gave closed closed_if zeros
+  closed_cleared f z a ex el ew = rw (ne_eqb (refused_of sc) 0 z) (same_formatted a ex el ew)
 
-  pub closed_finished : {u : ℕ} → sc.refused ≡ None → x₂ ≡ x₁ → l₂ ≡ headed l₁ sc.list_at → w₂ ≡ replicate (length w₁) 0 → u ≡ sc.unfound
+  pub closed_finished : {u : ℕ} → refused_of sc ≡ 0 → x₂ ≡ x₁ → l₂ ≡ headed l₁ sc.list_at → w₂ ≡ replicate (length w₁) 0 → u ≡ sc.unfound
       → gave (Ok (record { text = sc.text_at; errors = sc.errors; begun = n; unfound = u; work = sc.high })) x₂ l₂ w₂ ≡ closed sc n (buffers x₁ l₁ w₁)
   unfolding gave answer_of closed closed_if zeros
-  closed_finished e ex el ew eu = rw (eq-eqb (refused_of sc) 0 (ap number_or_0 e)) (same_formatted (ap (λ (j : ℕ). finished sc.text_at sc.errors n j sc.high) eu) ex el ew)
+  closed_finished e ex el ew eu = rw (eq-eqb (refused_of sc) 0 e) (same_formatted (ap (λ (j : ℕ). finished sc.text_at sc.errors n j sc.high) eu) ex el ew)

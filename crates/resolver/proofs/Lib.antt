@@ -16,6 +16,7 @@ pub mod Whole
 pub mod Ends
 pub mod Patterns
 pub mod Finish
+pub mod Names
 pub mod Targets
 pub mod Answers
 pub mod Attributes

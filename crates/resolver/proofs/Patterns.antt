@@ -23,7 +23,6 @@ use Rattle.entries.proofs.Parts.{part_at_place}
 use Rattle.resolution.specs.Effect.{Bytes}
 use Rattle.resolution.specs.Resolve.{as_message, message_only}
 use Rattle.resolution.specs.Format.{Buffers, or_refuse, is_id_or_none, format_part, format_entry, format_store, format}
-use Rattle.refusals.specs.declared.Refusal.{Refusal}
 use Rattle.refusals.specs.declared.Refusal.TheVariants as refusal
 use Rattle.refusals.specs.Numbers.{number_of}
 use Rattle.std.specs.Prelude.{Ok, Err}

@@ -1,7 +1,7 @@
 // Formatting: a message's value or attribute, from a stored bundle.
 ghost use Rattle.std.specs.Prelude.{◌≡◌, ◌%◌};
 ghost use Rattle.resolution.specs.Format.{format, is_id_or_none};
-ghost use Rattle.resolver.specs.Formats.{answer_of, gave};
+ghost use Rattle.resolver.specs.Formats.{answer_of, gave, IsNamed, ByName};
 ghost use Rattle.theorems.specs.HighestUse.{highest_use};
 ghost use Rattle.theorems.specs.Figures.{FigureIs};
 ghost use Rattle.state.specs.Progress.{scope_of};
@@ -32,16 +32,32 @@ pub struct Figures {
     pub work: usize,
 }
 
-// Why a formatting is refused: before its run, where nothing changes, or in it, where the three buffers are cleared.
+// Why a formatting is refused: before its run, where nothing changes, or in it, where the three buffers are cleared. Where `finish` is lent a state that was
+// refused with a number whose lowest byte is no refusal's, that byte; a formatting refuses by name.
 #[derive(Clone, Copy, PartialEq, Eq)]
 pub enum Failure {
     Refused(Refusal),
     Cleared(Refusal),
+    Other(u8),
 }
 
 impl Failure {
-    ghost use Rattle.std.specs.Prelude.{◌≡◌};
-    ghost use Rattle.resolver.specs.Formats.{failure_number};
+    ghost use Rattle.std.specs.Prelude.{◌≡◌, ◌%◌, Err};
+    ghost use Rattle.resolution.specs.Format.{refused_running};
+    ghost use Rattle.resolver.specs.Formats.{answer_of, failure_number, IsNamed};
+
+    // In a run that was refused with a number, of which the answer has the lowest byte.
+    #[tactic(auto, using(refusals::proofs::Numbers::numbered_some), unfolding(crate::specs::Formats::answer_of, crate::specs::Formats::IsNamed))]
+    fn cleared(refused: usize) -> Failure
+        ensures value { answer_of (Err result) ≡ refused_running (refused % 256) }
+        ensures named { IsNamed (Err result) }
+    {
+        let number = (refused % 256) as u8;
+        match Refusal::numbered(number) {
+            Some(why) => Failure::Cleared(why),
+            None => Failure::Other(number),
+        }
+    }
 
     // The number of its refusal.
     #[tactic(auto, unfolding(crate::specs::Formats::failure_number))]
@@ -50,6 +66,7 @@ impl Failure {
     {
         match self {
             Failure::Refused(why) | Failure::Cleared(why) => why.number(),
+            Failure::Other(number) => number,
         }
     }
 }
@@ -132,13 +149,14 @@ pub fn finish(
     list: &mut [u8],
     work: &mut [u8],
 ) -> Result<Figures, Failure>
-    ensures { gave result text.exit.now list.new work.new ≡ closed st.now begun (record { text = text.entry.now; list = list.old; work = work.old }) }
+    ensures work_after { gave result text.exit.now list.new work.new ≡ closed st.now begun (record { text = text.entry.now; list = list.old; work = work.old }) }
+    ensures named { IsNamed result }
 {
     fill_zero(work);
-    if let Some(why) = st.refused {
+    if st.is_refused() {
         fill_zero(text);
         fill_zero(list);
-        return Err(Failure::Cleared(why));
+        return Err(Failure::cleared(st.refused));
     }
     put_header(list, st.list_at);
     Ok(Figures {
@@ -162,6 +180,7 @@ pub fn format<'a>(
 ) -> Result<Figures, Failure>
     ensures work_after { gave result text.exit.now list.new work.new ≡ format store.now id.now (lent_bytes attribute.entry) args.now (record { text = text.entry.now; list = list.old; work = work.old }) }
     ensures figure_is { FigureIs (answer_of result) (highest_use store.now id.now (lent_bytes attribute.entry) args.now) }
+    ensures named { ByName result }
 {
     let q = find_pattern(store, id, attribute)?;
     let mut places = [0usize; 256];

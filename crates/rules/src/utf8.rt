@@ -7,8 +7,11 @@ ghost use Rattle.rules.specs.Rules.{utf8_first, utf8_low, utf8_high, utf8_rest, 
 fn utf8_first(b: u8) -> u8
     ensures { result ≡ utf8_first b }
 {
+    // ASCII is told first: as a row of the match it would be told last, behind a jump by a table.
+    if b <= 0x7F {
+        return 0;
+    }
     match b {
-        0..=0x7F => 0,
         0xC2..=0xDF => 1,
         0xE0 => 4,
         0xED => 5,

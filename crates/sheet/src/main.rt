@@ -5,7 +5,6 @@
 mod embedded;
 
 use refusals::Refusal;
-use resolver::format::Failure;
 use sheet_format::format_sheet;
 use std::io;
 use std::io::Write;
@@ -20,8 +19,7 @@ fn buffer() -> [u8; 4096] {
 }
 
 // Says that an operation was refused.
-fn print_refusal(rt: &impl Print, refusal: Refusal) -> io::Result<()> {
-    let number = refusal.number();
+fn print_refusal(rt: &impl Print, number: u8) -> io::Result<()> {
     println!(rt; "refusal {number}")
 }
 
@@ -41,7 +39,7 @@ fn print_sheet(rt: &impl Print, store: &[u8]) -> io::Result<()> {
     let mut work = buffer();
     match format_sheet(store, &embedded::SHEET, &mut text, &mut list, &mut work) {
         Ok(figures) => print_text(rt, &text, figures.text),
-        Err(Failure::Refused(refusal) | Failure::Cleared(refusal)) => print_refusal(rt, refusal),
+        Err(failure) => print_refusal(rt, failure.number()),
     }
 }
 
@@ -57,7 +55,7 @@ fn print_language(rt: &impl Print, locale: u8, image: &[u8]) -> io::Result<()> {
     let mut store = buffer();
     match make(&mut store, locale, image) {
         Ok(_) => print_sheet(rt, &store),
-        Err(refusal) => print_refusal(rt, refusal),
+        Err(refusal) => print_refusal(rt, refusal.number()),
     }
 }
 

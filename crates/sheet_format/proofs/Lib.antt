@@ -2,3 +2,4 @@
 pub mod Messages
 pub mod Passing
 pub mod Ends
+pub mod Names

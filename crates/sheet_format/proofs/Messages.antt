@@ -25,7 +25,7 @@ use Rattle.sheets.specs.Sheet.{run_message}
 use Rattle.sheet_theorems.proofs.Begun.{begun_apart}
 use Rattle.sheet_theorems.proofs.Messages.{message_none, message_part, message_arguments, message_runs}
 use Rattle.state.specs.declared.Progress.{Progress}
-use Rattle.state.specs.Setters.{refuse_s}
+use Rattle.state.specs.Setters.{refuse_s, refused_s}
 use Rattle.resolver.specs.Relations.Meets.{lent, env, Setup}
 use Rattle.refusals.specs.declared.Refusal.{Refusal}
 use Rattle.refusals.specs.declared.Refusal.TheVariants as refusal
@@ -67,6 +67,10 @@ unfolding add_begun with_begun
 ran_apart b (ran_as m e rs en g) = ran_as (with_begun (b + m.begun) m) (ap (add_begun b) e) (rests_apart (b + m.begun) rs) (ap (λ (i : ℕ). b + i) en) g
 ran_apart b (refused_as c e z few er) = refused_as c (ap (add_begun b) e) z few er
 
+-- refused with a refusal's number
+pub refused_by : (c : Refusal) (p : Progress) {n : ℕ} {r : Progress} → n ≡ number_of c → r ≡ refused_s n p → r ≡ refuse_s c p
+refused_by c p e h = h ∙ ap (λ (k : ℕ). refused_s k p) e
+
 module _ (s sheet : Bytes) (q : Spans) (x l w : Bytes) (p : Progress) {f : Part} (found : f ≡ message_in s (id_of sheet q) (attribute_of sheet q)) where
   found_of : (v : Store) (used : ℕ) → store_of s ≡ got v used → (a : Request) → Shows sheet q a → MessageFound s v a.id a.attribute f
   found_of v used h a sh = message_found_law s a.id a.attribute h (found ∙ ap (λ (i : Bytes). message_in s i (attribute_of sheet q)) sh.id ∙ ap (λ (o : Option Bytes). message_in s a.id o) sh.attribute)
@@ -95,8 +99,8 @@ module _ (s sheet : Bytes) (q : Spans) (x l w : Bytes) (p : Progress) {f : Part}
         go (no_such_part y e' o n) = let z : ◌≡◌ {A = ℕ} 0 1 = cc in absurd (omega arith)
 
     -- 13 and 19
-    pub message_refused : {c : Refusal} {r : Progress} → judge (image_of sheet q) ≡ refused_for (number_of c) → r ≡ refuse_s c p → MessageRan s sheet q x l w p x l w r 0
-    message_refused {c} {r} b er = record {
+    pub message_refused : (c : Refusal) {r : Progress} → judge (image_of sheet q) ≡ refused_for (number_of c) → r ≡ refuse_s c p → MessageRan s sheet q x l w p x l w r 0
+    message_refused c {r} b er = record {
       runs = λ v used h a sh k rests. found_elim v used h a sh (λ y t end o n hp.
           (refused_as (number_of c) (message_arguments v (limits x l w) a k y o t n (number_of c) (ap judge (sym sh.image) ∙ b)) (λ z. let h' = positive c in omega (arith, z)) (in_byte c) (ap refused_of er), λ z. omega arith));
     }

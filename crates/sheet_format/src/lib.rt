@@ -4,7 +4,7 @@
 mod message;
 
 ghost use Rattle.std.specs.Prelude.{◌≡◌};
-ghost use Rattle.resolver.specs.Formats.{answer_of, gave};
+ghost use Rattle.resolver.specs.Formats.{answer_of, gave, ByName};
 ghost use Rattle.theorems.specs.Figures.{FigureIs};
 ghost use Rattle.sheet_theorems.specs.HighestUse.{sheet_highest_use};
 ghost use Rattle.sheet_format.specs.Relations.Sheets.{Begins, SheetRan};
@@ -60,6 +60,7 @@ pub fn format_sheet<'a>(
 ) -> Result<Figures, Failure>
     ensures work_after { gave result text.exit.now list.new work.new ≡ format_sheet store.now sheet.now (record { text = text.entry.now; list = list.old; work = work.old }) }
     ensures figure_is { FigureIs (answer_of result) (sheet_highest_use store.now sheet.now) }
+    ensures named { ByName result }
 {
     check_store(store).ok_or(Refusal::MalformedStore)?;
     check_sheet(sheet).ok_or(Refusal::MalformedSheet)?;

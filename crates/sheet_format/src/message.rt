@@ -22,7 +22,7 @@ fn find_request(store: &[u8], sheet: &[u8], q: Spans) -> Result<usize, Refusal>
     find_message(store, &sheet[q.id..q.id_end], attribute)
 }
 
-// The request's refusal, 11, 12, 13 or 19, or its run, which goes on from where text, list and counts stand. How many placeables it began.
+// The request's refusal by its number, 11, 12, 13 or 19, or its run, which goes on from where text, list and counts stand. How many placeables it began.
 pub(crate) fn run_message<'a>(
     store: &'a [u8],
     sheet: &'a [u8],
@@ -38,7 +38,7 @@ pub(crate) fn run_message<'a>(
     let at = match find_request(store, sheet, q) {
         Ok(at) => at,
         Err(missing) => {
-            st.refuse(missing);
+            st.refuse_with(usize::from(missing.number()));
             return 0;
         }
     };
@@ -47,7 +47,7 @@ pub(crate) fn run_message<'a>(
     match check_arguments(args, &mut places) {
         Ok(()) => run_on(store, args, &places, text, list, work, st, at).begun,
         Err(why) => {
-            st.refuse(why);
+            st.refuse_with(usize::from(why.number()));
             0
         }
     }

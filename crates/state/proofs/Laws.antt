@@ -2,14 +2,9 @@
 use mathlib.Core.Path.{◌≡◌, ap, refl, sym, ◌∙◌}
 use mathlib.Core.Bool.{Bool, true, false}
 use Prim.Native.Nat.{ℕ, ◌+◌, ◌≤◌, ◌<◌, min}
-use borrow.Author.Tests.{ltb-true, ltb-false, eqb-true, eq-eqb, ne_eqb}
-use native.Mathlib.Omega.{arith}
-use Rattle.std.specs.Prelude.{Option, Some, None, is_some, not, eqb}
-use Rattle.refusals.specs.declared.Refusal.{Refusal}
-use Rattle.refusals.specs.Numbers.{number_of}
-use Rattle.refusals.proofs.Numbers.{positive, in_byte}
+use borrow.Author.Tests.{ltb-true, ltb-false, eqb-true, eq-eqb}
+use Rattle.std.specs.Prelude.{not, eqb}
 use Rattle.state.specs.declared.Progress.{Progress}
-use Rattle.state.specs.Progress.{number_or_0}
 use Rattle.state.specs.Setters.{max_unfound, up_to, unfound_s, counted_s, may_begin, begun_s, begun_if, begin_s}
 
 -- one more of a count, by the least of two
@@ -37,11 +32,7 @@ pub begin_none : (s : Progress) → may_begin s ≡ false → begin_s s ≡ s
 unfolding begin_s begun_if
 begin_none s e = rw e
 
--- a refusal by its number: there is one where that is no 0
-pub refused_is : (o : Option Refusal) → is_some o ≡ not (eqb (number_or_0 o) 0)
-refused_is None = refl
-refused_is (Some r) = rw (ne_eqb (number_of r) 0 (λ e. let h = positive r in omega arith)) refl
-
+-- what the test of a refusal's number says
 pub refused_yes : {n : ℕ} {b : Bool} → b ≡ not (eqb n 0) → b ≡ true → n ≡ 0 → ⊥
 refused_yes {n} is h e = let z : true ≡ false = sym h ∙ is ∙ rw (eq-eqb n 0 e) refl in cc
 
@@ -51,7 +42,3 @@ refused_no {n} is h = eqb-true n 0 (not_false (eqb n 0) (sym is ∙ h))
     not_false : (t : Bool) → not t ≡ false → t ≡ true
     not_false true e = refl
     not_false false e = cc
-
-pub refused_byte : (o : Option Refusal) → number_or_0 o < 256
-refused_byte None = omega arith
-refused_byte (Some r) = in_byte r

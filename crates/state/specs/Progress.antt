@@ -1,7 +1,5 @@
 -- How far a formatting has come, and the Rust's scope in it.
-use Rattle.std.specs.Prelude.{ℕ, Option, Some, None}
-use Rattle.refusals.specs.declared.Refusal.{Refusal}
-use Rattle.refusals.specs.Numbers.{number_of}
+use Rattle.std.specs.Prelude.{ℕ}
 use Rattle.state.specs.declared.Progress.{Progress}
 use Rattle.state.specs.declared.Scope.{Scope}
 
@@ -13,10 +11,6 @@ scope_of p = record { begun = p.begun; dirty = p.dirty; local = p.local; local_a
 abbrev pub scoped_s : Scope → Progress → Progress
 scoped_s c s = record s { begun = c.begun; dirty = c.dirty; local = c.local; local_at = c.local_at; local_count = c.local_count; local_base = c.local_base }
 
--- the number of a refusal, 0 where there is none
-abbrev pub number_or_0 : Option Refusal → ℕ
-number_or_0 None = 0
-number_or_0 (Some r) = number_of r
-
+-- the number that it was refused with, 0 where it was not
 abbrev pub refused_of : Progress → ℕ
-refused_of p = number_or_0 p.refused
+refused_of p = p.refused

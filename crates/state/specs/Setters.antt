@@ -1,6 +1,7 @@
 -- How far a formatting has come, with one part of it changed: what each function of this crate makes of it.
-use Rattle.std.specs.Prelude.{Bool, true, false, ℕ, ◌+◌, min, ltb, Some, None}
+use Rattle.std.specs.Prelude.{Bool, true, false, ℕ, ◌+◌, min, ltb}
 use Rattle.refusals.specs.declared.Refusal.{Refusal}
+use Rattle.refusals.specs.Numbers.{number_of}
 use Rattle.state.specs.declared.Progress.{Progress}
 
 -- the most that is counted of lookups unfound
@@ -11,9 +12,13 @@ max_unfound = 18446744073709551615
 unfoldable pub up_to : ℕ → ℕ → ℕ
 up_to most n = min (n + 1) most
 
+-- refused with a number
+abbrev pub refused_s : ℕ → Progress → Progress
+refused_s n s = record s { refused = n }
+
 -- refused
 abbrev pub refuse_s : Refusal → Progress → Progress
-refuse_s x s = record s { refused = Some x }
+refuse_s x s = refused_s (number_of x) s
 
 -- so many patterns on the trail
 abbrev pub depth_s : ℕ → Progress → Progress
@@ -65,7 +70,7 @@ clear_s s = record s { local = false }
 
 -- where a run begins; the depth is 1 once the pattern that is asked for is on the trail
 abbrev pub new_s : ℕ → Progress
-new_s n = record { text_at = 0; list_at = 5; errors = 0; front = 0; back = n; high = 0; depth = 0; begun = 0; unfound = 0; aside = false; dirty = false; local = false; local_at = 0; local_count = 0; local_base = 0; refused = None }
+new_s n = record { text_at = 0; list_at = 5; errors = 0; front = 0; back = n; high = 0; depth = 0; begun = 0; unfound = 0; aside = false; dirty = false; local = false; local_at = 0; local_count = 0; local_base = 0; refused = 0 }
 
 -- a lookup unfound more, as far as the count goes
 unfoldable pub counted_s : Progress → Progress

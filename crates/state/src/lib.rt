@@ -30,7 +30,8 @@ pub struct Progress {
     pub local_at: usize,
     pub local_count: usize,
     pub local_base: usize,
-    pub refused: Option<Refusal>,
+    // the number of the refusal, or 0; one that no refusal has can be lent too
+    pub refused: usize,
 }
 
 // The Rust's Scope: the placeables begun, the dirty mark, and a term's arguments.
@@ -63,7 +64,7 @@ pub fn one_more(n: usize) -> usize
 impl Progress {
     ghost use Rattle.std.specs.Prelude.{true, not, eqb, set};
     ghost use Rattle.state.specs.Progress.{refused_of, scope_of, scoped_s};
-    ghost use Rattle.state.specs.Setters.{depth_s, begun_s, may_begin, begin_s, back_s, aside_s, kept_s, locals_s, clear_s, counted_s, missing_s, new_s, refuse_s, text_s, list_s, front_s, held_s};
+    ghost use Rattle.state.specs.Setters.{depth_s, begun_s, may_begin, begin_s, back_s, aside_s, kept_s, locals_s, clear_s, counted_s, missing_s, new_s, refuse_s, refused_s, text_s, list_s, front_s, held_s};
 
     // Nothing is written, listed, begun or travelled, and the workspace has `room` bytes.
     pub fn new(room: usize) -> Progress
@@ -85,22 +86,29 @@ impl Progress {
             local_at: 0,
             local_count: 0,
             local_base: 0,
-            refused: None,
+            refused: 0,
         }
+    }
+
+    // Refused with a number.
+    pub fn refuse_with(&mut self, why: usize)
+        ensures { self.new ≡ refused_s why self.old }
+    {
+        self.refused = why;
     }
 
     // Refused.
     pub fn refuse(&mut self, why: Refusal)
         ensures { self.new ≡ refuse_s why self.old }
     {
-        self.refused = Some(why);
+        self.refuse_with(usize::from(why.number()));
     }
 
     // Was the formatting refused?
     pub fn is_refused(&self) -> bool
         ensures { result ≡ not (eqb (refused_of self.now) 0) }
     {
-        self.refused.is_some()
+        self.refused != 0
     }
 
     // So many patterns on the trail.

@@ -1,13 +1,14 @@
 -- The bytes of patterns, and the trail of those that are being resolved.
-use mathlib.Core.Path.{◌≡◌, refl, ap, subst, ◌∙◌}
+use mathlib.Core.Path.{◌≡◌, refl, ap, subst, sym, ◌∙◌}
 use mathlib.Core.Bool.{Bool, true, false, ◌||◌}
-use mathlib.Core.List.{List, [], ◌∷◌}
+use mathlib.Core.List.{List, [], ◌∷◌, reverse}
 use Prim.Native.Nat.{ℕ, zero, suc, ◌+◌, ◌-◌, ◌≤◌, min}
 use native.Mathlib.Omega.{arith}
 use lib.ListN.{length, take, drop, get_or, length-drop}
 use lib.Seq.{take-suc}
 use Rattle.std.proofs.lemmas.List.{take_min}
 use Rattle.std.proofs.lemmas.List.Folds.{list_any-append}
+use Rattle.std.proofs.lemmas.List.Sorted.{IsPermutation-reverse, list_any-IsPermutation}
 use Rattle.std.specs.List.{list_any}
 use Rattle.std.specs.Prelude.{Some, None}
 use Rattle.decimals.specs.Bytes.{same_bytes}
@@ -58,6 +59,10 @@ or_swap true true = refl
 or_swap true false = refl
 or_swap false true = refl
 or_swap false false = refl
+
+-- a list passes a test alike from its end
+pub any_reversed : (test : ℕ → Bool) (l : List ℕ) → list_any test (reverse l) ≡ list_any test l
+any_reversed test l = sym (list_any-IsPermutation test l (reverse l) (IsPermutation-reverse l))
 
 -- the positions in a trail go from the first to the last, and its patterns from the last to the first
 module _ (s a b : List ℕ) where

@@ -25,11 +25,11 @@ fn pattern_of(s: &[u8], p: usize) -> &[u8]
     }
 }
 
-// `traveled.contains`: is the pattern at `at` among the first n of the trail?
+// `traveled.contains`: is the pattern at `at` among the first n of the trail? The last come first: one that stands on the trail stands near its end more often than not.
 pub fn on_trail(s: &[u8], trail: &[usize; MAX_TRAIL], n: usize, at: usize) -> bool
     ensures { result ≡ on_trail (pattern_bytes s.now at) (trail_of s.now trail.now (min n 102)) }
 {
     let pattern = pattern_of(s, at);
     let listed = &trail[..n.min(MAX_TRAIL)];
-    listed.iter().any(|p| pattern_of(s, *p) == pattern)
+    listed.iter().rev().any(|p| pattern_of(s, *p) == pattern)
 }

@@ -21,7 +21,7 @@ use Rattle.records.specs.Encode.{enc_all, enc_whole}
 use Rattle.resolution.specs.Effect.{Bytes, put, report, unfound, State, M, ◌>>=◌, ◌>>◌, emit, write}
 use Rattle.resolution.specs.Exec.{Machine, Limits, ran, refused, exec, and_then, step, allow, allow_if, list_limit, listed, put_text, put_work, put_at}
 use Rattle.resolver.specs.Relations.Meets.{World, world, Live, Ended, ended, stopped, Runs, Acts, if_aside, locals_same}
-use Rattle.state.specs.Setters.{refuse_s, text_s, front_s, list_s, unfound_s, max_unfound, up_to, counted_s}
+use Rattle.state.specs.Setters.{refuse_s, refused_s, text_s, front_s, list_s, unfound_s, max_unfound, up_to, counted_s}
 use Rattle.resolver.proofs.Single.Laws.{kept_same, append_nil, aside_nil, drop_more, exec_append, acts_then}
 use Rattle.resolver.proofs.Single.Locals.{locals_stay, locals_alike}
 
@@ -40,17 +40,23 @@ acts_over m w h = record { kept = kept_same w; runs = λ L s k l. absurd (h l.go
 pub refuse_some : (why : Refusal) (st : Progress) → refused_of (refuse_s why st) ≡ 0 → ⊥
 refuse_some why st q = let p = positive why in omega (arith, q)
 
-module _ (i x l w t : List ℕ) (st : Progress) (why : Refusal) where
-  -- where every live machine is refused
-  pub acts_refuse : {A : Type 0} (m : M A) {r : Progress} → (refused_of st) ≡ 0
-      → ((L : Limits) (s : State) (k : Machine) → Live L (world i x l w t st) s k → exec L (m s).trace k ≡ refused (number_of why))
-      → r ≡ refuse_s why st → Acts m (world i x l w t st) (world i x l w t r)
-  acts_refuse m {r} z h e =
+-- where every live machine is refused
+module _ (i x l w t : List ℕ) (st : Progress) where
+  pub acts_refused : (n : ℕ) {A : Type 0} (m : M A) {r : Progress} → (refused_of st) ≡ 0 → (n ≡ 0 → ⊥)
+      → ((L : Limits) (s : State) (k : Machine) → Live L (world i x l w t st) s k → exec L (m s).trace k ≡ refused n)
+      → r ≡ refused_s n st → Acts m (world i x l w t st) (world i x l w t r)
+  acts_refused n m {r} z some h e =
       let b : r.begun ≡ st.begun = ap (λ (q : Progress). q.begun) e in
       record {
         kept = record { begun = omega arith; over = λ f. absurd (f z) };
-        runs = λ L s k lv. stopped (number_of why) (h L s k lv) (λ q. let p = positive why in omega (arith, q)) (ap (λ (q : Progress). (refused_of q)) e);
+        runs = λ L s k lv. stopped n (h L s k lv) some (ap (λ (q : Progress). (refused_of q)) e);
       }
+
+  -- by a refusal's name
+  pub acts_refuse : (why : Refusal) {A : Type 0} (m : M A) {r : Progress} → (refused_of st) ≡ 0
+      → ((L : Limits) (s : State) (k : Machine) → Live L (world i x l w t st) s k → exec L (m s).trace k ≡ refused (number_of why))
+      → r ≡ refuse_s why st → Acts m (world i x l w t st) (world i x l w t r)
+  acts_refuse why m z h e = acts_refused (number_of why) m z (λ q. let p = positive why in omega (arith, q)) h e
 
 nest_none : {L : Limits} {w : World} {s : State} {k : Machine} → Live L w s k → w.st.aside ≡ false → k.nest ≡ 0
 nest_none {k = k} l e = let h = ltb-false 0 k.nest (sym l.nest ∙ e) in omega arith

@@ -1,6 +1,6 @@
 -- The parts of a formatting: the message that is found, the run, and what the buffers hold in the end.
 use Rattle.state.specs.Progress.{refused_of}
-use Rattle.std.specs.Prelude.{◌≡◌, Bool, true, false, ℕ, ◌-◌, ◌≤◌, ◌<◌, min, length, take, drop, eqb, Result, Ok, Err}
+use Rattle.std.specs.Prelude.{◌≡◌, Bool, true, false, ℕ, ◌-◌, ◌≤◌, ◌<◌, ◌%◌, min, length, take, drop, eqb, Result, Ok, Err}
 use Rattle.std.proofs.Math.Option.{Option, none, some}
 use Rattle.records.specs.Got.{got}
 use Rattle.records.specs.Bytes.{part}
@@ -107,7 +107,7 @@ pub record RunOn (e : Env) (q : ℕ) (x l w : Bytes) (p : Progress) (x' l' w' : 
 -- what is answered, and what the buffers hold in the end: the list gets its header, or all three are cleared
 unfoldable pub closed_if : Bool → Progress → ℕ → Buffers → Formatted
 closed_if true p n b = record { answer = finished p.text_at p.errors n p.unfound p.high; buffers = record { text = b.text; list = headed b.list p.list_at; work = zeros b.work } }
-closed_if false p n b = record { answer = refused_running (refused_of p); buffers = record { text = zeros b.text; list = zeros b.list; work = zeros b.work } }
+closed_if false p n b = record { answer = refused_running (refused_of p % 256); buffers = record { text = zeros b.text; list = zeros b.list; work = zeros b.work } }
 
 unfoldable pub closed : Progress → ℕ → Buffers → Formatted
 closed p n b = closed_if (eqb (refused_of p) 0) p n b

@@ -13,7 +13,8 @@ use heads::locale_of;
 use values::{Resolved, Value};
 use variants::{choose_default, choose_number, choose_text};
 
-// The pattern of the variant that a value chooses among those at `at`. None and an error match no key.
+// The pattern of the variant that a value chooses among those at `at`. None and an error match no key. What it has on the stack is in no frame of the recursion.
+#[inline(never)]
 pub(crate) fn choose<'a>(
     s: &'a [u8],
     args: &'a [u8],

@@ -119,7 +119,8 @@ pub(crate) fn resolve_named(s: &[u8], work: &mut [u8], st: &mut Progress, at: us
     }
 }
 
-// A term's named arguments are resolved, and are the local ones from here on.
+// A term's named arguments are resolved, and are the local ones from here on. What it has on the stack is in no frame of the recursion.
+#[inline(never)]
 pub(crate) fn set_named(s: &[u8], work: &mut [u8], st: &mut Progress, at: usize, count: usize)
     ensures { NamedSet s.now at count work.old st.old work.new st.new }
 {
